@@ -1,5 +1,5 @@
 -- Whose deeds they are.
-use Rattle.std.specs.Prelude.{◌≡◌, ℕ, List, [], ◌∷◌, Option, Some, None}
+use Rattle.std.specs.Prelude.{◌≡◌, ℕ, List, Option, Some, None}
 use Rattle.std.specs.List.{slice_get}
 use Rattle.xl_base.specs.Lists.{IsIn}
 use Rattle.xl_matrix.specs.declared.claim.Claim.{Claim}
@@ -8,7 +8,7 @@ use Rattle.xl_names.specs.declared.name.Name.TheVariants.{NfsParty}
 use Rattle.xl_wait.specs.declared.waiter.Waiter.{Waiter}
 use Rattle.xl_core.specs.State.{CoreState}
 use Rattle.xl_core.specs.Askers.{party_named}
-use Rattle.xl_core.specs.Deeds.{Deed, Asks, GivesBack, Weakens, Cancels, Ends, Renews, done}
+use Rattle.xl_core.specs.Deeds.{Deed, Asks, GivesBack, Weakens, Cancels, Ends, Renews}
 use Rattle.xl_core.specs.declared.ask.Who.TheVariants.{Named}
 
 -- the deed is this client's: it asks as this party, gives back what this party has, makes a share of it weaker, takes out
@@ -22,11 +22,7 @@ IsOf s client (Ends party) = party_named s.names client ≡ Some party
 IsOf s client (Renews id) = client ≡ NfsParty id
 IsOf s client deed = ⊥
 
-abbrev pub AreOf : ℕ → CoreState → Name → List Deed → Type 0
-AreOf n s client [] = Unit {0}
-AreOf n s client (d ∷ ds) = IsOf s client d × AreOf n (done n s d) client ds
-
--- each is the client's that is named, and where none is there are none
-abbrev pub AreOfSome : ℕ → CoreState → Option Name → List Deed → Type 0
-AreOfSome n s None deeds = deeds ≡ []
-AreOfSome n s (Some client) deeds = AreOf n s client deeds
+-- where none is named it is nobody's
+abbrev pub IsOfSome : CoreState → Option Name → Deed → Type 0
+IsOfSome s None deed = ⊥
+IsOfSome s (Some client) deed = IsOf s client deed

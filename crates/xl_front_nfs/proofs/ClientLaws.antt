@@ -25,11 +25,11 @@ use Rattle.xl_nfs_opens.specs.declared.told.Told.TheVariants.{Ended, Client}
 
 pub renew_done : (n : ℕ) (s new : CoreState) (l lists : NfsLists) (current : Option ℕ) (clientid number : ℕ) (row : ClientRow) (id : List ℕ) (time : Moment) → Some number ≡ number_in s clientid → Some row ≡ find (is_client number true) l.clients
     → id ≡ row.id → all_done n s (Renews id ∷ []) ≡ new → all_told_of n s (Renews id ∷ []) ≡ [] → time ≡ lease_end s → lists ≡ renewed time number l
-    → carried n s l current (renew s l current clientid) ≡ (Ended statuses.Ok, current, [], lists, new)
+    → carried n s l (renew s l current clientid) ≡ (Ended statuses.Ok, current, [], lists, new)
 unfolding renew
 renew_done n s new l lists current clientid number row id time named found same done told at is =
-    ap (λ (o : Option ℕ). carried n s l current (renew_number s l current o)) (sym named)
-    ∙ ap (λ (o : Option ClientRow). carried n s l current (renew_found s l current number o)) (sym found)
+    ap (λ (o : Option ℕ). carried n s l (renew_number s l current o)) (sym named)
+    ∙ ap (λ (o : Option ClientRow). carried n s l (renew_found s l current number o)) (sym found)
     ∙ ap (λ (i : List ℕ). (Ended statuses.Ok, current, all_told_of n s (Renews i ∷ []), renewed (lease_end s) number l, all_done n s (Renews i ∷ []))) (sym same)
     ∙ ap (λ (t : Moment). (Ended statuses.Ok, current, all_told_of n s (Renews id ∷ []), renewed t number l, all_done n s (Renews id ∷ []))) (sym at)
     ∙ (λ i. (Ended statuses.Ok, current, told i, sym is i, done i))
@@ -40,16 +40,16 @@ numbers_new counter first second a b = λ i. (a i, (let e : second ≡ counter +
 pub set_done : (n : ℕ) (s new : CoreState) (l : NfsLists) (current : Option ℕ) (a : SetClientIdArgsItem) (kept : Option ℕ) (number confirm : ℕ) (lists : NfsLists)
     → has_room l ≡ true → kept ≡ number_kept a.verifier (find (is_client_named a.id true) l.clients) → (number, confirm) ≡ numbers s.counter kept → all_done n s (draws kept) ≡ new → all_told_of n s (draws kept) ≡ [] → new.stable ≡ s.stable
     → lists ≡ set_under (lease_end s) l a number confirm
-    → carried n s l current (set_beside s l current a) ≡ (Client (confirm_of new number confirm), current, [], lists, new)
+    → carried n s l (set_beside s l current a) ≡ (Client (confirm_of new number confirm), current, [], lists, new)
 set_done n s new l current a kept number confirm lists room is drawn done told stable set =
-    ap (λ (o : Option ℕ). carried n s l current (set_by s l current a o)) (sym is)
+    ap (λ (o : Option ℕ). carried n s l (set_by s l current a o)) (sym is)
     ∙ rw room
     (ap (λ (p : ℕ × ℕ). (Client (confirm_of s p.0 p.1), current, all_told_of n s (draws kept), set_under (lease_end s) l a p.0 p.1, all_done n s (draws kept))) (sym drawn)
     ∙ (λ i. (Client (confirm_of s number confirm), current, told i, sym set i, done i))
     ∙ ap (λ (x : Stable). (Client (record { clientid = x.epoch * 2 ^ 32 + number; verifier = (confirm_of s number confirm).verifier }), current, [], lists, new)) (sym stable))
 
 -- it never fails, so it says what the lists become
-pub set_apart : (n : ℕ) (s : CoreState) (l m : NfsLists) (current : Option ℕ) (a : SetClientIdArgsItem) → carried n s l current (set_beside s m current a) ≡ carried n s m current (set_beside s m current a)
+pub set_apart : (n : ℕ) (s : CoreState) (l m : NfsLists) (current : Option ℕ) (a : SetClientIdArgsItem) → carried n s l (set_beside s m current a) ≡ carried n s m (set_beside s m current a)
 set_apart n s l m current a =
     elim (cases_Bool (has_room m)) [
       | inl e ↦ rw e refl
@@ -60,9 +60,9 @@ set_apart n s l m current a =
 
 pub confirm_first_done : (n : ℕ) (s new : CoreState) (l lists : NfsLists) (current : Option ℕ) (number : ℕ) (row : ClientRow) (id : List ℕ) (time : Moment) → id ≡ row.id → find (is_client_named row.id true) l.clients ≡ None
     → all_done n s (Renews id ∷ []) ≡ new → all_told_of n s (Renews id ∷ []) ≡ [] → time ≡ lease_end s → lists ≡ come time l number row
-    → carried n s l current (confirm_beside s l current number row) ≡ (Ended statuses.Ok, current, [], lists, new)
+    → carried n s l (confirm_beside s l current number row) ≡ (Ended statuses.Ok, current, [], lists, new)
 confirm_first_done n s new l lists current number row id time same free done told at is =
-    ap (λ (x : Option ClientRow). carried n s l current (confirm_over s l current number row x)) free
+    ap (λ (x : Option ClientRow). carried n s l (confirm_over s l current number row x)) free
     ∙ ap (λ (i : List ℕ). (Ended statuses.Ok, current, all_told_of n s (Renews i ∷ []), come (lease_end s) l number row, all_done n s (Renews i ∷ []))) (sym same)
     ∙ ap (λ (t : Moment). (Ended statuses.Ok, current, all_told_of n s (Renews id ∷ []), come t l number row, all_done n s (Renews id ∷ []))) (sym at)
     ∙ (λ i. (Ended statuses.Ok, current, told i, sym is i, done i))
@@ -75,11 +75,11 @@ found_by (Some r) number e next = next r refl (same_Some r.number number e)
 pub confirm_again_done : (n : ℕ) (s new : CoreState) (l lists : NfsLists) (current : Option ℕ) (number : ℕ) (row : ClientRow) (id : List ℕ) (time : Moment) → id ≡ row.id
     → option_map (λ r. r.number) (find (is_client_named row.id true) l.clients) ≡ Some number
     → all_done n s (Renews id ∷ []) ≡ new → all_told_of n s (Renews id ∷ []) ≡ [] → time ≡ lease_end s → lists ≡ come_again time l number row
-    → carried n s l current (confirm_beside s l current number row) ≡ (Ended statuses.Ok, current, [], lists, new)
+    → carried n s l (confirm_beside s l current number row) ≡ (Ended statuses.Ok, current, [], lists, new)
 confirm_again_done n s new l lists current number row id time same there done told at is =
     found_by (find (is_client_named row.id true) l.clients) number there
     (λ o e k.
-    ap (λ (x : Option ClientRow). carried n s l current (confirm_over s l current number row x)) e
+    ap (λ (x : Option ClientRow). carried n s l (confirm_over s l current number row x)) e
     ∙ rw (eq-eqb o.number number k)
     (ap (λ (i : List ℕ). (Ended statuses.Ok, current, all_told_of n s (Renews i ∷ []), come_again (lease_end s) l number row, all_done n s (Renews i ∷ []))) (sym same)
     ∙ ap (λ (t : Moment). (Ended statuses.Ok, current, all_told_of n s (Renews id ∷ []), come_again t l number row, all_done n s (Renews id ∷ []))) (sym at)
@@ -91,11 +91,11 @@ over_deeds s id = ends (party_named s.names (NfsParty id)) ++ Renews id ∷ []
 pub confirm_anew_done : (n : ℕ) (s new : CoreState) (l mid lists : NfsLists) (current : Option ℕ) (number old : ℕ) (row : ClientRow) (id : List ℕ) (time : Moment) (effects : List Effect) → id ≡ row.id
     → option_map (λ r. r.number) (find (is_client_named row.id true) l.clients) ≡ Some old → (old == number) ≡ false
     → all_done n s (over_deeds s id) ≡ new → all_told_of n s (over_deeds s id) ≡ effects → time ≡ lease_end s → mid ≡ without_client old l → lists ≡ come time mid number row
-    → carried n s l current (confirm_beside s l current number row) ≡ (Ended statuses.Ok, current, effects, lists, new)
+    → carried n s l (confirm_beside s l current number row) ≡ (Ended statuses.Ok, current, effects, lists, new)
 confirm_anew_done n s new l mid lists current number old row id time effects same there other done told at gone is =
     found_by (find (is_client_named row.id true) l.clients) old there
     (λ o e k.
-    ap (λ (x : Option ClientRow). carried n s l current (confirm_over s l current number row x)) e
+    ap (λ (x : Option ClientRow). carried n s l (confirm_over s l current number row x)) e
     ∙ rw (ap (λ (m : ℕ). m == number) k ∙ other)
     (ap (λ (i : List ℕ). (Ended statuses.Ok, current, all_told_of n s (over_deeds s i), come (lease_end s) (without_client o.number l) number row, all_done n s (over_deeds s i))) (sym same)
     ∙ ap (λ (t : Moment). (Ended statuses.Ok, current, all_told_of n s (over_deeds s id), come t (without_client o.number l) number row, all_done n s (over_deeds s id))) (sym at)
@@ -108,10 +108,10 @@ none_under None e = refl
 none_under (Some r) e = absurd (true≢false (ap is_some e))
 
 -- it never fails, so it says what the lists become
-pub confirm_apart : (n : ℕ) (s : CoreState) (l m : NfsLists) (current : Option ℕ) (number : ℕ) (row : ClientRow) → carried n s l current (confirm_beside s m current number row) ≡ carried n s m current (confirm_beside s m current number row)
+pub confirm_apart : (n : ℕ) (s : CoreState) (l m : NfsLists) (current : Option ℕ) (number : ℕ) (row : ClientRow) → carried n s l (confirm_beside s m current number row) ≡ carried n s m (confirm_beside s m current number row)
 confirm_apart n s l m current number row = by (find (is_client_named row.id true) m.clients)
   where
-    by : (o : Option ClientRow) → carried n s l current (confirm_over s m current number row o) ≡ carried n s m current (confirm_over s m current number row o)
+    by : (o : Option ClientRow) → carried n s l (confirm_over s m current number row o) ≡ carried n s m (confirm_over s m current number row o)
     by None = refl
     by (Some o) =
         elim (cases_Bool (o.number == number)) [
@@ -122,9 +122,9 @@ confirm_apart n s l m current number row = by (find (is_client_named row.id true
 pub held_done : (n : ℕ) (s new : CoreState) (l lists : NfsLists) (current : Option ℕ) (number : ℕ) (verifier : List ℕ) (row : ClientRow) (id : List ℕ) (time : Moment) (status : NfsStatus) → Some row ≡ find (is_client number true) l.clients
     → status ≡ (if bytes_eq row.details.confirm verifier then statuses.Ok else statuses.StaleClientId)
     → id ≡ row.id → all_done n s (Renews id ∷ []) ≡ new → all_told_of n s (Renews id ∷ []) ≡ [] → time ≡ lease_end s → lists ≡ renewed time number l
-    → carried n s l current (confirm_held s l current number verifier (find (is_client number true) l.clients)) ≡ (Ended status, current, [], lists, new)
+    → carried n s l (confirm_held s l current number verifier (find (is_client number true) l.clients)) ≡ (Ended status, current, [], lists, new)
 held_done n s new l lists current number verifier row id time status found ends same done told at is =
-    ap (λ (o : Option ClientRow). carried n s l current (confirm_held s l current number verifier o)) (sym found)
+    ap (λ (o : Option ClientRow). carried n s l (confirm_held s l current number verifier o)) (sym found)
     ∙ ap (λ (t : NfsStatus). (Ended t, current, all_told_of n s (Renews row.id ∷ []), renewed (lease_end s) number l, all_done n s (Renews row.id ∷ []))) (sym ends)
     ∙ ap (λ (i : List ℕ). (Ended status, current, all_told_of n s (Renews i ∷ []), renewed (lease_end s) number l, all_done n s (Renews i ∷ []))) (sym same)
     ∙ ap (λ (t : Moment). (Ended status, current, all_told_of n s (Renews id ∷ []), renewed t number l, all_done n s (Renews id ∷ []))) (sym at)

@@ -1,20 +1,16 @@
 -- A client that ends, deeds in a row, and operations one behind the other.
-use Rattle.std.proofs.Common.{◌≡◌, ℕ, ◌+◌, ◌-◌, ◌*◌, ◌≤◌, List, [], ◌∷◌, ◌++◌, Some, sym, ap, ◌∙◌, refl, arith, append-nil, append_assoc}
+use Rattle.std.proofs.Common.{◌≡◌, ℕ, ◌+◌, ◌-◌, ◌*◌, ◌≤◌, List, [], ◌∷◌, ◌++◌, Some, ap, ◌∙◌, arith, append-nil}
 use Rattle.xl_base.specs.declared.name.Party.{Party}
-use Rattle.xl_core.specs.Deeds.{Deed, Renews, given, all_done, all_told_of}
-use Rattle.xl_core.proofs.DeedLists.{done_append}
-use Rattle.xl_core.proofs.FrameLaws.{end_party_frame}
-use Rattle.xl_core.proofs.NumberLaws.{end_party_numbers}
-use Rattle.xl_core.specs.Good.{IsGood}
+use Rattle.xl_core.specs.Deeds.{Deed, Renews, all_done, all_told_of}
+use Rattle.xl_core.proofs.DeedLists.{done_append, told_append}
 use Rattle.xl_core.specs.Settle.{end_party}
 use Rattle.xl_core.specs.State.{CoreState}
 use Rattle.xl_core.specs.declared.ask.Effect.{Effect}
 use Rattle.xl_front_nfs.specs.Clients.{ends}
-use Rattle.xl_nfs_opens.specs.Short.{IsReady, Leaves}
-use Rattle.xl_nfs_opens.proofs.LeaveLaws.{call_leaves, leaves_more, leaves_then, renew_told}
-
-pub end_leaves : (s new : CoreState) (party : Party) (effects : List Effect) → IsGood s → end_party s party ≡ (effects, new) → IsGood new → Leaves 0 s new
-end_leaves s new party effects first e good = call_leaves s new effects (end_party s party) e (end_party_frame s party first) (omega (arith, end_party_numbers s party)) good
+use Rattle.xl_plan.specs.Budgets.{IsReady}
+use Rattle.xl_plan.proofs.BudgetLaws.{leaves_more, leaves_then}
+use Rattle.xl_nfs_opens.specs.Short.{Leaves}
+use Rattle.xl_nfs_opens.proofs.LeaveLaws.{renew_told}
 
 pub end_told : (n : ℕ) (s new : CoreState) (party : Party) (effects : List Effect) → end_party s party ≡ (effects, new) → all_told_of n s (ends (Some party)) ≡ effects
 end_told n s new party effects e = append-nil (end_party s party).0 ∙ ap (λ (r : List Effect × CoreState). r.0) e
@@ -23,12 +19,6 @@ pub end_done : (n : ℕ) (s new : CoreState) (party : Party) (effects : List Eff
 end_done n s new party effects e = ap (λ (r : List Effect × CoreState). r.1) e
 
 -- ---- deeds in a row
-
-pub told_append : (n : ℕ) (s : CoreState) (ds es : List Deed) → all_told_of n s (ds ++ es) ≡ all_told_of n s ds ++ all_told_of n (all_done n s ds) es
-told_append n s [] es = refl
-told_append n s (d ∷ ds) es =
-    ap (λ (told : List Effect). (given n s d).1 ++ told) (told_append n (given n s d).2 ds es)
-    ∙ sym (append_assoc (given n s d).1 (all_told_of n (given n s d).2 ds) (all_told_of n (all_done n (given n s d).2 ds) es))
 
 pub over_done : (n : ℕ) (s t u : CoreState) (ds : List Deed) (id : List ℕ) → all_done n s ds ≡ t → all_done n t (Renews id ∷ []) ≡ u → all_done n s (ds ++ Renews id ∷ []) ≡ u
 over_done n s t u ds id first second = done_append n s ds (Renews id ∷ []) ∙ ap (λ (x : CoreState). all_done n x (Renews id ∷ [])) first ∙ second

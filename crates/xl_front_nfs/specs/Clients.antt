@@ -18,17 +18,18 @@ use Rattle.xl_core.specs.Deeds.{Deed, Draws, Ends, Renews}
 use Rattle.xl_core.specs.State.{CoreState}
 use Rattle.xl_core.specs.Ids.{id_of, number_in}
 use Rattle.xl_nfs_opens.specs.Leases.{lease_end, renewed}
-use Rattle.xl_nfs_opens.specs.Plans.{Plan, Fails, Does}
+use Rattle.xl_plan.specs.Plans.{Tells, Does}
+use Rattle.xl_nfs_opens.specs.Plans.{Plan}
 use Rattle.xl_nfs_opens.specs.declared.told.Told.TheVariants.{Ended, Client}
 
 -- ---- RENEW (16.28)
 
 abbrev pub renew_found : CoreState → NfsLists → Option ℕ → ℕ → Option ClientRow → Plan
-renew_found s l current number None = Fails StaleClientId
-renew_found s l current number (Some r) = Does (Renews r.id ∷ []) (renewed (lease_end s) number l) current (Ended Ok)
+renew_found s l current number None = Tells (Ended StaleClientId, current)
+renew_found s l current number (Some r) = Does (Renews r.id ∷ []) (renewed (lease_end s) number l) (Ended Ok, current)
 
 abbrev pub renew_number : CoreState → NfsLists → Option ℕ → Option ℕ → Plan
-renew_number s l current None = Fails StaleClientId
+renew_number s l current None = Tells (Ended StaleClientId, current)
 renew_number s l current (Some number) = renew_found s l current number (find (is_client number true) l.clients)
 
 unfoldable pub renew : CoreState → NfsLists → Option ℕ → ℕ → Plan
@@ -93,8 +94,8 @@ set_under time l a number confirm = with_row (without_number number l) (row_of t
 -- numbers are drawn where there is room
 abbrev pub set_by : CoreState → NfsLists → Option ℕ → SetClientIdArgsItem → Option ℕ → Plan
 set_by s l current a kept =
-    if has_room l then Does (draws kept) (set_under (lease_end s) l a (numbers s.counter kept).0 (numbers s.counter kept).1) current (Client (confirm_of s (numbers s.counter kept).0 (numbers s.counter kept).1))
-    else Does [] l current (Ended Resource)
+    if has_room l then Does (draws kept) (set_under (lease_end s) l a (numbers s.counter kept).0 (numbers s.counter kept).1) (Client (confirm_of s (numbers s.counter kept).0 (numbers s.counter kept).1), current)
+    else Does [] l (Ended Resource, current)
 
 abbrev pub set_beside : CoreState → NfsLists → Option ℕ → SetClientIdArgsItem → Plan
 set_beside s l current a = set_by s l current a (number_kept a.verifier (find (is_client_named a.id true) l.clients))
@@ -125,19 +126,19 @@ come_again time l number r = with_clients l (changed (is_client number true) (wi
 
 -- of another client of the same id string all goes (NFS-12)
 abbrev pub confirm_over : CoreState → NfsLists → Option ℕ → ℕ → ClientRow → Option ClientRow → Plan
-confirm_over s l current number r None = Does (Renews r.id ∷ []) (come (lease_end s) l number r) current (Ended Ok)
+confirm_over s l current number r None = Does (Renews r.id ∷ []) (come (lease_end s) l number r) (Ended Ok, current)
 confirm_over s l current number r (Some o) =
-    if o.number == number then Does (Renews r.id ∷ []) (come_again (lease_end s) l number r) current (Ended Ok)
-    else Does (ends (party_named s.names (NfsParty r.id)) ++ Renews r.id ∷ []) (come (lease_end s) (without_client o.number l) number r) current (Ended Ok)
+    if o.number == number then Does (Renews r.id ∷ []) (come_again (lease_end s) l number r) (Ended Ok, current)
+    else Does (ends (party_named s.names (NfsParty r.id)) ++ Renews r.id ∷ []) (come (lease_end s) (without_client o.number l) number r) (Ended Ok, current)
 
 abbrev pub confirm_beside : CoreState → NfsLists → Option ℕ → ℕ → ClientRow → Plan
 confirm_beside s l current number r = confirm_over s l current number r (find (is_client_named r.id true) l.clients)
 
 -- a confirmed client is named, and its lease runs, whether this verifier is the one that confirmed it or not (NFS-13)
 abbrev pub confirm_held : CoreState → NfsLists → Option ℕ → ℕ → List ℕ → Option ClientRow → Plan
-confirm_held s l current number verifier None = Fails StaleClientId
+confirm_held s l current number verifier None = Tells (Ended StaleClientId, current)
 confirm_held s l current number verifier (Some r) =
-    Does (Renews r.id ∷ []) (renewed (lease_end s) number l) current (Ended (if bytes_eq r.details.confirm verifier then Ok else StaleClientId))
+    Does (Renews r.id ∷ []) (renewed (lease_end s) number l) (Ended (if bytes_eq r.details.confirm verifier then Ok else StaleClientId), current)
 
 -- the record, where this verifier confirms it
 abbrev pub confirmed_by : List ℕ → Option ClientRow → Option ClientRow
@@ -150,7 +151,7 @@ confirm_found s l current number verifier None = confirm_held s l current number
 confirm_found s l current number verifier (Some r) = confirm_beside s (without_number number l) current number r
 
 abbrev pub confirm_number : CoreState → NfsLists → Option ℕ → List ℕ → Option ℕ → Plan
-confirm_number s l current verifier None = Fails StaleClientId
+confirm_number s l current verifier None = Tells (Ended StaleClientId, current)
 confirm_number s l current verifier (Some number) = confirm_found s l current number verifier (confirmed_by verifier (find (is_client number false) l.clients))
 
 unfoldable pub set_client_id_confirm : CoreState → NfsLists → Option ℕ → ClientConfirm → Plan

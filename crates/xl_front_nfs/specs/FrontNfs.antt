@@ -11,12 +11,13 @@ use Rattle.xl_rpc.specs.Replies.{reply}
 use Rattle.xl_rpc.specs.declared.fault.RpcBad.{RpcBad}
 use Rattle.xl_rpc.specs.declared.reply.Verdict.TheVariants.{Success, GarbageArgs}
 use Rattle.xl_core.specs.Deeds.{Deed}
-use Rattle.xl_core.specs.Rows.{Ran, all_ran, all_deeds}
 use Rattle.xl_core.specs.State.{CoreState}
 use Rattle.xl_core.specs.declared.ask.Effect.{Effect}
+use Rattle.xl_nfs_state.specs.State.{NfsLists}
+use Rattle.xl_plan.specs.Plans.{Outcome, deeds_of, carried}
 use Rattle.xl_nfs_opens.specs.Results.{compound_results}
 use Rattle.xl_front_nfs.specs.State.{FrontNfs}
-use Rattle.xl_front_nfs.specs.Steps.{Step, Course, begun, steps_in, ran, step_deeds}
+use Rattle.xl_front_nfs.specs.Steps.{Step, Course, begun, steps_in, compound}
 
 -- ---- the call that a request is
 
@@ -54,11 +55,11 @@ call_in r = if r.procedure == 0 then null_in r.arguments else compound_in (compo
 -- ---- what it does, and what it is answered
 
 -- what a COMPOUND comes to
-abbrev pub run : ℕ → List (List ℕ) → ℕ → FrontNfs → CoreState → List Step → Ran Course
-run n files others f s steps = all_ran (ran files others) n (begun f) s steps
+abbrev pub run : ℕ → List (List ℕ) → ℕ → FrontNfs → CoreState → List Step → Outcome NfsLists Course
+run n files others f s steps = carried n s f.state (compound files others begun s f.state steps)
 
 abbrev pub call_deeds : ℕ → List (List ℕ) → ℕ → FrontNfs → CoreState → Called → List Deed
-call_deeds n files others f s (Compound tag steps) = all_deeds (ran files others) (step_deeds files others) n (begun f) s steps
+call_deeds n files others f s (Compound tag steps) = deeds_of n s (compound files others begun s f.state steps)
 call_deeds n files others f s _ = []
 
 -- What a request does to the core, beside so many opens of other protocols: what each of its operations does, up to the
@@ -74,7 +75,7 @@ abbrev pub call_reply : ℕ → List (List ℕ) → ℕ → FrontNfs → CoreSta
 call_reply n files others f s xid Garbage = reply xid GarbageArgs
 call_reply n files others f s xid Null = reply xid Success
 call_reply n files others f s xid (Refused tag status) = reply xid Success ++ compound_results tag status 0 []
-call_reply n files others f s xid (Compound tag steps) = compound_reply xid tag (run n files others f s steps).1
+call_reply n files others f s xid (Compound tag steps) = compound_reply xid tag (run n files others f s steps).0
 
 -- What it is answered: a function of the request and of what it meets.
 abbrev pub nfs_reply : ℕ → Exports → ℕ → FrontNfs → CoreState → RequestItem → List ℕ
@@ -82,8 +83,8 @@ nfs_reply n exports others f s r = call_reply n exports.files others f s r.xid (
 
 -- ---- a step: a reply, the effects, and the front and the core afterwards
 
-abbrev pub with_reply : ℕ → List ℕ → Ran Course → List ℕ × List Effect × FrontNfs × CoreState
-with_reply xid tag r = (compound_reply xid tag r.1, r.1.effects, record { state = r.1.lists }, r.2)
+abbrev pub with_reply : ℕ → List ℕ → Outcome NfsLists Course → List ℕ × List Effect × FrontNfs × CoreState
+with_reply xid tag r = (compound_reply xid tag r.0, r.1, record { state = r.2 }, r.3)
 
 abbrev pub replied : ℕ → List (List ℕ) → ℕ → FrontNfs → CoreState → ℕ → Called → List ℕ × List Effect × FrontNfs × CoreState
 replied n files others f s xid (Compound tag steps) = with_reply xid tag (run n files others f s steps)

@@ -2,7 +2,8 @@
 ghost use Rattle.std.specs.Prelude.{◌≡◌, ℕ, IfOk, OnOk};
 ghost use Rattle.xl_front_nfs.specs.Clients.{renew};
 ghost use Rattle.xl_nfs_opens.specs.Plans.{carried};
-ghost use Rattle.xl_nfs_opens.specs.Short.{IsReady, Leaves};
+ghost use Rattle.xl_plan.specs.Budgets.{IsReady};
+ghost use Rattle.xl_nfs_opens.specs.Short.{Leaves};
 
 use std::alloc::{AllocError, Global};
 use xl_base::Sequence;
@@ -12,7 +13,7 @@ use xl_nfs_opens::{Done, Told, ended_as, lease_end, renewed};
 use xl_nfs_state::NfsState;
 
 /// RENEW.
-#[tactic(auto, unfolding(crate::specs::Clients::renew), using(xl_nfs_opens::proofs::LeaveLaws::leaves_self, crate::proofs::ClientLaws::renew_done))]
+#[tactic(auto, unfolding(crate::specs::Clients::renew), using(xl_plan::proofs::BudgetLaws::leaves_self, crate::proofs::ClientLaws::renew_done))]
 pub(crate) fn renew(
     alloc: Global,
     state: &mut NfsState,
@@ -21,7 +22,7 @@ pub(crate) fn renew(
     clientid: u64,
 ) -> Result<Done, AllocError>
     requires ready { IsReady 0 core.old }
-    ensures done { (n : ℕ) → IfOk result (λ r. carried n core.old state.old current (renew core.old state.old current clientid) ≡ (r.0, r.1, r.2, state.new, core.new)) }
+    ensures done { (n : ℕ) → IfOk result (λ r. carried n core.old state.old (renew core.old state.old current clientid) ≡ (r.0, r.1, r.2, state.new, core.new)) }
     ensures leaves { OnOk result (Leaves 0 core.old core.new) }
 {
     let Some(number) = number_in(core, clientid) else {

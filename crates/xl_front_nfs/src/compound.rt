@@ -1,17 +1,19 @@
 //! A COMPOUND (RFC 7530 14.2, 15.2): its operations in a row, up to the first that fails.
-ghost use Rattle.std.specs.Prelude.{◌≡◌, ℕ, ◌+◌, ◌*◌, ◌<◌, ◌≤◌, ◌++◌, List, false, true, length, if◌then◌else◌, IfOk, OnOk};
+ghost use Rattle.std.specs.Prelude.{◌≡◌, ℕ, ◌+◌, ◌*◌, ◌<◌, ◌≤◌, ◌++◌, List, [], false, true, length, IfOk, OnOk};
 ghost use Rattle.xl_nfs.specs.Ops.{shown_op, OpFits};
 ghost use Rattle.xl_nfs.specs.Outcomes.{is_ok};
 ghost use Rattle.xl_nfs_state.specs.Bytes.{most_result_bytes};
 ghost use Rattle.xl_nfs_state.specs.State.{NfsLists};
 ghost use Rattle.xl_rpc.specs.Xdr.{unsigned_at};
-ghost use Rattle.xl_core.specs.Rows.{all_ran};
 ghost use Rattle.xl_core.specs.State.{CoreState, MayBe};
 ghost use Rattle.xl_front_nfs.specs.Courses.{course_of};
 ghost use Rattle.xl_front_nfs.specs.FrontNfs.{most_ops};
+ghost use Rattle.xl_plan.specs.Budgets.{IsReady};
+ghost use Rattle.xl_plan.specs.Plans.{carried, told_behind};
 ghost use Rattle.xl_nfs_opens.specs.Results.{ToldFits};
-ghost use Rattle.xl_nfs_opens.specs.Short.{IsReady, Leaves};
-ghost use Rattle.xl_front_nfs.specs.Steps.{steps_in, fault_of, noted, ran, Runs, Garbled};
+ghost use Rattle.xl_nfs_opens.specs.Short.{Leaves};
+ghost use Rattle.xl_nfs_opens.specs.declared.told.Told.TheVariants.{Ended};
+ghost use Rattle.xl_front_nfs.specs.Steps.{steps_in, fault_of, noted, step_plan, goes_on, compound, Runs};
 
 use crate::serving::serve;
 use std::alloc::{AllocError, Global};
@@ -59,7 +61,9 @@ fn push_all(effects: &mut Sequence<Effect>, more: Sequence<Effect>) -> Result<()
 fn note(progress: &mut Progress, number: u32, done: Done) -> Result<bool, AllocError>
     requires fits { ToldFits number done.0 }
     requires few { progress.old.count < most_ops }
-    ensures noted { (old lists : NfsLists) (core : CoreState) → IfOk result (λ more. noted (course_of old progress.old) number (done.0, done.1, done.2, lists, core) ≡ (more, course_of lists progress.new, core)) }
+    ensures noted { OnOk result (course_of progress.new ≡ noted (course_of progress.old) number (done.0, done.1)) }
+    ensures told { OnOk result (progress.new.effects ≡ progress.old.effects ++ done.2) }
+    ensures more { IfOk result (λ more. more ≡ goes_on (course_of progress.new)) }
     ensures little { OnOk result (length progress.new.results ≤ length progress.old.results + most_result_bytes) }
     ensures short { IfOk result (λ more. more ≡ true → length progress.new.results ≤ length progress.old.results + 104) }
     ensures count { OnOk result (progress.new.count ≡ progress.old.count + 1) }
@@ -87,7 +91,8 @@ fn do_op<K: Keeper>(
     requires ready { IsReady 4 core.old }
     requires fits { OpFits (shown_op op.now) }
     requires few { progress.old.count < most_ops }
-    ensures done { (n : ℕ) → IfOk result (λ more. MayBe n core.new → ran files.now others n (course_of state.old progress.old) core.old (Runs (shown_op op.now)) ≡ (more, course_of state.new progress.new, core.new)) }
+    ensures done { (n : ℕ) → OnOk result (MayBe n core.new → told_behind progress.old.effects (carried n core.old state.old (step_plan files.now others (course_of progress.old) core.old state.old (Runs (shown_op op.now)))) ≡ (course_of progress.new, progress.new.effects, state.new, core.new)) }
+    ensures more { IfOk result (λ more. more ≡ goes_on (course_of progress.new)) }
     ensures leaves { OnOk result (Leaves 4 core.old core.new) }
     ensures little { OnOk result (length progress.new.results ≤ length progress.old.results + most_result_bytes) }
     ensures short { IfOk result (λ more. more ≡ true → length progress.new.results ≤ length progress.old.results + 104) }
@@ -111,7 +116,8 @@ fn do_op<K: Keeper>(
 /// Refuses an operation whose arguments can't be read.
 fn refuse(alloc: Global, progress: &mut Progress, number: u32) -> Result<(), AllocError>
     requires few { progress.old.count < most_ops }
-    ensures done { (n : ℕ) (files : List (List ℕ)) (others : ℕ) (lists : NfsLists) (core : CoreState) → OnOk result (ran files others n (course_of lists progress.old) core (Garbled number) ≡ (false, course_of lists progress.new, core)) }
+    ensures noted { OnOk result (course_of progress.new ≡ noted (course_of progress.old) number (Ended NfsStatus.BadXdr, progress.old.current)) }
+    ensures told { OnOk result (progress.new.effects ≡ progress.old.effects) }
     ensures little { OnOk result (length progress.new.results ≤ length progress.old.results + most_result_bytes) }
 {
     let done = ended_as(alloc, NfsStatus::BadXdr, progress.current);
@@ -120,10 +126,12 @@ fn refuse(alloc: Global, progress: &mut Progress, number: u32) -> Result<(), All
 }
 
 /// Refuses what can't be read as an operation: its arguments, or its number.
-#[tactic(auto, unfolding(crate::specs::Steps::ran))]
+#[tactic(auto, unfolding(crate::specs::Steps::step_plan))]
 fn refuse_rest(alloc: Global, progress: &mut Progress, rest: &Xdr) -> Result<(), AllocError>
     requires few { progress.old.count < most_ops }
-    ensures done { (n : ℕ) (files : List (List ℕ)) (others : ℕ) (lists : NfsLists) (core : CoreState) → OnOk result (ran files others n (course_of lists progress.old) core (fault_of (unsigned_at rest.now.rest.now)) ≡ (false, course_of lists progress.new, core)) }
+    ensures done { (n : ℕ) (files : List (List ℕ)) (others : ℕ) (lists : NfsLists) (core : CoreState) → OnOk result (carried n core lists (step_plan files others (course_of progress.old) core lists (fault_of (unsigned_at rest.now.rest.now))) ≡ (course_of progress.new, [], lists, core)) }
+    ensures told { OnOk result (progress.new.effects ≡ progress.old.effects) }
+    ensures ends { OnOk result (goes_on (course_of progress.new) ≡ false) }
     ensures little { OnOk result (length progress.new.results ≤ length progress.old.results + most_result_bytes) }
 {
     let mut at = *rest;
@@ -135,7 +143,7 @@ fn refuse_rest(alloc: Global, progress: &mut Progress, rest: &Xdr) -> Result<(),
 }
 
 /// Does so many operations, read one behind the other, up to the first that isn't OK or can't be read.
-#[tactic(auto, using(xl_nfs_opens::proofs::LeaveLaws::leaves_self, xl_nfs_opens::proofs::LeaveLaws::leaves_more, crate::proofs::EndingLaws::step_ready, crate::proofs::EndingLaws::steps_leave, xl_nfs_opens::proofs::LeaveLaws::may_before))]
+#[tactic(auto, using(xl_plan::proofs::BudgetLaws::leaves_self, xl_plan::proofs::BudgetLaws::leaves_more, crate::proofs::EndingLaws::step_ready, crate::proofs::EndingLaws::steps_leave, xl_plan::proofs::BudgetLaws::may_before, crate::proofs::CourseLaws::course_none, crate::proofs::CourseLaws::course_unread, crate::proofs::CourseLaws::course_ends))]
 pub(crate) fn run_ops<K: Keeper>(
     alloc: Global,
     files: &[Sequence<u8>],
@@ -149,8 +157,7 @@ pub(crate) fn run_ops<K: Keeper>(
 ) -> Result<(), AllocError>
     requires ready { IsReady (4 * count) core.old }
     requires few { progress.old.count + count ≤ most_ops }
-    ensures course { (n : ℕ) → OnOk result (MayBe n core.new → (all_ran (ran files.now others) n (course_of state.old progress.old) core.old (steps_in count args.now.rest.now)).1 ≡ course_of state.new progress.new) }
-    ensures core { (n : ℕ) → OnOk result (MayBe n core.new → (all_ran (ran files.now others) n (course_of state.old progress.old) core.old (steps_in count args.now.rest.now)).2 ≡ core.new) }
+    ensures course { (n : ℕ) → OnOk result (MayBe n core.new → told_behind progress.old.effects (carried n core.old state.old (compound files.now others (course_of progress.old) core.old state.old (steps_in count args.now.rest.now))) ≡ (course_of progress.new, progress.new.effects, state.new, core.new)) }
     ensures leaves { OnOk result (Leaves (4 * count) core.old core.new) }
     ensures little { OnOk result (length progress.new.results ≤ length progress.old.results + 104 * count + most_result_bytes) }
     ensures keeper { keeper.new ≡ keeper.old }

@@ -8,7 +8,8 @@ ghost use Rattle.xl_core.specs.Askers.{party_named};
 ghost use Rattle.xl_core.specs.Deeds.{all_done, all_told_of, Renews};
 ghost use Rattle.xl_front_nfs.specs.Clients.{ends, come, come_again, confirm_beside, confirm_held, confirmed_by, confirm_found, set_client_id_confirm};
 ghost use Rattle.xl_nfs_opens.specs.Plans.{carried};
-ghost use Rattle.xl_nfs_opens.specs.Short.{IsReady, Leaves};
+ghost use Rattle.xl_plan.specs.Budgets.{IsReady};
+ghost use Rattle.xl_nfs_opens.specs.Short.{Leaves};
 
 use crate::ending::ended;
 use crate::rows::{confirmed_by, drop_number, enter, forget, number_named};
@@ -52,7 +53,7 @@ fn come_again(state: &mut NfsState, number: u32, row: ClientRow, time: Moment)
 }
 
 /// The lease of the client of this id string runs from now on, and what it had before goes, where it was another client.
-#[tactic(auto, using(xl_nfs_opens::proofs::LeaveLaws::leaves_self))]
+#[tactic(auto, using(xl_plan::proofs::BudgetLaws::leaves_self))]
 fn ended_and_renewed(
     alloc: Global,
     core: &mut Core,
@@ -80,7 +81,7 @@ fn confirm_first(
     requires ready { IsReady 0 core.old }
     requires room { length state.old.clients < most_clients }
     requires free { find (is_client_named row.id true) state.old.clients ≡ None }
-    ensures done { (n : ℕ) → IfOk result (λ r. carried n core.old state.old current (confirm_beside core.old state.old current number row) ≡ (r.0, r.1, r.2, state.new, core.new)) }
+    ensures done { (n : ℕ) → IfOk result (λ r. carried n core.old state.old (confirm_beside core.old state.old current number row) ≡ (r.0, r.1, r.2, state.new, core.new)) }
     ensures leaves { OnOk result (Leaves 0 core.old core.new) }
 {
     let time = lease_end(core);
@@ -100,7 +101,7 @@ fn confirm_again(
 ) -> Result<Done, AllocError>
     requires ready { IsReady 0 core.old }
     requires there { option_map (λ r. r.number) (find (is_client_named row.id true) state.old.clients) ≡ Some number }
-    ensures done { (n : ℕ) → IfOk result (λ r. carried n core.old state.old current (confirm_beside core.old state.old current number row) ≡ (r.0, r.1, r.2, state.new, core.new)) }
+    ensures done { (n : ℕ) → IfOk result (λ r. carried n core.old state.old (confirm_beside core.old state.old current number row) ≡ (r.0, r.1, r.2, state.new, core.new)) }
     ensures leaves { OnOk result (Leaves 0 core.old core.new) }
 {
     let time = lease_end(core);
@@ -123,7 +124,7 @@ fn confirm_anew(
     requires room { length state.old.clients < most_clients }
     requires there { option_map (λ r. r.number) (find (is_client_named row.id true) state.old.clients) ≡ Some old }
     requires other { (old == number) ≡ false }
-    ensures done { (n : ℕ) → IfOk result (λ r. carried n core.old state.old current (confirm_beside core.old state.old current number row) ≡ (r.0, r.1, r.2, state.new, core.new)) }
+    ensures done { (n : ℕ) → IfOk result (λ r. carried n core.old state.old (confirm_beside core.old state.old current number row) ≡ (r.0, r.1, r.2, state.new, core.new)) }
     ensures leaves { OnOk result (Leaves 0 core.old core.new) }
 {
     let time = lease_end(core);
@@ -145,7 +146,7 @@ fn confirm_beside(
 ) -> Result<Done, AllocError>
     requires ready { IsReady 0 core.old }
     requires room { length state.old.clients < most_clients }
-    ensures done { (n : ℕ) → IfOk result (λ r. carried n core.old state.old current (confirm_beside core.old state.old current number row) ≡ (r.0, r.1, r.2, state.new, core.new)) }
+    ensures done { (n : ℕ) → IfOk result (λ r. carried n core.old state.old (confirm_beside core.old state.old current number row) ≡ (r.0, r.1, r.2, state.new, core.new)) }
     ensures leaves { OnOk result (Leaves 0 core.old core.new) }
 {
     match number_named(state, row.id.as_slice(), true) {
@@ -167,7 +168,7 @@ fn held_status(row: &ClientRow, verifier: &[u8; 8]) -> NfsStatus
 }
 
 /// A confirmed client is named: its lease runs from now on, whether this verifier confirmed it or not.
-#[tactic(auto, using(xl_nfs_opens::proofs::LeaveLaws::leaves_self))]
+#[tactic(auto, using(xl_plan::proofs::BudgetLaws::leaves_self))]
 fn confirm_held(
     alloc: Global,
     state: &mut NfsState,
@@ -177,7 +178,7 @@ fn confirm_held(
     verifier: &[u8; 8],
 ) -> Result<Done, AllocError>
     requires ready { IsReady 0 core.old }
-    ensures done { (n : ℕ) → IfOk result (λ r. carried n core.old state.old current (confirm_held core.old state.old current number verifier.now (find (is_client number true) state.old.clients)) ≡ (r.0, r.1, r.2, state.new, core.new)) }
+    ensures done { (n : ℕ) → IfOk result (λ r. carried n core.old state.old (confirm_held core.old state.old current number verifier.now (find (is_client number true) state.old.clients)) ≡ (r.0, r.1, r.2, state.new, core.new)) }
     ensures leaves { OnOk result (Leaves 0 core.old core.new) }
 {
     let Some(row) = state.find_client(number, true) else {
@@ -203,7 +204,7 @@ fn confirm_found(
 ) -> Result<Done, AllocError>
     requires ready { IsReady 0 core.old }
     requires found { found ≡ confirmed_by verifier.now (find (is_client number false) state.old.clients) }
-    ensures done { (n : ℕ) → IfOk result (λ r. carried n core.old state.old current (confirm_found core.old state.old current number verifier.now found) ≡ (r.0, r.1, r.2, state.new, core.new)) }
+    ensures done { (n : ℕ) → IfOk result (λ r. carried n core.old state.old (confirm_found core.old state.old current number verifier.now found) ≡ (r.0, r.1, r.2, state.new, core.new)) }
     ensures leaves { OnOk result (Leaves 0 core.old core.new) }
 {
     match found {
@@ -216,7 +217,7 @@ fn confirm_found(
 }
 
 /// SETCLIENTID_CONFIRM.
-#[tactic(auto, unfolding(crate::specs::Clients::set_client_id_confirm), using(xl_nfs_opens::proofs::LeaveLaws::leaves_self))]
+#[tactic(auto, unfolding(crate::specs::Clients::set_client_id_confirm), using(xl_plan::proofs::BudgetLaws::leaves_self))]
 pub(crate) fn set_client_id_confirm(
     alloc: Global,
     state: &mut NfsState,
@@ -225,7 +226,7 @@ pub(crate) fn set_client_id_confirm(
     args: &ClientConfirm,
 ) -> Result<Done, AllocError>
     requires ready { IsReady 0 core.old }
-    ensures done { (n : ℕ) → IfOk result (λ r. carried n core.old state.old current (set_client_id_confirm core.old state.old current args.now) ≡ (r.0, r.1, r.2, state.new, core.new)) }
+    ensures done { (n : ℕ) → IfOk result (λ r. carried n core.old state.old (set_client_id_confirm core.old state.old current args.now) ≡ (r.0, r.1, r.2, state.new, core.new)) }
     ensures leaves { OnOk result (Leaves 0 core.old core.new) }
 {
     let Some(number) = number_in(core, args.clientid) else {

@@ -5,7 +5,8 @@ ghost use Rattle.xl_core.specs.Askers.{party_named};
 ghost use Rattle.xl_core.specs.Deeds.{all_done, all_told_of};
 ghost use Rattle.xl_core.specs.Settle.{end_party};
 ghost use Rattle.xl_front_nfs.specs.Clients.{ends};
-ghost use Rattle.xl_nfs_opens.specs.Short.{IsReady, Leaves};
+ghost use Rattle.xl_plan.specs.Budgets.{IsReady};
+ghost use Rattle.xl_nfs_opens.specs.Short.{Leaves};
 
 use std::alloc::{AllocError, Global};
 use xl_base::{Party, Sequence};
@@ -13,7 +14,7 @@ use xl_core::{Core, Effect};
 use xl_nfs_opens::party_of;
 
 /// Takes out all claims and waiters of a party.
-#[tactic(auto, using(crate::proofs::EndingLaws::end_leaves))]
+#[tactic(auto, using(xl_plan::proofs::BudgetLaws::end_leaves))]
 fn end_party(alloc: Global, core: &mut Core, party: Party) -> Result<Sequence<Effect>, AllocError>
     requires ready { IsReady 0 core.old }
     ensures state { IfOk result (λ effects. end_party core.old party ≡ (effects, core.new)) }
@@ -24,7 +25,7 @@ fn end_party(alloc: Global, core: &mut Core, party: Party) -> Result<Sequence<Ef
 }
 
 /// Takes out all claims and waiters of the client of this id string.
-#[tactic(auto, using(xl_nfs_opens::proofs::LeaveLaws::leaves_self, crate::proofs::EndingLaws::end_told, crate::proofs::EndingLaws::end_done))]
+#[tactic(auto, using(xl_plan::proofs::BudgetLaws::leaves_self, crate::proofs::EndingLaws::end_told, crate::proofs::EndingLaws::end_done))]
 pub(crate) fn ended(
     alloc: Global,
     core: &mut Core,

@@ -1,5 +1,5 @@
 //! Operations on the current filehandle.
-ghost use Rattle.std.specs.Prelude.{◌≡◌, ℕ, [], Option};
+ghost use Rattle.std.specs.Prelude.{◌≡◌, ℕ, []};
 ghost use Rattle.xl_nfs_state.specs.State.{NfsLists};
 ghost use Rattle.xl_core.specs.State.{CoreState};
 ghost use Rattle.xl_front_nfs.specs.Handles.{put_root_fh, put_file, put_fh, get_fh, look_up};
@@ -21,14 +21,14 @@ fn failed(status: NfsStatus, current: Option<u32>) -> (Told, Option<u32>)
 /// PUTROOTFH.
 #[tactic(auto, unfolding(crate::specs::Handles::put_root_fh))]
 pub(crate) fn put_root_fh() -> (Told, Option<u32>)
-    ensures { (n : ℕ) (s : CoreState) (l : NfsLists) (current : Option ℕ) → carried n s l current (put_root_fh l) ≡ (result.0, result.1, [], l, s) }
+    ensures { (n : ℕ) (s : CoreState) (l : NfsLists) → carried n s l (put_root_fh l) ≡ (result.0, result.1, [], l, s) }
 {
     (Told::Ended(NfsStatus::Ok), Some(0))
 }
 
 /// The file of a handle becomes the current one, where it is one of so many.
 fn put_file(count: usize, current: Option<u32>, file: Option<u32>) -> (Told, Option<u32>)
-    ensures { (n : ℕ) (s : CoreState) (l : NfsLists) → carried n s l current (put_file count l file) ≡ (result.0, result.1, [], l, s) }
+    ensures { (n : ℕ) (s : CoreState) (l : NfsLists) → carried n s l (put_file count l current file) ≡ (result.0, result.1, [], l, s) }
 {
     let Some(number) = file else {
         return failed(NfsStatus::BadHandle, current);
@@ -42,7 +42,7 @@ fn put_file(count: usize, current: Option<u32>, file: Option<u32>) -> (Told, Opt
 /// PUTFH, where so many files are exported.
 #[tactic(auto, unfolding(crate::specs::Handles::put_fh))]
 pub(crate) fn put_fh(count: usize, current: Option<u32>, fh: &[u8]) -> (Told, Option<u32>)
-    ensures { (n : ℕ) (s : CoreState) (l : NfsLists) → carried n s l current (put_fh count l fh.now) ≡ (result.0, result.1, [], l, s) }
+    ensures { (n : ℕ) (s : CoreState) (l : NfsLists) → carried n s l (put_fh count l current fh.now) ≡ (result.0, result.1, [], l, s) }
 {
     put_file(count, current, file_of(fh))
 }
@@ -50,7 +50,7 @@ pub(crate) fn put_fh(count: usize, current: Option<u32>, fh: &[u8]) -> (Told, Op
 /// GETFH.
 #[tactic(auto, unfolding(crate::specs::Handles::get_fh))]
 pub(crate) fn get_fh(current: Option<u32>) -> (Told, Option<u32>)
-    ensures { (n : ℕ) (s : CoreState) (l : NfsLists) → carried n s l current (get_fh l current) ≡ (result.0, result.1, [], l, s) }
+    ensures { (n : ℕ) (s : CoreState) (l : NfsLists) → carried n s l (get_fh l current) ≡ (result.0, result.1, [], l, s) }
 {
     match current {
         Some(file) => (Told::Handle(file), current),
@@ -65,7 +65,7 @@ pub(crate) fn look_up(
     current: Option<u32>,
     name: &[u8],
 ) -> (Told, Option<u32>)
-    ensures { (n : ℕ) (s : CoreState) (l : NfsLists) → carried n s l current (look_up files.now l current name.now) ≡ (result.0, result.1, [], l, s) }
+    ensures { (n : ℕ) (s : CoreState) (l : NfsLists) → carried n s l (look_up files.now l current name.now) ≡ (result.0, result.1, [], l, s) }
 {
     let Some(file) = current else {
         return failed(NfsStatus::NoFileHandle, current);

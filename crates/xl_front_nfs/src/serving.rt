@@ -3,7 +3,8 @@ ghost use Rattle.xl_core.specs.State.{MayBe};
 ghost use Rattle.std.specs.Prelude.{◌≡◌, ℕ, IfOk, OnOk};
 ghost use Rattle.xl_nfs.specs.Ops.{shown_op};
 ghost use Rattle.xl_nfs_opens.specs.Plans.{carried};
-ghost use Rattle.xl_nfs_opens.specs.Short.{IsReady, Leaves};
+ghost use Rattle.xl_plan.specs.Budgets.{IsReady};
+ghost use Rattle.xl_nfs_opens.specs.Short.{Leaves};
 ghost use Rattle.xl_front_nfs.specs.Steps.{planned};
 
 use crate::clients::renew;
@@ -21,7 +22,7 @@ use xl_nfs_opens::{
 use xl_nfs_state::NfsState;
 
 /// What an operation comes to, where these files are exported.
-#[tactic(auto, unfolding(crate::specs::Steps::planned), using(xl_nfs_opens::proofs::LeaveLaws::leaves_self, xl_nfs_opens::proofs::LeaveLaws::leaves_more, xl_nfs_opens::proofs::LeaveLaws::ready_less))]
+#[tactic(auto, unfolding(crate::specs::Steps::planned), using(xl_plan::proofs::BudgetLaws::leaves_self, xl_plan::proofs::BudgetLaws::leaves_more, xl_plan::proofs::BudgetLaws::ready_less))]
 pub(crate) fn serve<K: Keeper>(
     alloc: Global,
     files: &[Sequence<u8>],
@@ -33,7 +34,7 @@ pub(crate) fn serve<K: Keeper>(
     op: &NfsOp,
 ) -> Result<Done, AllocError>
     requires ready { IsReady 4 core.old }
-    ensures done { (n : ℕ) → IfOk result (λ r. MayBe n core.new → carried n core.old state.old current (planned files.now others core.old state.old current (shown_op op.now)) ≡ (r.0, r.1, r.2, state.new, core.new)) }
+    ensures done { (n : ℕ) → IfOk result (λ r. MayBe n core.new → carried n core.old state.old (planned files.now others core.old state.old current (shown_op op.now)) ≡ (r.0, r.1, r.2, state.new, core.new)) }
     ensures leaves { OnOk result (Leaves 4 core.old core.new) }
     ensures keeper { keeper.new ≡ keeper.old }
 {

@@ -6,7 +6,8 @@ ghost use Rattle.xl_nfs_state.specs.State.{is_client_named};
 ghost use Rattle.xl_core.specs.Deeds.{all_done, all_told_of};
 ghost use Rattle.xl_front_nfs.specs.Clients.{number_kept, numbers, draws, row_of, confirm_of, has_room, set_under, set_beside, set_client_id};
 ghost use Rattle.xl_nfs_opens.specs.Plans.{carried};
-ghost use Rattle.xl_nfs_opens.specs.Short.{IsReady, Leaves};
+ghost use Rattle.xl_plan.specs.Budgets.{IsReady};
+ghost use Rattle.xl_nfs_opens.specs.Short.{Leaves};
 
 use crate::rows::{drop_named, drop_number, enter, has_room};
 use std::alloc::{AllocError, Global};
@@ -27,7 +28,7 @@ fn number_kept(state: &NfsState, args: &SetClientIdArgs) -> Option<u32>
 }
 
 /// The client's number, which is new where it keeps none, and the one that confirms it.
-#[tactic(auto, using(xl_nfs_opens::proofs::LeaveLaws::ready_then, xl_nfs_opens::proofs::LeaveLaws::ready_less, xl_nfs_opens::proofs::LeaveLaws::leaves_then, xl_nfs_opens::proofs::LeaveLaws::leaves_more, crate::proofs::ClientLaws::numbers_new))]
+#[tactic(auto, using(xl_plan::proofs::BudgetLaws::ready_then, xl_plan::proofs::BudgetLaws::ready_less, xl_plan::proofs::BudgetLaws::leaves_then, xl_plan::proofs::BudgetLaws::leaves_more, crate::proofs::ClientLaws::numbers_new))]
 fn draw_numbers(core: &mut Core, kept: Option<u32>) -> (u32, u32)
     requires ready { IsReady 2 core.old }
     ensures numbers { result ≡ numbers core.old.counter kept }
@@ -101,7 +102,7 @@ fn confirm_of(core: &Core, number: u32, confirm: u32) -> ClientConfirm
 }
 
 /// SETCLIENTID, where no unconfirmed record has the id string.
-#[tactic(auto, using(xl_nfs_opens::proofs::LeaveLaws::leaves_self, xl_nfs_opens::proofs::LeaveLaws::leaves_more, crate::proofs::ClientLaws::set_done))]
+#[tactic(auto, using(xl_plan::proofs::BudgetLaws::leaves_self, xl_plan::proofs::BudgetLaws::leaves_more, crate::proofs::ClientLaws::set_done))]
 fn set_beside(
     alloc: Global,
     state: &mut NfsState,
@@ -111,7 +112,7 @@ fn set_beside(
 ) -> Result<Done, AllocError>
     requires ready { IsReady 2 core.old }
     requires free { find (is_client_named args.now.id.now false) state.old.clients ≡ None }
-    ensures done { (n : ℕ) → IfOk result (λ r. carried n core.old state.old current (set_beside core.old state.old current (shown_set_client_id_args args.now)) ≡ (r.0, r.1, r.2, state.new, core.new)) }
+    ensures done { (n : ℕ) → IfOk result (λ r. carried n core.old state.old (set_beside core.old state.old current (shown_set_client_id_args args.now)) ≡ (r.0, r.1, r.2, state.new, core.new)) }
     ensures leaves { OnOk result (Leaves 2 core.old core.new) }
 {
     if !has_room(state) {
@@ -135,7 +136,7 @@ pub(crate) fn set_client_id(
     args: &SetClientIdArgs,
 ) -> Result<Done, AllocError>
     requires ready { IsReady 2 core.old }
-    ensures done { (n : ℕ) → IfOk result (λ r. carried n core.old state.old current (set_client_id core.old state.old current (shown_set_client_id_args args.now)) ≡ (r.0, r.1, r.2, state.new, core.new)) }
+    ensures done { (n : ℕ) → IfOk result (λ r. carried n core.old state.old (set_client_id core.old state.old current (shown_set_client_id_args args.now)) ≡ (r.0, r.1, r.2, state.new, core.new)) }
     ensures leaves { OnOk result (Leaves 2 core.old core.new) }
 {
     drop_named(state, args.id);

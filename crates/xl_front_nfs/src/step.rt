@@ -12,7 +12,8 @@ ghost use Rattle.xl_core.specs.State.{CoreState, MayBe};
 ghost use Rattle.xl_front_nfs.specs.Courses.{course_of};
 ghost use Rattle.xl_front_nfs.specs.FrontNfs.{null_in, compound_in, call_in, most_ops, most_drawn, run, with_reply, replied, nfs_step};
 ghost use Rattle.xl_nfs_opens.specs.Results.{compound_results};
-ghost use Rattle.xl_nfs_opens.specs.Short.{IsReady, Leaves};
+ghost use Rattle.xl_plan.specs.Budgets.{IsReady};
+ghost use Rattle.xl_nfs_opens.specs.Short.{Leaves};
 ghost use Rattle.xl_front_nfs.specs.State.{FrontNfs};
 ghost use Rattle.xl_front_nfs.specs.Steps.{begun, steps_in};
 
@@ -70,8 +71,8 @@ fn compound_reply(
 
 /// What a COMPOUND has come to before its first operation.
 fn begun(alloc: Global) -> Progress
-    ensures begun { (f : FrontNfs) → course_of f.state result ≡ begun f }
-    ensures none { (result.count ≡ 0) × (result.results ≡ []) }
+    ensures begun { course_of result ≡ begun }
+    ensures none { (result.count ≡ 0) × (result.results ≡ []) × (result.effects ≡ []) }
 {
     Progress {
         current: None,
@@ -152,7 +153,7 @@ fn refused(
 }
 
 /// The reply to NULL.
-#[tactic(auto, using(xl_nfs_opens::proofs::LeaveLaws::leaves_self, xl_nfs_opens::proofs::LeaveLaws::leaves_more))]
+#[tactic(auto, using(xl_plan::proofs::BudgetLaws::leaves_self, xl_plan::proofs::BudgetLaws::leaves_more))]
 fn null(alloc: Global, request: &Request) -> Result<(Vec<u8>, Sequence<Effect>), AllocError>
     ensures done { (n : ℕ) (files : List (List ℕ)) (others : ℕ) (f : FrontNfs) (s : CoreState) → IfOk result (λ r. replied n files others f s request.now.xid (null_in request.now.arguments.rest.now) ≡ (r.0.items, r.1, f, s)) }
     ensures little { IfOk result (λ r. length r.0.items ≤ most_message_bytes) }
@@ -165,7 +166,7 @@ fn null(alloc: Global, request: &Request) -> Result<(Vec<u8>, Sequence<Effect>),
 }
 
 /// The reply to a COMPOUND: its minor version is judged before the number of its operations.
-#[tactic(auto, unfolding(xl_nfs::specs::Compounds::compound_head), using(xl_nfs_opens::proofs::LeaveLaws::leaves_self, xl_nfs_opens::proofs::LeaveLaws::leaves_more))]
+#[tactic(auto, unfolding(xl_nfs::specs::Compounds::compound_head), using(xl_plan::proofs::BudgetLaws::leaves_self, xl_plan::proofs::BudgetLaws::leaves_more))]
 fn compound<K: Keeper>(
     alloc: Global,
     files: &[Sequence<u8>],
@@ -205,7 +206,7 @@ fn compound<K: Keeper>(
 }
 
 /// The reply to a request.
-#[tactic(auto, unfolding(crate::specs::FrontNfs::call_in), using(xl_nfs_opens::proofs::LeaveLaws::leaves_self, xl_nfs_opens::proofs::LeaveLaws::leaves_more))]
+#[tactic(auto, unfolding(crate::specs::FrontNfs::call_in), using(xl_plan::proofs::BudgetLaws::leaves_self, xl_plan::proofs::BudgetLaws::leaves_more))]
 fn replied<K: Keeper>(
     alloc: Global,
     files: &[Sequence<u8>],

@@ -1,125 +1,155 @@
--- A plan is carried out as the call is served: its deed is fit, its names are short, and there is room for its host.
-use Rattle.std.proofs.Common.{◌≡◌, ℕ, Bool, true, false, if◌then◌else◌, List, [], Option, Some, None, Result, Ok, Err, refl, sym, ap, subst, ◌∙◌}
+-- What a call's plan is, and what it comes to.
+use Rattle.std.proofs.Common.{◌≡◌, ℕ, Bool, true, false, if◌then◌else◌, List, [], ◌++◌, Option, Some, None, Result, Ok, Err, refl, sym, ap, subst, ◌∙◌, option_map, append-nil}
 use Rattle.xl_names.specs.Names.{number_of}
+use Rattle.xl_names.specs.declared.name.Name.{Name}
 use Rattle.xl_names.specs.declared.name.Name.TheVariants.{NlmParty}
 use Rattle.xl_nlm.specs.Arguments.{CallFits, lock, test_args, lock_args, unlock_args}
-use Rattle.xl_nlm.specs.Items.{LockArgsItem, ShareArgsItem, CallItem, Null, Test, Lock, Cancel, Unlock, Granted, Share, Unshare, NmLock, FreeAll}
+use Rattle.xl_nlm.specs.Items.{LockArgsItem, CallItem, Null, Test, Lock, Cancel, Unlock, Granted, Share, Unshare, NmLock, FreeAll}
+use Rattle.xl_wait.specs.declared.waiter.Rooms.{Rooms}
+use Rattle.xl_core.specs.Clients.{IsOfSome}
+use Rattle.xl_core.specs.Decide.{Answered as AskAnswered, ask}
+use Rattle.xl_core.specs.Deeds.{Deed, Asks, GivesBack, Cancels, Ends, Given, given, answers_of, IsFitDeed, AreFit}
+use Rattle.xl_core.specs.Good.{IsGood}
 use Rattle.xl_core.specs.State.{CoreState}
-use Rattle.xl_core.specs.Deeds.{Deed, Asks, Given, given, IsFitDeed, AreFit}
 use Rattle.xl_core.specs.declared.ask.Answer.{Answer}
+use Rattle.xl_core.specs.declared.ask.Ask.{Ask}
 use Rattle.xl_core.specs.declared.ask.Effect.{Effect}
-use Rattle.xl_front_nlm.proofs.DoesLaws.{plan_takes}
+use Rattle.xl_base.specs.declared.name.Party.TheVariants as parties
+use Rattle.xl_base.specs.declared.name.Protocol.TheVariants.{Nlm}
+use Rattle.xl_plan.specs.Answers.{by_answers}
+use Rattle.xl_plan.specs.Budgets.{IsAskOf}
+use Rattle.xl_plan.specs.Plans.{Tells, Asking, deeds_of, carried, AllDeeds}
+use Rattle.xl_front_nlm.proofs.AimLaws.{aim_real}
+use Rattle.xl_front_nlm.proofs.AskLaws.{own_client}
+use Rattle.xl_front_nlm.proofs.OwnLaws.{cancel_own, share_own, waits, share_fits}
 use Rattle.xl_front_nlm.proofs.StepLaws.{lock_has_room, share_has_room, fresh_room}
 use Rattle.xl_front_nlm.specs.Aims.{exported, aimed}
-use Rattle.xl_front_nlm.specs.Asks.{lock_ask, share_ask}
+use Rattle.xl_front_nlm.specs.Asks.{owner_of, share_owner, test_ask, lock_ask, unlock_ask, share_ask}
 use Rattle.xl_front_nlm.specs.Hosts.{rooms, host_rows, HasHostRoom}
-use Rattle.xl_front_nlm.specs.Serving.{Plan, Tells, Does, at_bytes, on_file, if_found, lock_plan, planned, deeds_of, outcome_of, host_of, hosted, done_with, served_by, served}
-use Rattle.xl_front_nlm.specs.Short.{IsShortDeed}
+use Rattle.xl_front_nlm.specs.Serving.{CallPlan, asks, does, at_bytes, on_file, if_found, planned, host_of, hosted, served, client_of}
+use Rattle.xl_front_nlm.specs.Short.{IsShort}
 use Rattle.xl_front_nlm.specs.Standing.{does_wait, waiter_for, share_held}
 use Rattle.xl_front_nlm.specs.State.{FrontState}
 use Rattle.xl_front_nlm.specs.declared.aim.Aim.{Aim}
 use Rattle.xl_front_nlm.specs.declared.outcome.Outcome.{Outcome}
-use Rattle.xl_front_nlm.specs.declared.outcome.Outcome.TheVariants as outcomes
+use Rattle.xl_front_nlm.specs.declared.outcome.Outcome.TheVariants.{Waits, Answered, Ended, Nothing}
 
--- ---- what becomes of the call
+-- ---- what is asked and done for a call
 
-pub served_told : (n count : ℕ) (f : FrontState) (s : CoreState) (call : CallItem) (outcome : Outcome) (effects : List Effect) → planned count f.hosts s call ≡ Tells outcome → effects ≡ [] → served n count f s call ≡ (outcome, effects, f, s)
-unfolding served
-served_told n count f s call outcome effects e none = ap (λ (plan : Plan). served_by n f s (host_of call) plan) e ∙ rw none refl
+-- the core takes the deed, and it is this client's
+pub record IsFor (s : CoreState) (client : Option Name) (deed : Deed) : Type 0 where
+  pub fit : IsFitDeed s deed
+  pub own : IsGood s → IsOfSome s client deed
 
-pub served_done : (n count : ℕ) (f after : FrontState) (s new : CoreState) (call : CallItem) (deed : Deed) (answer : Option Answer) (effects : List Effect) (outcome : Outcome)
-    → planned count f.hosts s call ≡ Does deed → given n s deed ≡ (answer, effects, new) → outcome ≡ outcome_of answer → after ≡ hosted (host_of call) answer f
-    → served n count f s call ≡ (outcome, effects, after, new)
-unfolding served
-served_done n count f after s new call deed answer effects outcome e is told noted =
-    ap (λ (plan : Plan). served_by n f s (host_of call) plan) e ∙ ap (λ (r : Given). done_with (host_of call) f r) is ∙ rw (told, noted) refl
+-- so it is with what is asked; its names are short where the arguments fit, and there is room for its host
+pub record IsAskFor (n : ℕ) (f : FrontState) (s : CoreState) (client : Option Name) (host : Option (List ℕ)) (Fits : Type 0) (a : Ask) : Type 0 where
+  pub is : IsFor s client (Asks (rooms f.hosts) a)
+  pub short : Fits → IsAskOf IsShort a
+  pub room : HasHostRoom host (ask n (rooms f.hosts) s a).0 f.hosts
 
--- ---- the deed is fit
-
-pub deed_fits : (count : ℕ) (hosts : List (List ℕ)) (s : CoreState) (call : CallItem) (deed : Deed) → planned count hosts s call ≡ Does deed → IsFitDeed s deed
-deed_fits count hosts s call deed e = (subst (λ (plan : Plan). AreFit 0 s (deeds_of plan)) e (plan_takes 0 count hosts s call)).0
-
--- ---- its names are short
-
-abbrev IsShortPlan : Plan → Type 0
-IsShortPlan (Tells outcome) = Unit {0}
-IsShortPlan (Does deed) = IsShortDeed deed
-
-bytes_short : (plan : Aim → Plan) (r : Result Aim Outcome) → ((at : Aim) → IsShortPlan (plan at)) → IsShortPlan (at_bytes plan r)
-bytes_short plan (Err outcome) each = tt
-bytes_short plan (Ok at) each = each at
-
-lock_short : (hosts : List (List ℕ)) (s : CoreState) (a : LockArgsItem) (at : Aim) (waits : Bool) → lock_args.Fit a → IsShortPlan (if waits then Tells outcomes.Waits else Does (Asks (rooms hosts) (lock_ask (host_rows a.lock.caller_name hosts) a at)))
+lock_for : (n count : ℕ) (f : FrontState) (s : CoreState) (a : LockArgsItem) (at : Aim) → aimed count a.lock ≡ Ok at
+    → IsAskFor n f s (Some (NlmParty a.lock.caller_name)) (Some a.lock.caller_name) (lock_args.Fit a) (lock_ask (host_rows a.lock.caller_name f.hosts) a at)
 unfolding lock_args lock
-lock_short hosts s a at true fits = tt
-lock_short hosts s a at false fits = ((fits.1.1.1.0.0, fits.1.1.1.0.1.1.0), tt)
+lock_for n count f s a at e =
+    let caller = a.lock.caller_name in
+    let rows = host_rows caller f.hosts in
+    record {
+      is = record { fit = record { act = (aim_real count a.lock at e, tt); own = refl; party = own_client caller; wish = refl }; own = λ good. refl };
+      short = λ fits. ((fits.1.1.1.0.0, fits.1.1.1.0.1.1.0), tt);
+      room = λ makes fresh. fresh_room caller f.hosts rows refl (lock_has_room n (rooms f.hosts) rows s a at makes) fresh;
+    }
 
-waits_short : {A : Type 0} (none : Outcome) (does : A → Deed) (o : Option A) → ((x : A) → IsShortDeed (does x)) → IsShortPlan (if_found none does o)
-waits_short none does None each = tt
-waits_short none does (Some x) each = each x
+-- ---- what holds of each ask and of each deed holds of each call's plan
 
-file_short : (plan : ℕ → Plan) (o : Option ℕ) → ((file : ℕ) → IsShortPlan (plan file)) → IsShortPlan (on_file plan o)
-file_short plan None each = tt
-file_short plan (Some file) each = each file
+module _ (P : CallPlan → Type 0) (told : (outcome : Outcome) → P (Tells outcome)) where
+  by_bytes : (plan : Aim → CallPlan) (r : Result Aim Outcome) → ((at : Aim) → r ≡ Ok at → P (plan at)) → P (at_bytes plan r)
+  by_bytes plan (Err outcome) each = told outcome
+  by_bytes plan (Ok at) each = each at refl
 
-plan_short : (count : ℕ) (hosts : List (List ℕ)) (s : CoreState) (call : CallItem) → CallFits call → IsShortPlan (planned count hosts s call)
-unfolding planned test_args unlock_args lock
-plan_short count hosts s Null fits = tt
-plan_short count hosts s (Test a) fits = bytes_short _ (aimed count a.lock) (λ at. ((fits.1.1.0, fits.1.1.1.1.0), tt))
-plan_short count hosts s (Lock a) fits = bytes_short _ (aimed count a.lock) (λ at. lock_short hosts s a at (does_wait s a at) fits)
-plan_short count hosts s (Cancel a) fits = bytes_short _ (aimed count a.lock) (λ at. waits_short _ _ (waiter_for s a.lock a.exclusive at) (λ id. tt))
-plan_short count hosts s (Unlock a) fits = bytes_short _ (aimed count a.lock) (λ at. ((fits.1.0, fits.1.1.1.0), tt))
-plan_short count hosts s (Granted a) fits = tt
-plan_short count hosts s (Share a) fits = file_short _ (exported count a.fh) (λ file. (tt, tt))
-plan_short count hosts s (Unshare a) fits = file_short _ (exported count a.fh) (λ file. waits_short _ _ (share_held s a file) (λ claim. tt))
-plan_short count hosts s (NmLock a) fits = bytes_short _ (aimed count a.lock) (λ at. lock_short hosts s a at (does_wait s a at) fits)
-plan_short count hosts s (FreeAll a) fits = waits_short _ _ (number_of (NlmParty a.name) s.names) (λ number. tt)
+  by_file : (plan : ℕ → CallPlan) (o : Option ℕ) → ((file : ℕ) → P (plan file)) → P (on_file plan o)
+  by_file plan None each = told _
+  by_file plan (Some file) each = each file
 
-pub deed_short : (count : ℕ) (hosts : List (List ℕ)) (s : CoreState) (call : CallItem) (deed : Deed) → CallFits call → planned count hosts s call ≡ Does deed → IsShortDeed deed
-deed_short count hosts s call deed fits e = subst IsShortPlan e (plan_short count hosts s call fits)
+  by_found : {A : Type 0} (f : FrontState) (none : Outcome) (deed : A → Deed) (o : Option A) → ((x : A) → o ≡ Some x → P (does f (deed x))) → P (if_found f none deed o)
+  by_found f none deed None each = told none
+  by_found f none deed (Some x) each = each x refl
 
--- ---- there is room for its host
+  by_wait : (plan : CallPlan) (b : Bool) → P plan → P (if b then Tells Waits else plan)
+  by_wait plan true asked = told Waits
+  by_wait plan false asked = asked
 
-abbrev HasRoomFor : ℕ → List (List ℕ) → CoreState → Option (List ℕ) → Plan → Type 0
-HasRoomFor n hosts s host (Tells outcome) = Unit {0}
-HasRoomFor n hosts s host (Does deed) = HasHostRoom host (given n s deed).0 hosts
+  pub by_call : (n count : ℕ) (f : FrontState) (s : CoreState) (call : CallItem) → ((a : Ask) → IsAskFor n f s (client_of call) (host_of call) (CallFits call) a → P (asks (host_of call) f (rooms f.hosts) a))
+      → ((deed : Deed) → IsFor s (client_of call) deed → P (does f deed)) → P (planned count f s call)
+  unfolding planned test_args unlock_args lock
+  by_call n count f s Null asked done = told Nothing
+  by_call n count f s (Test a) asked done =
+      by_bytes _ (aimed count a.lock)
+      (λ at e. asked (test_ask a at)
+      (record { is = record { fit = record { act = aim_real count a.lock at e; own = refl; party = own_client a.lock.caller_name; wish = refl }; own = λ good. refl }; short = λ fits. ((fits.1.1.0, fits.1.1.1.1.0), tt); room = tt }))
+  by_call n count f s (Lock a) asked done = by_bytes _ (aimed count a.lock) (λ at e. by_wait _ (does_wait s a at) (asked _ (lock_for n count f s a at e)))
+  by_call n count f s (Cancel a) asked done =
+      by_bytes _ (aimed count a.lock)
+      (λ at e. by_found f _ (λ id. Cancels id) (waiter_for s a.lock a.exclusive at)
+      (λ id k. done (Cancels id) (record { fit = waits s at a.exclusive (number_of (owner_of a.lock) s.names) id k; own = λ good. cancel_own s a.lock a.exclusive at (number_of (owner_of a.lock) s.names) id good refl k })))
+  by_call n count f s (Unlock a) asked done =
+      by_bytes _ (aimed count a.lock)
+      (λ at e. asked (unlock_ask a at)
+      (record { is = record { fit = record { act = aim_real count a.lock at e; own = refl; party = own_client a.lock.caller_name; wish = refl }; own = λ good. refl }; short = λ fits. ((fits.1.0, fits.1.1.1.0), tt); room = tt }))
+  by_call n count f s (Granted a) asked done = told Nothing
+  by_call n count f s (Share a) asked done =
+      let rows = host_rows a.caller_name f.hosts in
+      by_file _ (exported count a.fh)
+      (λ file. asked (share_ask rows a file) (record {
+        is = record { fit = record { act = tt; own = refl; party = own_client a.caller_name; wish = tt }; own = λ good. refl };
+        short = λ fits. (tt, tt);
+        room = λ makes fresh. fresh_room a.caller_name f.hosts rows refl (share_has_room n (rooms f.hosts) rows s a file makes) fresh;
+      }))
+  by_call n count f s (Unshare a) asked done =
+      by_file _ (exported count a.fh)
+      (λ file. by_found f _ (λ claim. GivesBack claim) (share_held s a file)
+      (λ claim k. done (GivesBack claim) (record { fit = share_fits s file (number_of (share_owner a) s.names) claim k; own = λ good. share_own s a file (number_of (share_owner a) s.names) claim good refl k })))
+  by_call n count f s (NmLock a) asked done = by_bytes _ (aimed count a.lock) (λ at e. by_wait _ (does_wait s a at) (asked _ (lock_for n count f s a at e)))
+  by_call n count f s (FreeAll a) asked done =
+      by_found f _ (λ number. Ends (parties.Name Nlm number)) (number_of (NlmParty a.name) s.names)
+      (λ number k. done _ (record { fit = tt; own = λ good. ap (λ (o : Option ℕ). option_map (λ i. parties.Name Nlm i) o) k }))
 
-lock_rooms : (n : ℕ) (hosts : List (List ℕ)) (s : CoreState) (a : LockArgsItem) (at : Aim) (waits : Bool)
-    → HasRoomFor n hosts s (Some a.lock.caller_name) (if waits then Tells outcomes.Waits else Does (Asks (rooms hosts) (lock_ask (host_rows a.lock.caller_name hosts) a at)))
-lock_rooms n hosts s a at true = tt
-lock_rooms n hosts s a at false = λ makes fresh.
-    let rows = host_rows a.lock.caller_name hosts in
-    fresh_room a.lock.caller_name hosts rows refl (lock_has_room n (rooms hosts) rows s a at makes) fresh
+-- the core takes its deeds
+pub call_takes : (n count : ℕ) (f : FrontState) (s : CoreState) (call : CallItem) → AreFit n s (deeds_of n s (planned count f s call))
+call_takes n count f s call = by_call (λ p. AreFit n s (deeds_of n s p)) (λ outcome. tt) n count f s call (λ a k. (k.is.fit, tt)) (λ deed k. (k.fit, tt))
 
-aimed_rooms : (n : ℕ) (hosts : List (List ℕ)) (s : CoreState) (a : LockArgsItem) (r : Result Aim Outcome) → HasRoomFor n hosts s (Some a.lock.caller_name) (at_bytes (λ at. lock_plan hosts s a at) r)
-aimed_rooms n hosts s a (Err outcome) = tt
-aimed_rooms n hosts s a (Ok at) = lock_rooms n hosts s a at (does_wait s a at)
+-- they are the client's that the call names
+pub call_own : (n count : ℕ) (f : FrontState) (s : CoreState) (call : CallItem) → IsGood s → AllDeeds (λ t d. IsOfSome t (client_of call) d) n s (planned count f s call)
+call_own n count f s call good = by_call (AllDeeds (λ t d. IsOfSome t (client_of call) d) n s) (λ outcome. tt) n count f s call (λ a k. (k.is.own good, tt)) (λ deed k. (k.own good, tt))
 
-share_rooms : (n : ℕ) (hosts : List (List ℕ)) (s : CoreState) (a : ShareArgsItem) (o : Option ℕ) → HasRoomFor n hosts s (Some a.caller_name) (on_file (λ file. Does (Asks (rooms hosts) (share_ask (host_rows a.caller_name hosts) a file))) o)
-share_rooms n hosts s a None = tt
-share_rooms n hosts s a (Some file) = λ makes fresh.
-    let rows = host_rows a.caller_name hosts in
-    fresh_room a.caller_name hosts rows refl (share_has_room n (rooms hosts) rows s a file makes) fresh
+-- and what it is told is a function of what they are answered
+pub call_told : (n count : ℕ) (f : FrontState) (s : CoreState) (call : CallItem) → (let p = planned count f s call in (carried n s f p).0 ≡ (by_answers s f Ended p (answers_of n s (deeds_of n s p))).0)
+call_told n count f s call = by_call (λ p. (carried n s f p).0 ≡ (by_answers s f Ended p (answers_of n s (deeds_of n s p))).0) (λ outcome. refl) n count f s call (λ a k. refl) (λ deed k. refl)
 
-no_host : (n : ℕ) (hosts : List (List ℕ)) (s : CoreState) (plan : Plan) → HasRoomFor n hosts s None plan
-no_host n hosts s (Tells outcome) = tt
-no_host n hosts s (Does deed) = tt
+-- ---- as the code serves it
 
-plan_rooms : (n count : ℕ) (hosts : List (List ℕ)) (s : CoreState) (call : CallItem) → HasRoomFor n hosts s (host_of call) (planned count hosts s call)
-unfolding planned
-plan_rooms n count hosts s (Lock a) = aimed_rooms n hosts s a (aimed count a.lock)
-plan_rooms n count hosts s (NmLock a) = aimed_rooms n hosts s a (aimed count a.lock)
-plan_rooms n count hosts s (Share a) = share_rooms n hosts s a (exported count a.fh)
-plan_rooms n count hosts s Null = tt
-plan_rooms n count hosts s (Granted a) = tt
-plan_rooms n count hosts s (Test a) = no_host n hosts s _
-plan_rooms n count hosts s (Cancel a) = no_host n hosts s _
-plan_rooms n count hosts s (Unlock a) = no_host n hosts s _
-plan_rooms n count hosts s (Unshare a) = no_host n hosts s _
-plan_rooms n count hosts s (FreeAll a) = no_host n hosts s _
+pub plan_fits : (count : ℕ) (f : FrontState) (s : CoreState) (call : CallItem) (plan : CallPlan) → planned count f s call ≡ plan → AreFit 0 s (deeds_of 0 s plan)
+plan_fits count f s call plan e = subst (λ (p : CallPlan). AreFit 0 s (deeds_of 0 s p)) e (call_takes 0 count f s call)
 
-pub host_room : (n count : ℕ) (hosts : List (List ℕ)) (s new : CoreState) (call : CallItem) (deed : Deed) (host : Option (List ℕ)) (answer : Option Answer) (effects : List Effect)
-    → planned count hosts s call ≡ Does deed → given n s deed ≡ (answer, effects, new) → host ≡ host_of call → HasHostRoom host answer hosts
-host_room n count hosts s new call deed host answer effects e is named =
-    subst (λ (h : Option (List ℕ)). HasHostRoom h answer hosts) (sym named)
-    (subst (λ (r : Given). HasHostRoom (host_of call) r.0 hosts) is (subst (λ (plan : Plan). HasRoomFor n hosts s (host_of call) plan) e (plan_rooms n count hosts s call)))
+-- the names of what is asked are short, and there is room for its host
+abbrev pub AsksWell : ℕ → FrontState → CoreState → Option (List ℕ) → CallPlan → Type 0
+AsksWell n f s host (Asking left a rest) = IsAskOf IsShort a × HasHostRoom host (ask n left s a).0 f.hosts
+AsksWell n f s host plan = Unit {0}
+
+pub plan_asks : (n count : ℕ) (f : FrontState) (s : CoreState) (call : CallItem) (plan : CallPlan) → CallFits call → planned count f s call ≡ plan → AsksWell n f s (host_of call) plan
+plan_asks n count f s call plan fits e = subst (AsksWell n f s (host_of call)) e (by_call (AsksWell n f s (host_of call)) (λ outcome. tt) n count f s call (λ a k. (k.short fits, k.room)) (λ deed k. tt))
+
+pub served_told : (n count : ℕ) (f : FrontState) (s : CoreState) (call : CallItem) (outcome : Outcome) (effects : List Effect) → planned count f s call ≡ Tells outcome → effects ≡ [] → served n count f s call ≡ (outcome, effects, f, s)
+unfolding served
+served_told n count f s call outcome effects e none = ap (carried n s f) e ∙ rw none refl
+
+pub served_asked : (n count : ℕ) (f after : FrontState) (s new : CoreState) (call : CallItem) (left : Rooms) (a : Ask) (answer : Answer) (effects : List Effect)
+    → planned count f s call ≡ asks (host_of call) f left a → ask n left s a ≡ (answer, effects, new) → after ≡ hosted (host_of call) answer f → served n count f s call ≡ (Answered answer, effects, after, new)
+unfolding served
+served_asked n count f after s new call left a answer effects e is noted =
+    ap (carried n s f) e
+    ∙ ap (λ (r : AskAnswered). (Answered r.0, r.1 ++ [], hosted (host_of call) r.0 f, r.2)) is
+    ∙ (λ i. (Answered answer, append-nil effects i, (sym noted) i, new))
+
+pub served_done : (n count : ℕ) (f : FrontState) (s new : CoreState) (call : CallItem) (deed : Deed) (effects : List Effect) → planned count f s call ≡ does f deed → given n s deed ≡ (None, effects, new) → served n count f s call ≡ (Ended, effects, f, new)
+unfolding served
+served_done n count f s new call deed effects e is = ap (carried n s f) e ∙ ap (λ (r : Given). (Ended, r.1 ++ [], f, r.2)) is ∙ ap (λ (told : List Effect). (Ended, told, f, new)) (append-nil effects)

@@ -1,5 +1,5 @@
 -- Each status of NLM has its cause, exactly.
-use Rattle.std.proofs.Common.{◌≡◌, ℕ, ◌+◌, ◌≤◌, Bool, true, false, inl, inr, List, Option, Some, None, refl, sym, ap, subst, ◌↔◌}
+use Rattle.std.proofs.Common.{◌≡◌, ℕ, ◌+◌, ◌≤◌, Bool, true, false, inl, inr, Option, Some, None, refl, sym, ap, subst, ◌↔◌}
 use Rattle.std.proofs.lemmas.Bool.{both_ways}
 use Rattle.xl_matrix.specs.declared.claim.Claim.{Claim}
 use Rattle.xl_matrix.specs.declared.claim.Extent.TheVariants.{Bytes}
@@ -20,13 +20,14 @@ use Rattle.xl_core.specs.State.{CoreState}
 use Rattle.xl_core.specs.declared.ask.Answer.{Answer}
 use Rattle.xl_core.specs.declared.ask.Answer.TheVariants as answers
 use Rattle.xl_core.specs.declared.ask.Ask.{Ask}
+use Rattle.xl_plan.specs.Plans.{carried}
 use Rattle.xl_front_nlm.proofs.AimLaws.{last_real}
 use Rattle.xl_front_nlm.proofs.AskLaws.{own_client}
 use Rattle.xl_front_nlm.specs.Aims.{exported, last_of, aimed, aimed_at, aimed_in}
 use Rattle.xl_front_nlm.specs.Asks.{test_ask, lock_ask, unlock_ask, rights_of, share_ask}
 use Rattle.xl_front_nlm.specs.Hosts.{rooms, host_rows}
 use Rattle.xl_front_nlm.specs.Results.{answer_status, status_of, test_answer_status, test_status}
-use Rattle.xl_front_nlm.specs.Serving.{Plan, at_bytes, on_file, if_found, lock_plan, planned, served_by, served}
+use Rattle.xl_front_nlm.specs.Serving.{CallPlan, at_bytes, on_file, if_found, lock_plan, planned, served}
 use Rattle.xl_front_nlm.specs.Standing.{waiter_for, does_wait, share_held}
 use Rattle.xl_front_nlm.specs.State.{FrontState}
 use Rattle.xl_front_nlm.specs.Statuses.{status_told, IsClaimTold, IsAskTold, IsTestTold, IsUnlockTold, IsLastTold, IsRangeTold, IsFileTold, IsLockTold, IsCancelTold, lock_claim, IsStatusDue}
@@ -149,32 +150,32 @@ unlock_exactly n left s a at good ends = λ status.
 itself : (told : NlmStatus) → Exactly told (λ status. status ≡ told)
 itself told = λ status. (λ e. sym e, λ e. sym e)
 
-last_exactly : (tell : Outcome → NlmStatus) (n : ℕ) (f : FrontState) (s : CoreState) (host : Option (List ℕ)) (l : LockItem) (plan : Aim → Plan) (due : Aim → NlmStatus → Type 0) (file : ℕ) (o : Option ℕ) → last_of l.l_offset l.l_len ≡ o → tell TooBig ≡ stats.Fbig
-    → ((at : Aim) → at.first ≤ at.last → Exactly (tell (served_by n f s host (plan at)).0) (due at)) → Exactly (tell (served_by n f s host (at_bytes plan (aimed_at l file o))).0) (IsLastTold l file due o)
-last_exactly tell n f s host l plan due file None e big each = subst (λ (x : NlmStatus). Exactly (tell TooBig) (λ status. status ≡ x)) big (itself (tell TooBig))
-last_exactly tell n f s host l plan due file (Some last) e big each = each (record { file = file; first = l.l_offset; last = last }) (last_real l.l_offset l.l_len last e)
+last_exactly : (tell : Outcome → NlmStatus) (n : ℕ) (f : FrontState) (s : CoreState) (l : LockItem) (plan : Aim → CallPlan) (due : Aim → NlmStatus → Type 0) (file : ℕ) (o : Option ℕ) → last_of l.l_offset l.l_len ≡ o → tell TooBig ≡ stats.Fbig
+    → ((at : Aim) → at.first ≤ at.last → Exactly (tell (carried n s f (plan at)).0) (due at)) → Exactly (tell (carried n s f (at_bytes plan (aimed_at l file o))).0) (IsLastTold l file due o)
+last_exactly tell n f s l plan due file None e big each = subst (λ (x : NlmStatus). Exactly (tell TooBig) (λ status. status ≡ x)) big (itself (tell TooBig))
+last_exactly tell n f s l plan due file (Some last) e big each = each (record { file = file; first = l.l_offset; last = last }) (last_real l.l_offset l.l_len last e)
 
-range_exactly : (tell : Outcome → NlmStatus) (n : ℕ) (f : FrontState) (s : CoreState) (host : Option (List ℕ)) (l : LockItem) (plan : Aim → Plan) (due : Aim → NlmStatus → Type 0) (o : Option ℕ) → tell NoFile ≡ stats.StaleFh → tell TooBig ≡ stats.Fbig
-    → ((at : Aim) → at.first ≤ at.last → Exactly (tell (served_by n f s host (plan at)).0) (due at)) → Exactly (tell (served_by n f s host (at_bytes plan (aimed_in l o))).0) (IsRangeTold l due o)
-range_exactly tell n f s host l plan due None stale big each = subst (λ (x : NlmStatus). Exactly (tell NoFile) (λ status. status ≡ x)) stale (itself (tell NoFile))
-range_exactly tell n f s host l plan due (Some file) stale big each = last_exactly tell n f s host l plan due file (last_of l.l_offset l.l_len) refl big each
+range_exactly : (tell : Outcome → NlmStatus) (n : ℕ) (f : FrontState) (s : CoreState) (l : LockItem) (plan : Aim → CallPlan) (due : Aim → NlmStatus → Type 0) (o : Option ℕ) → tell NoFile ≡ stats.StaleFh → tell TooBig ≡ stats.Fbig
+    → ((at : Aim) → at.first ≤ at.last → Exactly (tell (carried n s f (plan at)).0) (due at)) → Exactly (tell (carried n s f (at_bytes plan (aimed_in l o))).0) (IsRangeTold l due o)
+range_exactly tell n f s l plan due None stale big each = subst (λ (x : NlmStatus). Exactly (tell NoFile) (λ status. status ≡ x)) stale (itself (tell NoFile))
+range_exactly tell n f s l plan due (Some file) stale big each = last_exactly tell n f s l plan due file (last_of l.l_offset l.l_len) refl big each
 
-file_exactly : (n : ℕ) (f : FrontState) (s : CoreState) (host : Option (List ℕ)) (plan : ℕ → Plan) (due : ℕ → NlmStatus → Type 0) (o : Option ℕ)
-    → ((file : ℕ) → Exactly (status_of (served_by n f s host (plan file)).0) (due file)) → Exactly (status_of (served_by n f s host (on_file plan o)).0) (IsFileTold due o)
-file_exactly n f s host plan due None each = itself stats.StaleFh
-file_exactly n f s host plan due (Some file) each = each file
+file_exactly : (n : ℕ) (f : FrontState) (s : CoreState) (plan : ℕ → CallPlan) (due : ℕ → NlmStatus → Type 0) (o : Option ℕ)
+    → ((file : ℕ) → Exactly (status_of (carried n s f (plan file)).0) (due file)) → Exactly (status_of (carried n s f (on_file plan o)).0) (IsFileTold due o)
+file_exactly n f s plan due None each = itself stats.StaleFh
+file_exactly n f s plan due (Some file) each = each file
 
-lock_exactly : (n : ℕ) (f : FrontState) (s : CoreState) (host : Option (List ℕ)) (hosts : List (List ℕ)) (a : LockArgsItem) (at : Aim) (b : Bool) → does_wait s a at ≡ b → Exactly (status_of (served_by n f s host (lock_plan hosts s a at)).0) (IsLockTold b (rooms hosts) s (lock_ask (host_rows a.lock.caller_name hosts) a at) (lock_claim hosts s a at))
-lock_exactly n f s host hosts a at true e = rw e (itself stats.Blocked)
-lock_exactly n f s host hosts a at false e = rw e (claim_exactly n (rooms hosts) s (lock_ask (host_rows a.lock.caller_name hosts) a at) (whats.Range (Bytes at.first at.last) a.exclusive) refl)
+lock_exactly : (n : ℕ) (f : FrontState) (s : CoreState) (a : LockArgsItem) (at : Aim) (b : Bool) → does_wait s a at ≡ b → Exactly (status_of (carried n s f (lock_plan f s a at)).0) (IsLockTold b (rooms f.hosts) s (lock_ask (host_rows a.lock.caller_name f.hosts) a at) (lock_claim f.hosts s a at))
+lock_exactly n f s a at true e = rw e (itself stats.Blocked)
+lock_exactly n f s a at false e = rw e (claim_exactly n (rooms f.hosts) s (lock_ask (host_rows a.lock.caller_name f.hosts) a at) (whats.Range (Bytes at.first at.last) a.exclusive) refl)
 
-cancel_exactly : (n : ℕ) (f : FrontState) (s : CoreState) (host : Option (List ℕ)) (o : Option ℕ) → Exactly (status_of (served_by n f s host (if_found NotWaiting (λ id. Cancels id) o)).0) (IsCancelTold o)
-cancel_exactly n f s host None = itself stats.Denied
-cancel_exactly n f s host (Some id) = itself stats.Granted
+cancel_exactly : (n : ℕ) (f : FrontState) (s : CoreState) (o : Option ℕ) → Exactly (status_of (carried n s f (if_found f NotWaiting (λ id. Cancels id) o)).0) (IsCancelTold o)
+cancel_exactly n f s None = itself stats.Denied
+cancel_exactly n f s (Some id) = itself stats.Granted
 
-unshare_exactly : (n : ℕ) (f : FrontState) (s : CoreState) (host : Option (List ℕ)) (o : Option Claim) → Exactly (status_of (served_by n f s host (if_found Ended (λ claim. GivesBack claim) o)).0) (λ told. told ≡ stats.Granted)
-unshare_exactly n f s host None = itself stats.Granted
-unshare_exactly n f s host (Some claim) = itself stats.Granted
+unshare_exactly : (n : ℕ) (f : FrontState) (s : CoreState) (o : Option Claim) → Exactly (status_of (carried n s f (if_found f Ended (λ claim. GivesBack claim) o)).0) (λ told. told ≡ stats.Granted)
+unshare_exactly n f s None = itself stats.Granted
+unshare_exactly n f s (Some claim) = itself stats.Granted
 
 -- ---- a call
 
@@ -190,16 +191,16 @@ status_due n count f s Null status good = (λ e. absurd cc, λ due. absurd due)
 status_due n count f s (Granted a) status good = (λ e. absurd cc, λ due. absurd due)
 status_due n count f s (FreeAll a) status good = (λ e. absurd cc, λ due. absurd due)
 status_due n count f s (Test a) status good =
-    told_some _ _ (range_exactly test_status n f s None a.lock _ _ (exported count a.lock.fh) refl refl (λ at ends. test_exactly n (rooms f.hosts) s a at)) status
+    told_some _ _ (range_exactly test_status n f s a.lock _ _ (exported count a.lock.fh) refl refl (λ at ends. test_exactly n (rooms f.hosts) s a at)) status
 status_due n count f s (Lock a) status good =
-    told_some _ _ (range_exactly status_of n f s (Some a.lock.caller_name) a.lock _ _ (exported count a.lock.fh) refl refl (λ at ends. lock_exactly n f s (Some a.lock.caller_name) f.hosts a at (does_wait s a at) refl)) status
+    told_some _ _ (range_exactly status_of n f s a.lock _ _ (exported count a.lock.fh) refl refl (λ at ends. lock_exactly n f s a at (does_wait s a at) refl)) status
 status_due n count f s (NmLock a) status good =
-    told_some _ _ (range_exactly status_of n f s (Some a.lock.caller_name) a.lock _ _ (exported count a.lock.fh) refl refl (λ at ends. lock_exactly n f s (Some a.lock.caller_name) f.hosts a at (does_wait s a at) refl)) status
+    told_some _ _ (range_exactly status_of n f s a.lock _ _ (exported count a.lock.fh) refl refl (λ at ends. lock_exactly n f s a at (does_wait s a at) refl)) status
 status_due n count f s (Cancel a) status good =
-    told_some _ _ (range_exactly status_of n f s None a.lock _ _ (exported count a.lock.fh) refl refl (λ at ends. cancel_exactly n f s None (waiter_for s a.lock a.exclusive at))) status
+    told_some _ _ (range_exactly status_of n f s a.lock _ _ (exported count a.lock.fh) refl refl (λ at ends. cancel_exactly n f s (waiter_for s a.lock a.exclusive at))) status
 status_due n count f s (Unlock a) status good =
-    told_some _ _ (range_exactly status_of n f s None a.lock _ _ (exported count a.lock.fh) refl refl (λ at ends. unlock_exactly n (rooms f.hosts) s a at good ends)) status
+    told_some _ _ (range_exactly status_of n f s a.lock _ _ (exported count a.lock.fh) refl refl (λ at ends. unlock_exactly n (rooms f.hosts) s a at good ends)) status
 status_due n count f s (Share a) status good =
-    told_some _ _ (file_exactly n f s (Some a.caller_name) _ _ (exported count a.fh) (λ file. claim_exactly n (rooms f.hosts) s (share_ask (host_rows a.caller_name f.hosts) a file) (whats.Share (rights_of a.access) (rights_of a.mode)) refl)) status
+    told_some _ _ (file_exactly n f s _ _ (exported count a.fh) (λ file. claim_exactly n (rooms f.hosts) s (share_ask (host_rows a.caller_name f.hosts) a file) (whats.Share (rights_of a.access) (rights_of a.mode)) refl)) status
 status_due n count f s (Unshare a) status good =
-    told_some _ _ (file_exactly n f s None _ _ (exported count a.fh) (λ file. unshare_exactly n f s None (share_held s a file))) status
+    told_some _ _ (file_exactly n f s _ _ (exported count a.fh) (λ file. unshare_exactly n f s (share_held s a file))) status

@@ -1,30 +1,22 @@
--- What an ask changes of the core.
-use Rattle.std.proofs.Common.{◌≡◌, ℕ, ◌≤◌, ◌<◌, Bool, true, false, if◌then◌else◌, cond, List, [], ◌∷◌, ◌++◌, length, Some, None, Ok, refl, sym, ap, subst, ◌∙◌, arith}
+-- A call is read, and there is room for its host.
+use Rattle.std.proofs.Common.{◌≡◌, ℕ, ◌≤◌, ◌<◌, true, false, List, length, Some, None, Ok, refl, sym, ap, ◌∙◌, arith}
 use Rattle.std.proofs.lemmas.Bool.{false≢true}
 use Rattle.std.specs.Bool.{◌==◌}
 use Rattle.xl_matrix.specs.declared.claim.Claim.{Claim}
 use Rattle.xl_matrix.specs.declared.claim.Extent.TheVariants.{Bytes}
 use Rattle.xl_matrix.specs.declared.claim.What.TheVariants as whats
-use Rattle.xl_names.specs.Names.{is_kept}
-use Rattle.xl_names.specs.declared.name.Name.{Name}
 use Rattle.xl_wait.specs.declared.waiter.Rooms.{Rooms}
 use Rattle.xl_table.specs.Relock.{granted_claims}
 use Rattle.xl_core.specs.State.{CoreState}
-use Rattle.xl_core.specs.Askers.{who_entered, both_entered, asked_claim, IsFit}
+use Rattle.xl_core.specs.Askers.{both_entered, asked_claim}
 use Rattle.xl_core.specs.Causes.{IsClaimDue}
 use Rattle.xl_core.specs.Decide.{way, ask}
-use Rattle.xl_core.specs.Frames.{asks_to_hold, names_after}
 use Rattle.xl_core.specs.Limits.{most_hosts}
-use Rattle.xl_core.proofs.FrameLaws.{ask_frame, goes_on_self}
 use Rattle.xl_core.proofs.LimitLaws.{grant_least, grant_room, wait_least, wait_room}
-use Rattle.xl_core.proofs.NumberLaws.{ask_numbers}
 use Rattle.xl_core.proofs.WayAsks.{ask_due}
 use Rattle.xl_core.specs.declared.ask.Answer.TheVariants as answers
 use Rattle.xl_core.specs.declared.ask.Answer.{Answer}
 use Rattle.xl_core.specs.declared.ask.Ask.{Ask}
-use Rattle.xl_core.specs.declared.ask.Effect.{Effect}
-use Rattle.xl_core.specs.declared.ask.Who.{Who}
-use Rattle.xl_core.specs.declared.ask.Who.TheVariants.{Named, Open}
 use Rattle.xl_nlm.specs.Items.{LockArgsItem, ShareArgsItem, CallItem}
 use Rattle.xl_nlm.specs.Arguments.{arguments_at}
 use Rattle.xl_programs.specs.Programs.{RequestItem}
@@ -32,59 +24,6 @@ use Rattle.xl_front_nlm.specs.FrontNlm.{whole_call, call_in}
 use Rattle.xl_front_nlm.specs.Asks.{lock_ask, rights_of, share_ask}
 use Rattle.xl_front_nlm.specs.Hosts.{is_host, rooms, host_rows, makes_host}
 use Rattle.xl_front_nlm.specs.declared.aim.Aim.{Aim}
-use Rattle.xl_front_nlm.specs.Short.{IsShort, AreShort, IsShortWho, IsShortAsk, Grows, IsReady, Leaves}
-
--- ---- nothing changes
-
-pub grows_self : (s : CoreState) → AreShort s.names → Grows s s
-grows_self s short = record { numbers = omega arith; short = short }
-
-pub leaves_self : (s : CoreState) → IsReady s → Leaves s s
-leaves_self s ready = record { on = goes_on_self s; good = ready.good; grows = grows_self s ready.short }
-
--- ---- short names
-
-short_push : (names : List Name) (name : Name) → AreShort names → IsShort name → AreShort (names ++ name ∷ [])
-short_push [] name short one = (one, tt)
-short_push (n ∷ ns) name short one = (short.0, short_push ns name short.1 one)
-
-short_cond : (b : Bool) (names : List Name) (name : Name) → AreShort names → IsShort name → AreShort (cond b names (names ++ name ∷ []))
-short_cond true names name short one = short
-short_cond false names name short one = short_push names name short one
-
-who_short : (who : Who) (names : List Name) → AreShort names → IsShortWho who → AreShort (who_entered who names)
-who_short (Named name) names short one = short_cond (is_kept name names) names name short one
-who_short (Open number) names short one = short
-
-both_short : (a : Ask) (names : List Name) → AreShort names → IsShortAsk a → AreShort (both_entered a names)
-both_short a names short small = who_short a.party (who_entered a.owner names) (who_short a.owner names short small.0) small.1
-
--- ---- an ask's names are short
-
--- what an answer leaves of the names
-short_by : (a : Ask) (names : List Name) (answer : Answer) → AreShort names → IsShortAsk a → AreShort (names_after a answer names)
-short_by a names (answers.Granted c) short small = either (asks_to_hold a.act) where
-  either : (b : Bool) → AreShort (if b then both_entered a names else names)
-  either true = both_short a names short small
-  either false = short
-short_by a names (answers.Queued id) short small = both_short a names short small
-short_by a names (answers.Conflict c) short small = short
-short_by a names (answers.Recall c) short small = short
-short_by a names (answers.Grace until) short small = short
-short_by a names (answers.NoGrace clock) short small = short
-short_by a names answers.NotRecorded short small = short
-short_by a names (answers.Full limit) short small = short
-short_by a names answers.NotHeld short small = short
-short_by a names answers.StoreFailed short small = short
-
-pub ask_grows : (n : ℕ) (left : Rooms) (s new : CoreState) (a : Ask) (answer : Answer) (effects : List Effect) → ask n left s a ≡ (answer, effects, new) → IsFit a → IsReady s → IsShortAsk a → Grows s new
-ask_grows n left s new a answer effects e fit ready small =
-    let r = ask n left s a in
-    subst (λ (t : CoreState). Grows s t) (ap (λ (x : Answer × List Effect × CoreState). x.2) e)
-    (record {
-      numbers = ask_numbers n left s a ready.good fit;
-      short = subst (λ (names : List Name). AreShort names) (sym (ask_frame n left s a ready.good fit.party).names) (short_by a s.names r.0 ready.short small);
-    })
 
 -- ---- a grant and a wait have room for their hosts
 

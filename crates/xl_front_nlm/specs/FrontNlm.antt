@@ -16,10 +16,13 @@ use Rattle.xl_core.specs.State.{CoreState}
 use Rattle.xl_core.specs.Deeds.{Deed}
 use Rattle.xl_core.specs.declared.ask.Answer.{Answer}
 use Rattle.xl_core.specs.declared.ask.Effect.{Effect}
+use Rattle.xl_plan.specs.Answers.{by_answers}
+use Rattle.xl_plan.specs.Plans.{deeds_of}
 use Rattle.xl_front_nlm.specs.Results.{reply_of}
-use Rattle.xl_front_nlm.specs.Serving.{planned, deeds_of, outcome_told, served, client_of}
+use Rattle.xl_front_nlm.specs.Serving.{planned, served, client_of}
 use Rattle.xl_front_nlm.specs.State.{FrontState}
 use Rattle.xl_front_nlm.specs.declared.outcome.Outcome.{Outcome}
+use Rattle.xl_front_nlm.specs.declared.outcome.Outcome.TheVariants.{Ended}
 
 -- ---- the call that a request is
 
@@ -38,21 +41,22 @@ nlm_client r = option_and_then (λ call. client_of call) (call_in r)
 
 -- ---- what it does, and what it is answered
 
-abbrev pub call_deeds : ℕ → List (List ℕ) → CoreState → Option CallItem → List Deed
-call_deeds count hosts s None = []
-call_deeds count hosts s (Some call) = deeds_of (planned count hosts s call)
+abbrev pub call_deeds : ℕ → ℕ → FrontState → CoreState → Option CallItem → List Deed
+call_deeds n count f s None = []
+call_deeds n count f s (Some call) = deeds_of n s (planned count f s call)
 
--- What a request does to the core: what the table has for its call, and nothing where the arguments are garbage.
-abbrev pub nlm_deeds : Exports → FrontState → CoreState → RequestItem → List Deed
-nlm_deeds exports f s r = call_deeds (length exports.files) f.hosts s (call_in r)
+-- What a request does to the core, in a step of which n stores succeed: what the table has for its call, and nothing where the
+-- arguments are garbage.
+abbrev pub nlm_deeds : ℕ → Exports → FrontState → CoreState → RequestItem → List Deed
+nlm_deeds n exports f s r = call_deeds n (length exports.files) f s (call_in r)
 
-abbrev pub call_reply : ℕ → List (List ℕ) → CoreState → List Name → ℕ → Option CallItem → List Answer → List ℕ
-call_reply count hosts s names xid None answers = reply xid GarbageArgs
-call_reply count hosts s names xid (Some call) answers = reply xid Success ++ results (reply_of names call (outcome_told (planned count hosts s call) answers))
+abbrev pub call_reply : ℕ → FrontState → CoreState → List Name → ℕ → Option CallItem → List Answer → List ℕ
+call_reply count f s names xid None answers = reply xid GarbageArgs
+call_reply count f s names xid (Some call) answers = reply xid Success ++ results (reply_of names call (by_answers s f Ended (planned count f s call) answers).0)
 
 -- What it is answered: a function of its call and of what its deeds are answered. These are the names kept afterwards.
 abbrev pub nlm_reply : Exports → FrontState → CoreState → List Name → RequestItem → List Answer → List ℕ
-nlm_reply exports f s names r answers = call_reply (length exports.files) f.hosts s names r.xid (call_in r) answers
+nlm_reply exports f s names r answers = call_reply (length exports.files) f s names r.xid (call_in r) answers
 
 -- ---- a step: a reply, the effects, and the front and the core afterwards
 

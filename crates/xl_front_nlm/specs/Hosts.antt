@@ -1,5 +1,5 @@
 -- The hosts: the caller names that were granted something or waited since the start, in order of arrival.
-use Rattle.std.specs.Prelude.{◌≡◌, ℕ, ◌-◌, ◌<◌, ◌≤◌, Bool, true, false, not, bytes_eq, if◌then◌else◌, List, [], ◌∷◌, ◌++◌, length, Option, Some}
+use Rattle.std.specs.Prelude.{◌≡◌, ℕ, ◌-◌, ◌<◌, ◌≤◌, Bool, true, false, not, bytes_eq, if◌then◌else◌, List, [], ◌∷◌, ◌++◌, length, Option, Some, None}
 use Rattle.std.specs.List.{list_any}
 use Rattle.xl_base.specs.Lists.{Pairwise}
 use Rattle.xl_wait.specs.declared.waiter.Rooms.{Rooms}
@@ -42,6 +42,6 @@ abbrev pub hosts_after : Answer → List ℕ → List (List ℕ) → List (List 
 hosts_after answer caller hosts = if makes_host answer then host_entered caller hosts else hosts
 
 -- there is room for the caller, where the answer makes it a new host
-abbrev pub HasHostRoom : Option (List ℕ) → Option Answer → List (List ℕ) → Type 0
-HasHostRoom (Some caller) (Some answer) hosts = makes_host answer ≡ true → is_host caller hosts ≡ false → length hosts < most_hosts
-HasHostRoom _ _ hosts = Unit {0}
+abbrev pub HasHostRoom : Option (List ℕ) → Answer → List (List ℕ) → Type 0
+HasHostRoom (Some caller) answer hosts = makes_host answer ≡ true → is_host caller hosts ≡ false → length hosts < most_hosts
+HasHostRoom None answer hosts = Unit {0}

@@ -86,9 +86,9 @@ fn give_up<K: Keeper>(
 ) -> Result<Sequence<Effect>, AllocError>
     requires ends { grant.now.first ≤ grant.now.last }
     requires small { IsShortGrant grant.now }
-    requires ready { IsReady core.old }
+    requires ready { IsReady 0 core.old }
     ensures done { (n : ℕ) (hosts : List (List ℕ)) → left.now ≡ rooms hosts → IfOk result (λ effects. MayBe n core.new → given_up n hosts core.old (Some grant.now) ≡ (effects, core.new)) }
-    ensures leaves { OnOk result (Leaves core.old core.new) }
+    ensures leaves { OnOk result (Leaves 2 core.old core.new) }
     ensures keeper { keeper.new ≡ keeper.old }
 {
     let request = refusal_ask(alloc, grant)?;
@@ -102,7 +102,7 @@ fn give_up<K: Keeper>(
 /// room the owner keeps it, as it does after any other reply or none. At least 65,536 numbers must be left to give out,
 /// beside those that who waits and the recalls to come may take; none is. After an error nothing is known of the front and
 /// the core.
-#[tactic(auto, unfolding(crate::specs::Answers::nlm_called), using(crate::proofs::StepLaws::leaves_self))]
+#[tactic(auto, unfolding(crate::specs::Answers::nlm_called), using(crate::proofs::LeaveLaws::leaves_self))]
 pub fn nlm_called<K: Keeper>(
     alloc: Global,
     layers: NlmLayers,
@@ -110,9 +110,9 @@ pub fn nlm_called<K: Keeper>(
     number: u64,
     reply: Option<&[u8]>,
 ) -> Result<Sequence<Effect>, AllocError>
-    requires ready { IsReady layers.core.now }
+    requires ready { IsReady 0 layers.core.now }
     ensures state { (n : ℕ) → IfOk result (λ effects. MayBe n (core_of layers.exit) → nlm_called n layers.entry.front.now layers.entry.core.now number (option_map (λ bytes. bytes.now) reply.entry) ≡ (effects, front_of layers.exit, core_of layers.exit)) }
-    ensures leaves { OnOk result (Leaves layers.entry.core.now (core_of layers.exit)) }
+    ensures leaves { OnOk result (Leaves 2 layers.entry.core.now (core_of layers.exit)) }
     ensures hosts { (front_of layers.exit).hosts ≡ layers.entry.front.now.hosts }
     ensures keeper { keeper.new ≡ keeper.old }
 {

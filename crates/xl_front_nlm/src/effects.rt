@@ -27,9 +27,9 @@ fn tell(
 ) -> Result<Sequence<Out>, AllocError>
     requires range { IsRangeBy claim.now.what }
     requires small { IsShortGrant grant.now }
-    requires ready { IsReady layers.core.now }
+    requires ready { IsReady 0 layers.core.now }
     ensures state { IfOk result (λ outs. told_by layers.entry.front.now layers.entry.core.now (Some (claim.now, grant.now, to.now)) ≡ (outs, front_of layers.exit, core_of layers.exit)) }
-    ensures leaves { OnOk result (Leaves layers.entry.core.now (core_of layers.exit)) }
+    ensures leaves { OnOk result (Leaves 2 layers.entry.core.now (core_of layers.exit)) }
     ensures little { IfOk result (λ outs. AllByRecursion FitsFrame outs) }
 {
     let number = layers.core.draw();
@@ -43,16 +43,16 @@ fn tell(
 }
 
 /// Tells of a grant, where its caller has an address.
-#[tactic(auto, using(crate::proofs::StepLaws::leaves_self))]
+#[tactic(auto, using(crate::proofs::LeaveLaws::leaves_self))]
 fn tell_grant(
     alloc: Global,
     exports: &Exports,
     layers: NlmLayers,
     claim: &Claim,
 ) -> Result<Sequence<Out>, AllocError>
-    requires ready { IsReady layers.core.now }
+    requires ready { IsReady 0 layers.core.now }
     ensures state { IfOk result (λ outs. told_by layers.entry.front.now layers.entry.core.now (option_map (λ told. (claim.now, told.0, told.1)) (addressed exports.now (grant_of layers.entry.core.now.names claim.now))) ≡ (outs, front_of layers.exit, core_of layers.exit)) }
-    ensures leaves { OnOk result (Leaves layers.entry.core.now (core_of layers.exit)) }
+    ensures leaves { OnOk result (Leaves 2 layers.entry.core.now (core_of layers.exit)) }
     ensures little { IfOk result (λ outs. AllByRecursion FitsFrame outs) }
 {
     let Some(grant) = grant_of(alloc, layers.core.names(), claim)? else {
@@ -69,16 +69,16 @@ fn tell_grant(
 /// sends nothing, nor does a break that began: no client of NLM has a cache. At least 65,536 numbers must be left to give
 /// out, beside those that who waits and the recalls to come may take. After an error nothing is known of the front and the
 /// core.
-#[tactic(auto, unfolding(crate::specs::Grants::shown), using(crate::proofs::StepLaws::leaves_self))]
+#[tactic(auto, unfolding(crate::specs::Grants::shown), using(crate::proofs::LeaveLaws::leaves_self))]
 pub fn shown(
     alloc: Global,
     exports: &Exports,
     layers: NlmLayers,
     effect: &Effect,
 ) -> Result<Sequence<Out>, AllocError>
-    requires ready { IsReady layers.core.now }
+    requires ready { IsReady 0 layers.core.now }
     ensures state { IfOk result (λ outs. shown exports.now layers.entry.front.now layers.entry.core.now effect.now ≡ (outs, front_of layers.exit, core_of layers.exit)) }
-    ensures leaves { OnOk result (Leaves layers.entry.core.now (core_of layers.exit)) }
+    ensures leaves { OnOk result (Leaves 2 layers.entry.core.now (core_of layers.exit)) }
     ensures little { IfOk result (λ outs. AllByRecursion FitsFrame outs) }
 {
     match effect {

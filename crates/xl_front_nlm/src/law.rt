@@ -14,13 +14,14 @@ ghost use Rattle.xl_programs.specs.Sent.{sent_to};
 ghost use Rattle.xl_rpc.specs.Replies.{reply};
 ghost use Rattle.xl_rpc.specs.Xdr.{UnsignedFits};
 ghost use Rattle.xl_rpc.specs.declared.reply.Verdict.TheVariants.{Success};
-ghost use Rattle.xl_core.specs.Clients.{AreOfSome};
+ghost use Rattle.xl_core.specs.Clients.{IsOfSome};
 ghost use Rattle.xl_core.specs.Good.{IsGood};
 ghost use Rattle.xl_core.specs.Deeds.{Asks, all_done, all_told_of, answers_of, AreFit};
 ghost use Rattle.xl_core.specs.State.{CoreState, drawn};
 ghost use Rattle.xl_core.specs.declared.ask.Answer.TheVariants.{Granted};
 ghost use Rattle.xl_core.specs.declared.ask.Effect.{Effect};
 ghost use Rattle.xl_core.specs.declared.ask.Effect.TheVariants.{Served};
+ghost use Rattle.xl_plan.specs.Plans.{AllAt};
 ghost use Rattle.xl_front_nlm.specs.Answers.{is_granted, refuses, called_deeds, nlm_called};
 ghost use Rattle.xl_front_nlm.specs.Asks.{refusal_ask};
 ghost use Rattle.xl_front_nlm.specs.FrontNlm.{nlm_client, nlm_deeds, nlm_reply, nlm_step};
@@ -36,8 +37,8 @@ ghost use Rattle.xl_front_nlm.specs.declared.grant.Grant.{Grant};
 /// and what telling of an effect leaves is what its deeds leave.
 #[tactic(auto, using(crate::proofs::DoesLaws::step_does, crate::proofs::DoesLaws::step_tells, crate::proofs::AnswerLaws::answer_does, crate::proofs::AnswerLaws::answer_tells, crate::proofs::GrantLaws::telling_does))]
 pub fn steps_are_their_deeds()
-    ensures requests { (n : ℕ) (exports : Exports) (f : FrontState) (s : CoreState) (conn : ℕ) (r : RequestItem) → (nlm_step n exports f s conn r).3 ≡ all_done n s (nlm_deeds exports f s r) }
-    ensures told { (n : ℕ) (exports : Exports) (f : FrontState) (s : CoreState) (conn : ℕ) (r : RequestItem) → (nlm_step n exports f s conn r).1 ≡ all_told_of n s (nlm_deeds exports f s r) }
+    ensures requests { (n : ℕ) (exports : Exports) (f : FrontState) (s : CoreState) (conn : ℕ) (r : RequestItem) → (nlm_step n exports f s conn r).3 ≡ all_done n s (nlm_deeds n exports f s r) }
+    ensures told { (n : ℕ) (exports : Exports) (f : FrontState) (s : CoreState) (conn : ℕ) (r : RequestItem) → (nlm_step n exports f s conn r).1 ≡ all_told_of n s (nlm_deeds n exports f s r) }
     ensures answers { (n : ℕ) (f : FrontState) (s : CoreState) (number : ℕ) (bytes : Option (List ℕ)) → (nlm_called n f s number bytes).2 ≡ all_done n s (called_deeds f s number bytes) }
     ensures heard { (n : ℕ) (f : FrontState) (s : CoreState) (number : ℕ) (bytes : Option (List ℕ)) → (nlm_called n f s number bytes).0 ≡ all_told_of n s (called_deeds f s number bytes) }
     ensures tellings { (n : ℕ) (exports : Exports) (f : FrontState) (s : CoreState) (effect : Effect) → (shown exports f s effect).2 ≡ all_done n s (shown_deeds exports s effect) }
@@ -46,22 +47,22 @@ pub fn steps_are_their_deeds()
 /// The core takes these deeds.
 #[tactic(auto, using(crate::proofs::DoesLaws::step_takes, crate::proofs::AnswerLaws::answer_takes, crate::proofs::GrantLaws::telling_takes))]
 pub fn deeds_are_taken()
-    ensures requests { (n : ℕ) (exports : Exports) (f : FrontState) (s : CoreState) (r : RequestItem) → AreFit n s (nlm_deeds exports f s r) }
+    ensures requests { (n : ℕ) (exports : Exports) (f : FrontState) (s : CoreState) (r : RequestItem) → AreFit n s (nlm_deeds n exports f s r) }
     ensures answers { (n : ℕ) (f : FrontState) (s : CoreState) (number : ℕ) (bytes : Option (List ℕ)) → AreFit n s (called_deeds f s number bytes) }
     ensures tellings { (n : ℕ) (exports : Exports) (s : CoreState) (effect : Effect) → AreFit n s (shown_deeds exports s effect) }
 {}
 
 /// Each deed of a request is of the client that it names; where it names none it does nothing.
-#[tactic(auto, using(crate::proofs::OwnLaws::step_own))]
+#[tactic(auto, using(crate::proofs::DoesLaws::step_own))]
 pub fn deeds_are_the_clients()
-    ensures { (n : ℕ) (exports : Exports) (f : FrontState) (s : CoreState) (r : RequestItem) → IsGood s → AreOfSome n s (nlm_client r) (nlm_deeds exports f s r) }
+    ensures { (n : ℕ) (exports : Exports) (f : FrontState) (s : CoreState) (r : RequestItem) → IsGood s → AllAt (λ t d. IsOfSome t (nlm_client r) d) n s (nlm_deeds n exports f s r) }
 {}
 
 /// A request is answered by one message, which goes back to the connection that it came from: a function of its call, of
 /// the state that it meets, of the names that are kept then, and of what its deeds are answered.
 #[tactic(auto, using(crate::proofs::DoesLaws::step_replies))]
 pub fn replies_follow_the_answers()
-    ensures { (n : ℕ) (exports : Exports) (f : FrontState) (s : CoreState) (conn : ℕ) (r : RequestItem) → (nlm_step n exports f s conn r).0 ≡ sent_to conn (nlm_reply exports f s (all_done n s (nlm_deeds exports f s r)).names r (answers_of n s (nlm_deeds exports f s r))) }
+    ensures { (n : ℕ) (exports : Exports) (f : FrontState) (s : CoreState) (conn : ℕ) (r : RequestItem) → (nlm_step n exports f s conn r).0 ≡ sent_to conn (nlm_reply exports f s (all_done n s (nlm_deeds n exports f s r)).names r (answers_of n s (nlm_deeds n exports f s r))) }
 {}
 
 /// Each call is told its status exactly where that has its cause: STALE_FH where the handle names no exported file, FBIG

@@ -11,7 +11,6 @@ mod front;
 mod grant;
 pub mod law;
 mod layers;
-mod leaving;
 mod outcome;
 mod plan;
 mod procedures;

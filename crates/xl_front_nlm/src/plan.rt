@@ -17,11 +17,9 @@ pub(crate) struct Context<'a> {
     pub core: &'a Core,
 }
 
-/// What a call does to the core.
+/// What a call does to the core, which gives no answer to it.
 #[derive(Drop)]
 pub(crate) enum Deed {
-    /// It asks this, where so much room is left in the tables of the fronts.
-    Asks(Rooms, Ask),
     /// It gives back this claim.
     GivesBack(Claim),
     /// It takes out the waiter of this number.
@@ -35,6 +33,8 @@ pub(crate) enum Deed {
 pub(crate) enum Plan {
     /// It is told so, and nothing is done.
     Tells(Outcome),
-    /// This is done, and it is told what comes of it.
+    /// This is asked, where so much room is left in the tables of the fronts, and it is told as it is answered.
+    Asks(Rooms, Ask),
+    /// This is done.
     Does(Deed),
 }

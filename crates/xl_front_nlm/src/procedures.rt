@@ -1,5 +1,5 @@
 //! What becomes of a call.
-ghost use Rattle.std.specs.Prelude.{◌≡◌, ℕ, option_map, IfOk, OnOk};
+ghost use Rattle.std.specs.Prelude.{◌≡◌, ℕ, None, option_map, IfOk, OnOk};
 ghost use Rattle.xl_names.specs.Names.{number_of};
 ghost use Rattle.xl_names.specs.declared.name.Name.TheVariants.{NlmParty};
 ghost use Rattle.xl_nlm.specs.Items.{shown_notify, shown_call, FreeAll};
@@ -7,11 +7,11 @@ ghost use Rattle.xl_nlm.specs.Arguments.{CallFits};
 ghost use Rattle.xl_core.specs.State.{MayBe};
 ghost use Rattle.xl_front_nlm.specs.Hosts.{HasHostRoom};
 ghost use Rattle.xl_front_nlm.specs.Plans.{shown_plan};
-ghost use Rattle.xl_front_nlm.specs.Serving.{planned, outcome_of, host_of, hosted, served};
+ghost use Rattle.xl_front_nlm.specs.Serving.{planned, host_of, hosted, served};
 ghost use Rattle.xl_front_nlm.specs.Layers.{core_of, front_of};
 ghost use Rattle.xl_front_nlm.specs.Short.{IsReady, Leaves};
 
-use crate::deeds::carry_out;
+use crate::deeds::{asked, carry_out};
 use crate::front::Front;
 use crate::layers::NlmLayers;
 use crate::outcome::Outcome;
@@ -34,7 +34,7 @@ fn party_number(alloc: Global, core: &Core, caller: &[u8]) -> Result<Option<u32>
 /// FREE_ALL.
 #[tactic(auto, unfolding(crate::specs::Serving::planned))]
 fn free_all(alloc: Global, context: &Context, args: &Notify) -> Result<Plan, AllocError>
-    ensures { IfOk result (λ plan. planned context.now.count context.now.front.now.hosts context.now.core.now (FreeAll (shown_notify args.now)) ≡ shown_plan plan) }
+    ensures { IfOk result (λ plan. planned context.now.count context.now.front.now context.now.core.now (FreeAll (shown_notify args.now)) ≡ shown_plan None context.now.front.now plan) }
 {
     match party_number(alloc, context.core, args.name)? {
         Some(number) => Ok(Plan::Does(Deed::Ends(number))),
@@ -45,7 +45,7 @@ fn free_all(alloc: Global, context: &Context, args: &Notify) -> Result<Plan, All
 /// What is to become of a call.
 #[tactic(auto, using(crate::proofs::DoesLaws::nm_lock_is_lock, crate::proofs::DoesLaws::null_tells_nothing, crate::proofs::DoesLaws::granted_tells_nothing))]
 fn planned(alloc: Global, context: &Context, call: &NlmCall) -> Result<Plan, AllocError>
-    ensures { IfOk result (λ plan. planned context.now.count context.now.front.now.hosts context.now.core.now (shown_call call.now) ≡ shown_plan plan) }
+    ensures { IfOk result (λ plan. planned context.now.count context.now.front.now context.now.core.now (shown_call call.now) ≡ shown_plan (host_of (shown_call call.now)) context.now.front.now plan) }
 {
     match call {
         NlmCall::Test(args) => ranges::test(alloc, context, args),
@@ -76,7 +76,7 @@ fn note_host(
     alloc: Global,
     front: &mut Front,
     caller: Option<&[u8]>,
-    answer: Option<Answer>,
+    answer: Answer,
 ) -> Result<(), AllocError>
     requires room { HasHostRoom (option_map (λ name. name.now) caller) answer front.old.hosts }
     ensures { OnOk result (front.new ≡ hosted (option_map (λ name. name.now) caller.entry) answer front.old) }
@@ -84,25 +84,12 @@ fn note_host(
     let Some(caller) = caller else {
         return Ok(());
     };
-    let Some(answer) = answer else {
-        return Ok(());
-    };
     front.note(answer, Sequence::from_slice(alloc, caller)?)?;
     Ok(())
 }
 
-/// What comes of a deed that the core answers so.
-fn outcome_of(answer: Option<Answer>) -> Outcome
-    ensures { result ≡ outcome_of answer }
-{
-    match answer {
-        Some(answer) => Outcome::Answered(answer),
-        None => Outcome::Ended,
-    }
-}
-
 /// What becomes of a call, where so many files are exported. Who calls may be a host from then on.
-#[tactic(auto, using(crate::proofs::StepLaws::leaves_self))]
+#[tactic(auto, using(crate::proofs::LeaveLaws::leaves_self))]
 pub(crate) fn serve<K: Keeper>(
     alloc: Global,
     count: usize,
@@ -111,17 +98,22 @@ pub(crate) fn serve<K: Keeper>(
     call: &NlmCall,
 ) -> Result<(Outcome, Sequence<Effect>), AllocError>
     requires fits { CallFits (shown_call call.now) }
-    requires ready { IsReady layers.core.now }
+    requires ready { IsReady 0 layers.core.now }
     ensures done { (n : ℕ) → IfOk result (λ r. MayBe n (core_of layers.exit) → served n count layers.entry.front.now layers.entry.core.now (shown_call call.now) ≡ (r.0, r.1, front_of layers.exit, core_of layers.exit)) }
-    ensures leaves { OnOk result (Leaves layers.entry.core.now (core_of layers.exit)) }
+    ensures leaves { OnOk result (Leaves 2 layers.entry.core.now (core_of layers.exit)) }
     ensures keeper { keeper.new ≡ keeper.old }
 {
     let NlmLayers { front, core } = layers;
-    let deed = match planned(alloc, &Context { count, front, core }, call)? {
+    let plan = planned(alloc, &Context { count, front, core }, call)?;
+    let (left, request) = match plan {
         Plan::Tells(outcome) => return Ok((outcome, Sequence::new(alloc))),
-        Plan::Does(deed) => deed,
+        Plan::Does(deed) => {
+            let effects = carry_out(alloc, core, deed)?;
+            return Ok((Outcome::Ended, effects));
+        }
+        Plan::Asks(left, request) => (left, request),
     };
-    let (answer, effects) = carry_out(alloc, core, keeper, deed)?;
+    let (answer, effects) = asked(alloc, core, keeper, &left, request)?;
     note_host(alloc, front, host_of(call), answer)?;
-    Ok((outcome_of(answer), effects))
+    Ok((Outcome::Answered(answer), effects))
 }

@@ -1,5 +1,5 @@
 //! What becomes of TEST, LOCK, UNLOCK and CANCEL.
-ghost use Rattle.std.specs.Prelude.{◌≡◌, IfOk};
+ghost use Rattle.std.specs.Prelude.{◌≡◌, Some, None, IfOk};
 ghost use Rattle.xl_nlm.specs.Items.{shown_test_args, shown_lock_args, shown_cancel_args, shown_unlock_args, Test, Lock, Cancel, Unlock};
 ghost use Rattle.xl_front_nlm.specs.Plans.{shown_plan};
 ghost use Rattle.xl_front_nlm.specs.Serving.{planned};
@@ -16,20 +16,20 @@ use xl_nlm::{CancelArgs, LockArgs, TestArgs, UnlockArgs};
 /// TEST.
 #[tactic(auto, unfolding(crate::specs::Serving::planned))]
 pub(crate) fn test(alloc: Global, context: &Context, args: &TestArgs) -> Result<Plan, AllocError>
-    ensures { IfOk result (λ plan. planned context.now.count context.now.front.now.hosts context.now.core.now (Test (shown_test_args args.now)) ≡ shown_plan plan) }
+    ensures { IfOk result (λ plan. planned context.now.count context.now.front.now context.now.core.now (Test (shown_test_args args.now)) ≡ shown_plan None context.now.front.now plan) }
 {
     let at = match aimed(context.count, &args.lock) {
         Ok(at) => at,
         Err(outcome) => return Ok(Plan::Tells(outcome)),
     };
     let request = test_ask(alloc, args, &at)?;
-    Ok(Plan::Does(Deed::Asks(context.front.rooms(), request)))
+    Ok(Plan::Asks(context.front.rooms(), request))
 }
 
 /// LOCK and NM_LOCK. Who waits for the same already waits on.
 #[tactic(auto, unfolding(crate::specs::Serving::planned))]
 pub(crate) fn lock(alloc: Global, context: &Context, args: &LockArgs) -> Result<Plan, AllocError>
-    ensures { IfOk result (λ plan. planned context.now.count context.now.front.now.hosts context.now.core.now (Lock (shown_lock_args args.now)) ≡ shown_plan plan) }
+    ensures { IfOk result (λ plan. planned context.now.count context.now.front.now context.now.core.now (Lock (shown_lock_args args.now)) ≡ shown_plan (Some args.now.lock.caller_name.now) context.now.front.now plan) }
 {
     let at = match aimed(context.count, &args.lock) {
         Ok(at) => at,
@@ -40,7 +40,7 @@ pub(crate) fn lock(alloc: Global, context: &Context, args: &LockArgs) -> Result<
     }
     let caller = Sequence::from_slice(alloc, args.lock.caller_name)?;
     let request = lock_ask(alloc, context.front.host_rows(&caller), args, &at)?;
-    Ok(Plan::Does(Deed::Asks(context.front.rooms(), request)))
+    Ok(Plan::Asks(context.front.rooms(), request))
 }
 
 /// UNLOCK.
@@ -50,14 +50,14 @@ pub(crate) fn unlock(
     context: &Context,
     args: &UnlockArgs,
 ) -> Result<Plan, AllocError>
-    ensures { IfOk result (λ plan. planned context.now.count context.now.front.now.hosts context.now.core.now (Unlock (shown_unlock_args args.now)) ≡ shown_plan plan) }
+    ensures { IfOk result (λ plan. planned context.now.count context.now.front.now context.now.core.now (Unlock (shown_unlock_args args.now)) ≡ shown_plan None context.now.front.now plan) }
 {
     let at = match aimed(context.count, &args.lock) {
         Ok(at) => at,
         Err(outcome) => return Ok(Plan::Tells(outcome)),
     };
     let request = unlock_ask(alloc, args, &at)?;
-    Ok(Plan::Does(Deed::Asks(context.front.rooms(), request)))
+    Ok(Plan::Asks(context.front.rooms(), request))
 }
 
 /// CANCEL.
@@ -67,7 +67,7 @@ pub(crate) fn cancel(
     context: &Context,
     args: &CancelArgs,
 ) -> Result<Plan, AllocError>
-    ensures { IfOk result (λ plan. planned context.now.count context.now.front.now.hosts context.now.core.now (Cancel (shown_cancel_args args.now)) ≡ shown_plan plan) }
+    ensures { IfOk result (λ plan. planned context.now.count context.now.front.now context.now.core.now (Cancel (shown_cancel_args args.now)) ≡ shown_plan None context.now.front.now plan) }
 {
     let at = match aimed(context.count, &args.lock) {
         Ok(at) => at,

@@ -65,7 +65,7 @@ fn garbage(alloc: Global, xid: u32) -> Result<(Vec<u8>, Sequence<Effect>), Alloc
 }
 
 /// The reply to a request.
-#[tactic(auto, using(crate::proofs::StepLaws::leaves_self))]
+#[tactic(auto, using(crate::proofs::LeaveLaws::leaves_self, crate::proofs::LeaveLaws::leaves_short))]
 fn replied<K: Keeper>(
     alloc: Global,
     count: usize,
@@ -74,9 +74,9 @@ fn replied<K: Keeper>(
     request: &Request,
 ) -> Result<(Vec<u8>, Sequence<Effect>), AllocError>
     requires known { serves Program.Nlm request.now.procedure ≡ true }
-    requires ready { IsReady layers.core.now }
+    requires ready { IsReady 0 layers.core.now }
     ensures done { (n : ℕ) → IfOk result (λ r. MayBe n (core_of layers.exit) → replied n count layers.entry.front.now layers.entry.core.now request.now.xid (call_in (shown_request request.now)) ≡ (r.0.items, r.1, front_of layers.exit, core_of layers.exit)) }
-    ensures leaves { OnOk result (Leaves layers.entry.core.now (core_of layers.exit)) }
+    ensures leaves { OnOk result (Leaves 2 layers.entry.core.now (core_of layers.exit)) }
     ensures keeper { keeper.new ≡ keeper.old }
     ensures little { IfOk result (λ r. length r.0.items ≤ most_message_bytes) }
 {
@@ -106,9 +106,9 @@ pub fn nlm_step<K: Keeper>(
     request: &Request,
 ) -> Result<(Sequence<Out>, Sequence<Effect>), AllocError>
     requires known { serves Program.Nlm request.now.procedure ≡ true }
-    requires ready { IsReady layers.core.now }
+    requires ready { IsReady 0 layers.core.now }
     ensures state { (n : ℕ) → IfOk result (λ r. MayBe n (core_of layers.exit) → nlm_step n exports.now layers.entry.front.now layers.entry.core.now conn (shown_request request.now) ≡ (r.0, r.1, front_of layers.exit, core_of layers.exit)) }
-    ensures leaves { OnOk result (Leaves layers.entry.core.now (core_of layers.exit)) }
+    ensures leaves { OnOk result (Leaves 2 layers.entry.core.now (core_of layers.exit)) }
     ensures little { IfOk result (λ r. AllByRecursion FitsFrame r.0) }
     ensures keeper { keeper.new ≡ keeper.old }
 {

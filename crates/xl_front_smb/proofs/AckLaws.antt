@@ -1,5 +1,5 @@
 -- Acknowledgements: what they leave, and that the core takes them.
-use Rattle.std.proofs.Common.{◌≡◌, ℕ, Bool, true, false, not, ◌&&◌, ◌||◌, List, [], ◌∷◌, Option, Some, None, if◌then◌else◌, refl, sym, ap, subst, ◌∙◌, inl, inr, arith, append-nil}
+use Rattle.std.proofs.Common.{◌≡◌, ℕ, Bool, true, false, not, ◌&&◌, ◌||◌, List, [], ◌∷◌, Option, Some, None, if◌then◌else◌, refl, sym, ap, ◌∙◌, inl, inr, arith, append-nil}
 use Rattle.std.specs.Prelude.{◌==◌, nat_lt}
 use Rattle.std.proofs.lemmas.Bool.{cases_Bool, true≢false, and_parts}
 use Rattle.std.proofs.lemmas.Bool.Decides.{nat_tests}
@@ -19,16 +19,11 @@ use Rattle.xl_smb_state.proofs.RowLaws.{none_some, same_Some}
 use Rattle.xl_smb_state.specs.State.{Lists, open_of}
 use Rattle.xl_core.specs.BreakAnswers.{may_be_left, ack}
 use Rattle.xl_core.specs.Deeds.{Acks}
-use Rattle.xl_core.specs.Good.{IsGood}
 use Rattle.xl_core.specs.Places.{is_cache_on}
 use Rattle.xl_core.specs.State.{CoreState}
 use Rattle.xl_core.specs.declared.ask.Effect.{Effect}
-use Rattle.xl_core.proofs.FrameLaws.{ack_frame}
-use Rattle.xl_core.proofs.NumberLaws.{ack_numbers}
-use Rattle.xl_smb_locks.proofs.LeaveLaws.{frame_leaves}
 use Rattle.xl_core.specs.Ids.{id_of}
 use Rattle.xl_smb_locks.specs.Levels.{cache_of, oplock_of}
-use Rattle.xl_smb_locks.specs.Short.{Leaves}
 use Rattle.xl_front_smb.specs.Files.{is_read, leaves_less, is_refused, left_at, may_keep, ack_by, ack_lease_by, ack_of, ack_open, lease_left, refused_ack, taken_ack}
 use Rattle.xl_front_smb.specs.Plans.{Does, Fails, carried, Outcome}
 use Rattle.xl_front_smb.specs.declared.told.Told.{Told}
@@ -109,11 +104,6 @@ pub acks : (n : ℕ) (s new : CoreState) (l : Lists) (cache : Claim) (to : Optio
 acks n s new l cache to told effects is =
     let r = ack s cache to in
     (λ i. (told, append-nil r.0 i, l, r.1)) ∙ ap (λ (x : List Effect × CoreState). (told, x.0, l, x.1)) is
-
-pub ack_leaves : (s new : CoreState) (cache : Claim) (to : Option CacheKind) (effects : List Effect) → ack s cache to ≡ (effects, new) → IsIn cache s.claims → may_be_left cache.what to ≡ true → IsGood new → Leaves 0 s new
-ack_leaves s new cache to effects is held may kept =
-    let same = ap (λ (r : List Effect × CoreState). r.1) is in
-    subst (λ (t : CoreState). Leaves 0 s t) same (frame_leaves s (ack s cache to).1 (ack s cache to).0 0 0 (subst (λ (t : CoreState). IsGood t) (sym same) kept) (ack_frame s cache to) (omega (arith, ack_numbers s cache to held may)))
 
 -- ---- what it comes to, by what the open has
 

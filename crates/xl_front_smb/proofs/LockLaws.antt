@@ -18,11 +18,9 @@ use Rattle.xl_core.specs.Deeds.{Deed, all_done, all_told_of}
 use Rattle.xl_core.specs.Good.{IsGood}
 use Rattle.xl_core.specs.Settle.{cancel}
 use Rattle.xl_core.specs.State.{CoreState}
-use Rattle.xl_core.proofs.FrameLaws.{cancel_frame}
-use Rattle.xl_core.proofs.NumberLaws.{cancel_numbers}
 use Rattle.xl_core.proofs.WayAsks.{ask_there}
 use Rattle.xl_smb_locks.specs.Short.{Leaves}
-use Rattle.xl_smb_locks.proofs.LeaveLaws.{frame_leaves}
+use Rattle.xl_plan.proofs.BudgetLaws.{cancel_leaves}
 use Rattle.xl_core.specs.declared.ask.Answer.{Answer}
 use Rattle.xl_core.specs.declared.ask.Answer.TheVariants as answers
 use Rattle.xl_core.specs.declared.ask.Ask.{Ask}
@@ -107,10 +105,5 @@ waiting_any id (w ∷ ws) = elim (cases_Bool (w.id == id)) [ inl is ↦ rw is re
 pub waiting_is : (id : ℕ) (ws vs : List Waiter) (b : Bool) → b ≡ list_any (λ (w : Waiter). w.id == id) vs → vs ≡ ws → b ≡ is_waiting id ws
 waiting_is id ws vs b is same = is ∙ ap (λ (xs : List Waiter). list_any (λ (w : Waiter). w.id == id) xs) same ∙ waiting_any id ws
 
-cancel_leaves : (s new : CoreState) (id : ℕ) (effects : List Effect) → cancel s id ≡ (effects, new) → is_waiting id s.waiters ≡ true → IsGood new → Leaves 0 s new
-cancel_leaves s new id effects e waits kept =
-    let same = ap (λ (r : List Effect × CoreState). r.1) e in
-    subst (λ (t : CoreState). Leaves 0 s t) same (frame_leaves s (cancel s id).1 (cancel s id).0 0 0 (subst (λ (t : CoreState). IsGood t) (sym same) kept) (cancel_frame s id waits) (omega (arith, cancel_numbers s id)))
-
 pub cancel_leaves_by : (s new : CoreState) (id : ℕ) (effects : List Effect) (ws : List Waiter) (b : Bool) → cancel s id ≡ (effects, new) → b ≡ is_waiting id ws → ws ≡ s.waiters → b ≡ true → IsGood new → Leaves 0 s new
-cancel_leaves_by s new id effects ws b e is same waits kept = cancel_leaves s new id effects e (ap (is_waiting id) (sym same) ∙ sym is ∙ waits) kept
+cancel_leaves_by s new id effects ws b e is same waits kept = cancel_leaves s new id effects (ap (is_waiting id) (sym same) ∙ sym is ∙ waits) e kept

@@ -13,7 +13,7 @@ use Rattle.xl_core.specs.State.{CoreState}
 use Rattle.xl_core.specs.declared.ask.Answer.{Answer}
 use Rattle.xl_core.specs.declared.ask.Effect.{Effect}
 use Rattle.xl_front_smb.specs.Ending.{all_dismissed}
-use Rattle.xl_front_smb.specs.Plans.{Plan, deeds_of, told_by, lists_by, Outcome, carried}
+use Rattle.xl_front_smb.specs.Plans.{Plan, deeds_of, answered_by, Outcome, carried}
 use Rattle.xl_front_smb.specs.Replies.{reply_of}
 use Rattle.xl_front_smb.specs.Requests.{requested}
 use Rattle.xl_front_smb.specs.State.{FrontSmb}
@@ -33,19 +33,19 @@ plan_for exports others f s conn bytes h = requested s exports.files others f.st
 
 -- ---- what it does
 
-abbrev pub deeds_for : Exports → ℕ → FrontSmb → CoreState → ℕ → List ℕ → Option SmbHead → List Deed
-deeds_for exports others f s conn bytes None = []
-deeds_for exports others f s conn bytes (Some h) = deeds_of (plan_for exports others f s conn bytes h)
+abbrev pub deeds_for : ℕ → Exports → ℕ → FrontSmb → CoreState → ℕ → List ℕ → Option SmbHead → List Deed
+deeds_for n exports others f s conn bytes None = []
+deeds_for n exports others f s conn bytes (Some h) = deeds_of n s f.state (plan_for exports others f s conn bytes h)
 
--- What a message does to the core, where the other fronts have so many opens.
+-- What a message does to the core, in a step of which n stores succeed and where the other fronts have so many opens.
 unfoldable pub smb_deeds : ℕ → Exports → ℕ → FrontSmb → CoreState → ℕ → List ℕ → List Deed
-smb_deeds n exports others f s conn bytes = deeds_for exports others f s conn bytes (head_heard (head_of bytes))
+smb_deeds n exports others f s conn bytes = deeds_for n exports others f s conn bytes (head_heard (head_of bytes))
 
 -- ---- what it is answered
 
 abbrev pub reply_for : Exports → ℕ → FrontSmb → CoreState → ℕ → List ℕ → List Answer → CoreState → Option SmbHead → Option (List ℕ)
 reply_for exports others f s conn bytes answers t None = None
-reply_for exports others f s conn bytes answers t (Some h) = reply_of h (told_by t (plan_for exports others f s conn bytes h) answers)
+reply_for exports others f s conn bytes answers t (Some h) = reply_of h (answered_by t f.state (plan_for exports others f s conn bytes h) answers).0
 
 -- What it is answered, without a frame, or none: a function of the message, of the state that it meets, of what its deeds are
 -- answered, and of the state that they leave.
@@ -54,14 +54,14 @@ smb_reply exports others f s conn bytes answers t = reply_for exports others f s
 
 -- ---- whom it cancels
 
-abbrev pub finals_for : Exports → ℕ → FrontSmb → CoreState → ℕ → List ℕ → List Answer → List Effect → Option SmbHead → List Out
-finals_for exports others f s conn bytes answers told None = []
-finals_for exports others f s conn bytes answers told (Some h) = (all_dismissed told (lists_by f.state (plan_for exports others f s conn bytes h) answers)).0
+abbrev pub finals_for : Exports → ℕ → FrontSmb → CoreState → ℕ → List ℕ → List Answer → List Effect → CoreState → Option SmbHead → List Out
+finals_for exports others f s conn bytes answers told t None = []
+finals_for exports others f s conn bytes answers told t (Some h) = (all_dismissed told (answered_by t f.state (plan_for exports others f s conn bytes h) answers).1).0
 
 -- All that is sent for it: the final replies to those whom it cancels, and its own reply. A function of the message, of the
 -- state that it meets, of what its deeds are answered and tell of, and of the state that they leave (HOUSE-1).
 unfoldable pub smb_replies : Exports → ℕ → FrontSmb → CoreState → ℕ → List ℕ → List Answer → List Effect → CoreState → List Out
-smb_replies exports others f s conn bytes answers told t = finals_for exports others f s conn bytes answers told (head_heard (head_of bytes)) ++ sent_by conn (smb_reply exports others f s conn bytes answers t)
+smb_replies exports others f s conn bytes answers told t = finals_for exports others f s conn bytes answers told t (head_heard (head_of bytes)) ++ sent_by conn (smb_reply exports others f s conn bytes answers t)
 
 -- ---- a step: what is sent, the effects, and the front and the core afterwards
 

@@ -7,18 +7,18 @@ use Rattle.xl_smb_state.specs.declared.row.Waiting.{Waiting}
 use Rattle.xl_wait.specs.Waiting.{no_rows}
 use Rattle.xl_smb_locks.specs.Finals.{open_refusal}
 use Rattle.xl_smb_locks.specs.Levels.{caching}
-use Rattle.xl_smb_locks.specs.Locks.{lock_told, lock_done}
+use Rattle.xl_smb_locks.specs.Locks.{lock_told}
 use Rattle.xl_smb_locks.specs.declared.levels.Caching.{Caching}
 use Rattle.xl_smb_locks.specs.declared.locking.Locking.{Locking}
 use Rattle.xl_smb_locks.specs.declared.locking.Locking.TheVariants as locking
 use Rattle.xl_wait.specs.declared.waiter.Rooms.{Rooms}
-use Rattle.xl_core.specs.Decide.{ask}
-use Rattle.xl_core.specs.Deeds.{Deed, Draws, Asks, all_done, all_told_of}
-use Rattle.xl_core.specs.State.{CoreState, drawn}
+use Rattle.xl_core.specs.Deeds.{Deed, Draws}
+use Rattle.xl_core.specs.State.{CoreState}
 use Rattle.xl_core.specs.declared.ask.Answer.{Answer}
 use Rattle.xl_core.specs.declared.ask.Answer.TheVariants.{Granted, Queued}
 use Rattle.xl_core.specs.declared.ask.Ask.{Ask}
-use Rattle.xl_core.specs.declared.ask.Effect.{Effect}
+use Rattle.xl_plan.specs.Answers.{by_answers}
+use Rattle.xl_plan.specs.Plans as plans
 use Rattle.xl_smb_locks.specs.declared.status.SmbStatus.{SmbStatus}
 use Rattle.xl_front_smb.specs.declared.told.Told.{Told}
 use Rattle.xl_front_smb.specs.declared.told.Told.TheVariants.{Nothing, Failed, Opened, Locked, Pending}
@@ -31,12 +31,6 @@ pub data Plan : Type 0 where
   Does : List Deed → Lists → Told → Plan
   Opens : Rooms → Ask → ℕ → Open → ℕ → Waiting → Plan
   Locks : Ask → Waiting → Plan
-
-abbrev pub deeds_of : Plan → List Deed
-deeds_of (Fails status) = []
-deeds_of (Does deeds lists told) = deeds
-deeds_of (Opens left a number row id waiting) = Draws ∷ Asks left a ∷ []
-deeds_of (Locks a row) = Asks no_rows a ∷ []
 
 -- ---- what an answer makes of it
 
@@ -75,51 +69,27 @@ lists_as row l locking.Done = l
 lists_as row l (locking.Failed status) = l
 lists_as row l (locking.Waits id) = with_waiting id row l
 
-abbrev pub first_told : ℕ → Caching → List Answer → Told
-first_told id cache [] = Nothing
-first_told id cache (answer ∷ answers) = opened_told id cache answer
-
-abbrev pub first_lists : Lists → ℕ → Open → Waiting → List Answer → Lists
-first_lists l number row waiting [] = l
-first_lists l number row waiting (answer ∷ answers) = opened_lists l number row waiting answer
-
-abbrev pub first_locked : List Answer → Told
-first_locked [] = Nothing
-first_locked (answer ∷ answers) = told_as (lock_told answer)
-
-abbrev pub first_kept : Waiting → Lists → List Answer → Lists
-first_kept row l [] = l
-first_kept row l (answer ∷ answers) = lists_as row l (lock_told answer)
-
--- what is told, by what the deeds are answered, and by the state that they leave
-abbrev pub told_by : CoreState → Plan → List Answer → Told
-told_by t (Fails status) answers = Failed status
-told_by t (Does deeds lists told) answers = told
-told_by t (Opens left a number row id waiting) answers = first_told id (caching t number row) answers
-told_by t (Locks a row) answers = first_locked answers
-
--- the lists then
-abbrev pub lists_by : Lists → Plan → List Answer → Lists
-lists_by l (Fails status) answers = l
-lists_by l (Does deeds lists told) answers = lists
-lists_by l (Opens left a number row id waiting) answers = first_lists l number row waiting answers
-lists_by l (Locks a row) answers = first_kept row l answers
-
 -- ---- what it comes to
+
+-- as a plan of the lists, by which this is told
+abbrev pub as_plan : Lists → Plan → plans.Plan Lists Told
+as_plan l (Fails status) = plans.Tells (Failed status)
+as_plan l (Does deeds lists told) = plans.Does deeds lists told
+as_plan l (Opens left a number row id waiting) =
+    plans.Behind (Draws ∷ []) l (λ u. plans.Asking left a (λ answer t. plans.Does [] (opened_lists l number row waiting answer) (opened_told id (caching t number row) answer)))
+as_plan l (Locks a row) = plans.Asking no_rows a (λ answer t. plans.Does [] (lists_as row l (lock_told answer)) (told_as (lock_told answer)))
+
+abbrev pub deeds_of : ℕ → CoreState → Lists → Plan → List Deed
+deeds_of n s l plan = plans.deeds_of n s (as_plan l plan)
 
 -- what is told, what the core tells of besides, the lists, and the core
 abbrev pub Outcome : Type 0
-Outcome = Told × List Effect × Lists × CoreState
-
-abbrev pub opened : Lists → ℕ → Open → ℕ → Waiting → Answer × List Effect × CoreState → Outcome
-opened l number row id waiting r = (opened_told id (caching r.2 number row) r.0, r.1, opened_lists l number row waiting r.0, r.2)
-
-abbrev pub locked : Lists → Waiting → Locking × List Effect × CoreState → Outcome
-locked l row r = (told_as r.0, r.1, lists_as row l r.0, r.2)
+Outcome = plans.Outcome Lists Told
 
 -- what a request comes to, in a step of which n stores succeed
 abbrev pub carried : ℕ → CoreState → Lists → Plan → Outcome
-carried n s l (Fails status) = (Failed status, [], l, s)
-carried n s l (Does deeds lists told) = (told, all_told_of n s deeds, lists, all_done n s deeds)
-carried n s l (Opens left a number row id waiting) = opened l number row id waiting (ask n left (drawn s) a)
-carried n s l (Locks a row) = locked l row (lock_done (ask n no_rows s a))
+carried n s l plan = plans.carried n s l (as_plan l plan)
+
+-- what is told and which lists are kept, by what the deeds are answered, and by the state that they leave
+abbrev pub answered_by : CoreState → Lists → Plan → List Answer → Told × Lists
+answered_by t l plan answers = by_answers t l Nothing (as_plan l plan) answers

@@ -254,7 +254,7 @@ fn has_room(state: &SmbState, others: u32, number: u32) -> bool
 }
 
 /// Opens a file, where there is room.
-#[tactic(auto, using(xl_smb_locks::proofs::LeaveLaws::leaves_self))]
+#[tactic(auto, using(xl_plan::proofs::BudgetLaws::leaves_self))]
 fn open_file<K: Keeper>(
     alloc: Global,
     state: &mut SmbState,
@@ -310,7 +310,7 @@ fn is_key_elsewhere(state: &SmbState, file: u32, key: Option<LeaseKey>) -> bool
 }
 
 /// Opens a file, where the key of the lease that is asked for isn't in use on another.
-#[tactic(auto, using(xl_smb_locks::proofs::LeaveLaws::leaves_self))]
+#[tactic(auto, using(xl_plan::proofs::BudgetLaws::leaves_self))]
 fn open_keyed<K: Keeper>(
     alloc: Global,
     state: &mut SmbState,
@@ -348,7 +348,7 @@ fn overwrites(disposition: u32) -> bool
 }
 
 /// Opens a file on a tree connect, where there is one of this name and it is only to be opened.
-#[tactic(auto, using(xl_smb_locks::proofs::LeaveLaws::leaves_self))]
+#[tactic(auto, using(xl_plan::proofs::BudgetLaws::leaves_self))]
 fn create_on<K: Keeper>(
     alloc: Global,
     files: &[Sequence<u8>],
@@ -387,7 +387,7 @@ fn create_on<K: Keeper>(
 }
 
 /// CREATE: in a session, on a tree connect of it.
-#[tactic(auto, unfolding(crate::specs::Files::create), using(xl_smb_locks::proofs::LeaveLaws::leaves_self))]
+#[tactic(auto, unfolding(crate::specs::Files::create), using(xl_plan::proofs::BudgetLaws::leaves_self))]
 pub(crate) fn create<K: Keeper>(
     alloc: Global,
     files: &[Sequence<u8>],

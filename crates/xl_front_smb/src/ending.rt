@@ -58,7 +58,7 @@ fn end_one(
 }
 
 /// Ends these opens, one after the other.
-#[tactic(auto, using(xl_smb_locks::proofs::LeaveLaws::leaves_self, xl_smb_locks::proofs::LeaveLaws::leaves_on, xl_smb_locks::proofs::LeaveLaws::ready_on, crate::proofs::EndLaws::ended_step))]
+#[tactic(auto, using(xl_plan::proofs::BudgetLaws::leaves_self, xl_smb_locks::proofs::LeaveLaws::leaves_on, xl_smb_locks::proofs::LeaveLaws::ready_on, crate::proofs::EndLaws::ended_step))]
 fn end_all(
     alloc: Global,
     core: &mut Core,

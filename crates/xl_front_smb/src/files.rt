@@ -27,7 +27,7 @@ use xl_smb_locks::{SmbStatus, cache_of, lease_party, oplock_of};
 use xl_smb_state::{LeaseKey, SmbState};
 
 /// An open ends with all that it holds.
-#[tactic(auto, using(crate::proofs::PlanLaws::closes, xl_smb_locks::proofs::LeaveLaws::close_leaves))]
+#[tactic(auto, using(crate::proofs::PlanLaws::closes, xl_plan::proofs::BudgetLaws::close_leaves))]
 fn close_open(
     alloc: Global,
     state: &mut SmbState,
@@ -47,7 +47,7 @@ fn close_open(
 }
 
 /// CLOSE: in a session, on a tree connect of it, of an open under the connection.
-#[tactic(auto, unfolding(crate::specs::Files::close), using(xl_smb_locks::proofs::LeaveLaws::leaves_self))]
+#[tactic(auto, unfolding(crate::specs::Files::close), using(xl_plan::proofs::BudgetLaws::leaves_self))]
 pub(crate) fn close(
     alloc: Global,
     state: &mut SmbState,
@@ -107,7 +107,7 @@ fn left_at(level: u8) -> Option<CacheKind>
 }
 
 /// Answers the break that runs of an open's oplock, so that this is left of it.
-#[tactic(auto, using(crate::proofs::AckLaws::acks, crate::proofs::AckLaws::ack_leaves))]
+#[tactic(auto, using(crate::proofs::AckLaws::acks, xl_plan::proofs::BudgetLaws::ack_leaves))]
 fn answer_break(
     alloc: Global,
     core: &mut Core,
@@ -165,7 +165,7 @@ fn ack_resting(alloc: Global, level: u8, kind: CacheKind) -> Done
 }
 
 /// What an acknowledgement of this level comes to, of an open that has this oplock.
-#[tactic(auto, using(xl_smb_locks::proofs::LeaveLaws::leaves_self))]
+#[tactic(auto, using(xl_plan::proofs::BudgetLaws::leaves_self))]
 fn ack_by(alloc: Global, core: &mut Core, id: u64, level: u8, cache: &Claim) -> Done
     requires ready { IsReady 0 core.old }
     requires held { IsIn cache.now core.old.claims }
@@ -194,7 +194,7 @@ fn ack_none(alloc: Global, level: u8) -> Done
 }
 
 /// What an acknowledgement of this level comes to, of an open.
-#[tactic(auto, using(xl_smb_locks::proofs::LeaveLaws::leaves_self))]
+#[tactic(auto, using(xl_plan::proofs::BudgetLaws::leaves_self))]
 fn ack_open(
     alloc: Global,
     state: &SmbState,
@@ -237,7 +237,7 @@ fn lease_left(lease: &Lease) -> Lease
 }
 
 /// What an acknowledgement of this state comes to, where this is the lease's cache.
-#[tactic(auto, using(xl_smb_locks::proofs::LeaveLaws::leaves_self, crate::proofs::AckLaws::kept_within))]
+#[tactic(auto, using(xl_plan::proofs::BudgetLaws::leaves_self, crate::proofs::AckLaws::kept_within))]
 fn ack_lease_by(alloc: Global, core: &mut Core, lease: &Lease, cache: &Claim) -> Done
     requires ready { IsReady 0 core.old }
     requires held { IsIn cache.now core.old.claims }
@@ -267,7 +267,7 @@ fn file_leased(state: &SmbState, client: &[u8; 16], key: &[u8; 16]) -> Option<u3
 }
 
 /// What an acknowledgement comes to, of a lease of a client.
-#[tactic(auto, using(xl_smb_locks::proofs::LeaveLaws::leaves_self))]
+#[tactic(auto, using(xl_plan::proofs::BudgetLaws::leaves_self))]
 fn ack_lease(
     alloc: Global,
     state: &SmbState,
@@ -291,7 +291,7 @@ fn ack_lease(
 }
 
 /// What an acknowledgement comes to, of an open under the connection or of a lease.
-#[tactic(auto, using(xl_smb_locks::proofs::LeaveLaws::leaves_self))]
+#[tactic(auto, using(xl_plan::proofs::BudgetLaws::leaves_self))]
 fn break_by(
     alloc: Global,
     state: &SmbState,
@@ -321,7 +321,7 @@ fn break_by(
 }
 
 /// An acknowledgement of a break (MS-SMB2 3.3.5.22.1): in a session, of an open under the connection, or of a lease.
-#[tactic(auto, unfolding(crate::specs::Files::acknowledge), using(xl_smb_locks::proofs::LeaveLaws::leaves_self))]
+#[tactic(auto, unfolding(crate::specs::Files::acknowledge), using(xl_plan::proofs::BudgetLaws::leaves_self))]
 pub(crate) fn acknowledge(
     alloc: Global,
     state: &SmbState,

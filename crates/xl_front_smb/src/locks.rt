@@ -153,7 +153,7 @@ fn unlock_all<K: Keeper>(
 }
 
 /// Locks or unlocks ranges of an open.
-#[tactic(auto, using(xl_smb_locks::proofs::LeaveLaws::leaves_self, xl_smb_locks::proofs::LeaveLaws::leaves_more, xl_smb_locks::proofs::LeaveLaws::ready_less, crate::proofs::LockLaws::counted))]
+#[tactic(auto, using(xl_plan::proofs::BudgetLaws::leaves_self, xl_plan::proofs::BudgetLaws::leaves_more, xl_plan::proofs::BudgetLaws::ready_less, crate::proofs::LockLaws::counted))]
 fn lock_on<K: Keeper>(
     alloc: Global,
     state: &mut SmbState,
@@ -205,7 +205,7 @@ pub(crate) fn open_row(state: &SmbState, number: u32) -> Option<Open>
 }
 
 /// Locks or unlocks ranges of an open that is found.
-#[tactic(auto, using(xl_smb_locks::proofs::LeaveLaws::leaves_self))]
+#[tactic(auto, using(xl_plan::proofs::BudgetLaws::leaves_self))]
 fn lock_found<K: Keeper>(
     alloc: Global,
     state: &mut SmbState,
@@ -234,7 +234,7 @@ fn lock_found<K: Keeper>(
 }
 
 /// LOCK: in a session, on a tree connect of it, of an open under the connection.
-#[tactic(auto, unfolding(crate::specs::Locks::lock), using(xl_smb_locks::proofs::LeaveLaws::leaves_self))]
+#[tactic(auto, unfolding(crate::specs::Locks::lock), using(xl_plan::proofs::BudgetLaws::leaves_self))]
 pub(crate) fn lock<K: Keeper>(
     alloc: Global,
     state: &mut SmbState,
@@ -307,7 +307,7 @@ fn is_waiting(queue: &Queue, id: u32) -> bool
 }
 
 /// CANCEL: the request that it names waits no more.
-#[tactic(auto, unfolding(crate::specs::Locks::cancel), using(xl_smb_locks::proofs::LeaveLaws::leaves_self))]
+#[tactic(auto, unfolding(crate::specs::Locks::cancel), using(xl_plan::proofs::BudgetLaws::leaves_self))]
 pub(crate) fn cancel(
     alloc: Global,
     state: &SmbState,

@@ -6,7 +6,7 @@ ghost use Rattle.xl_front_smb.specs.Short.{IsReady, Leaves};
 use xl_core::Core;
 
 /// Gives out the next number.
-#[tactic(auto, using(xl_smb_locks::proofs::LeaveLaws::drawn_leaves, xl_smb_locks::proofs::LeaveLaws::drawn_number, xl_smb_locks::proofs::LeaveLaws::drawn_stable))]
+#[tactic(auto, using(xl_plan::proofs::BudgetLaws::drawn_leaves, xl_plan::proofs::BudgetLaws::drawn_number, xl_plan::proofs::BudgetLaws::drawn_stable))]
 pub(crate) fn drawn(core: &mut Core) -> u32
     requires ready { IsReady 1 core.old }
     ensures state { core.new ≡ drawn core.old }

@@ -28,7 +28,7 @@ use xl_smb_state::SmbState;
 const LAST_COMMAND: u16 = 18;
 
 /// What a request of a client that has negotiated comes to.
-#[tactic(auto, unfolding(crate::specs::Requests::commanded), using(xl_smb_locks::proofs::LeaveLaws::leaves_self, xl_smb_locks::proofs::LeaveLaws::leaves_more, xl_smb_locks::proofs::LeaveLaws::ready_less))]
+#[tactic(auto, unfolding(crate::specs::Requests::commanded), using(xl_plan::proofs::BudgetLaws::leaves_self, xl_plan::proofs::BudgetLaws::leaves_more, xl_plan::proofs::BudgetLaws::ready_less))]
 fn commanded<K: Keeper>(
     alloc: Global,
     files: &[Sequence<u8>],
@@ -69,7 +69,7 @@ fn commanded<K: Keeper>(
 }
 
 /// What a request comes to, other than NEGOTIATE.
-#[tactic(auto, using(xl_smb_locks::proofs::LeaveLaws::leaves_self))]
+#[tactic(auto, using(xl_plan::proofs::BudgetLaws::leaves_self))]
 fn once_negotiated<K: Keeper>(
     alloc: Global,
     files: &[Sequence<u8>],
@@ -96,7 +96,7 @@ fn once_negotiated<K: Keeper>(
 }
 
 /// What a request comes to.
-#[tactic(auto, unfolding(crate::specs::Requests::planned), using(xl_smb_locks::proofs::LeaveLaws::leaves_self))]
+#[tactic(auto, unfolding(crate::specs::Requests::planned), using(xl_plan::proofs::BudgetLaws::leaves_self))]
 fn planned<K: Keeper>(
     alloc: Global,
     files: &[Sequence<u8>],
@@ -133,7 +133,7 @@ fn planned<K: Keeper>(
 }
 
 /// What a request of this header comes to.
-#[tactic(auto, unfolding(crate::specs::Requests::requested), using(xl_smb_locks::proofs::LeaveLaws::leaves_self, crate::proofs::ReplyLaws::answers_head))]
+#[tactic(auto, unfolding(crate::specs::Requests::requested), using(xl_plan::proofs::BudgetLaws::leaves_self, crate::proofs::ReplyLaws::answers_head))]
 pub(crate) fn requested<K: Keeper>(
     alloc: Global,
     files: &[Sequence<u8>],

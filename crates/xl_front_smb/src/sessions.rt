@@ -82,7 +82,7 @@ fn set_up_as(
 }
 
 /// A new session, where there is room.
-#[tactic(auto, using(xl_smb_locks::proofs::LeaveLaws::leaves_self))]
+#[tactic(auto, using(xl_plan::proofs::BudgetLaws::leaves_self))]
 fn set_up(
     alloc: Global,
     state: &mut SmbState,
@@ -103,7 +103,7 @@ fn set_up(
 }
 
 /// SESSION_SETUP: a new session, or one that is there already.
-#[tactic(auto, unfolding(crate::specs::Sessions::session_setup), using(xl_smb_locks::proofs::LeaveLaws::leaves_self))]
+#[tactic(auto, unfolding(crate::specs::Sessions::session_setup), using(xl_plan::proofs::BudgetLaws::leaves_self))]
 pub(crate) fn session_setup(
     alloc: Global,
     state: &mut SmbState,
@@ -128,7 +128,7 @@ pub(crate) fn session_setup(
 }
 
 /// LOGOFF: the opens under the session end, and it goes with its tree connects.
-#[tactic(auto, unfolding(crate::specs::Sessions::logoff), using(xl_smb_locks::proofs::LeaveLaws::leaves_self, crate::proofs::EndLaws::ended_told, crate::proofs::EndLaws::ended_done, crate::proofs::EndLaws::session_left))]
+#[tactic(auto, unfolding(crate::specs::Sessions::logoff), using(xl_plan::proofs::BudgetLaws::leaves_self, crate::proofs::EndLaws::ended_told, crate::proofs::EndLaws::ended_done, crate::proofs::EndLaws::session_left))]
 pub(crate) fn logoff(
     alloc: Global,
     state: &mut SmbState,
@@ -188,7 +188,7 @@ fn connect_as(
 }
 
 /// A new tree connect of a session, where there is room and the path is that of the share.
-#[tactic(auto, using(xl_smb_locks::proofs::LeaveLaws::leaves_self))]
+#[tactic(auto, using(xl_plan::proofs::BudgetLaws::leaves_self))]
 fn connect(
     alloc: Global,
     state: &mut SmbState,
@@ -214,7 +214,7 @@ fn connect(
 }
 
 /// TREE_CONNECT: in a session, to the one share.
-#[tactic(auto, unfolding(crate::specs::Sessions::tree_connect), using(xl_smb_locks::proofs::LeaveLaws::leaves_self))]
+#[tactic(auto, unfolding(crate::specs::Sessions::tree_connect), using(xl_plan::proofs::BudgetLaws::leaves_self))]
 pub(crate) fn tree_connect(
     alloc: Global,
     state: &mut SmbState,
@@ -255,7 +255,7 @@ fn disconnect(
 }
 
 /// TREE_DISCONNECT: in a session, on a tree connect of it.
-#[tactic(auto, unfolding(crate::specs::Sessions::tree_disconnect), using(xl_smb_locks::proofs::LeaveLaws::leaves_self))]
+#[tactic(auto, unfolding(crate::specs::Sessions::tree_disconnect), using(xl_plan::proofs::BudgetLaws::leaves_self))]
 pub(crate) fn tree_disconnect(
     alloc: Global,
     state: &mut SmbState,

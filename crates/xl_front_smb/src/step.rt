@@ -36,7 +36,7 @@ fn sent_by(alloc: Global, conn: u64, reply: Option<Vec<u8>>) -> Result<Sequence<
 /// TREE_DISCONNECT, CREATE, CLOSE, LOCK, CANCEL, ECHO and acknowledgements of the breaks of oplocks and leases are served. A
 /// CANCEL gets no reply, nor does what has no header of SMB 2.1 or is a reply by its flags. The breaks that begin for it come
 /// first among what the core tells of. After an error nothing is known of the front and the core.
-#[tactic(auto, unfolding(crate::specs::FrontSmb::smb_step), using(xl_smb_locks::proofs::LeaveLaws::leaves_self, xl_smb_locks::proofs::LeaveLaws::leaves_more, xl_smb_locks::proofs::LeaveLaws::ready_less, xl_smb_locks::proofs::FinalLaws::fit_both))]
+#[tactic(auto, unfolding(crate::specs::FrontSmb::smb_step), using(xl_plan::proofs::BudgetLaws::leaves_self, xl_plan::proofs::BudgetLaws::leaves_more, xl_plan::proofs::BudgetLaws::ready_less, xl_smb_locks::proofs::FinalLaws::fit_both))]
 pub fn smb_step<K: Keeper>(
     alloc: Global,
     exports: &Exports,

@@ -1,7 +1,6 @@
 -- Each request that waits in SMB's lists is awaited at each free moment, and each waiter of an SMB open has its request.
-use Rattle.std.proofs.Common.{◌≡◌, ℕ, zero, suc, Bool, true, false, not, if◌then◌else◌, List, [], ◌∷◌, length, Option, Some, None, refl, sym, ap, subst, ◌∙◌, append-nil}
+use Rattle.std.proofs.Common.{◌≡◌, ℕ, zero, suc, Bool, true, false, if◌then◌else◌, List, [], ◌∷◌, length, Option, Some, None, refl, sym, ap, ◌∙◌, append-nil}
 use Rattle.std.specs.Prelude.{nat_lt}
-use Rattle.std.specs.List.{AllByRecursion}
 use Rattle.std.proofs.lemmas.Bool.{true≢false}
 use Rattle.xl_base.proofs.Members.{all_weaker}
 use Rattle.xl_base.specs.declared.event.Event.{Event}
@@ -16,11 +15,10 @@ use Rattle.xl_programs.specs.declared.program.Program.TheVariants.{Nlm, Nfs}
 use Rattle.xl_smb_state.specs.Links.{AreDistinct, IsSound}
 use Rattle.xl_core.proofs.GoodLaws.{begun_good}
 use Rattle.xl_core.proofs.TickLaws.{tick_done, tick_fits, tick_tells}
-use Rattle.xl_core.specs.Deeds.{AreFit, Deed, Asks, GivesBack, Weakens, Acks, Cancels, Ends, Serves, Draws, Advances, Lapses, Renews, Expires, Closes, IsFitDeed, all_done, all_told_of, done, given, tick_deeds, turned}
+use Rattle.xl_core.specs.Deeds.{Deed, Asks, Serves, given, tick_deeds, turned}
 use Rattle.xl_core.specs.Good.{IsGood}
 use Rattle.xl_core.specs.Settle.{settle, turns_left}
 use Rattle.xl_core.specs.State.{CoreState, step_begun}
-use Rattle.xl_core.specs.Ticks.{tick}
 use Rattle.xl_core.specs.declared.ask.Answer.{Answer}
 use Rattle.xl_core.specs.declared.ask.Effect.{Effect}
 use Rattle.xl_front_nlm.proofs.AnswerLaws.{answer_does, answer_takes, answer_tells}
@@ -30,16 +28,15 @@ use Rattle.xl_nfs_laws.proofs.RequestDeedLaws as nfs
 use Rattle.xl_nfs_laws.proofs.RequestOwn as nfs_own
 use Rattle.xl_front_nfs.specs.FrontNfs.{nfs_deeds}
 use Rattle.xl_house.specs.Awaited.{IsAwaiting}
-use Rattle.xl_house.specs.Done.{end_given, given_by, message_given, own_deeds, program_given, record_given}
+use Rattle.xl_house.specs.Done.{own_deeds}
 use Rattle.xl_house.specs.Free.{IsFree}
 use Rattle.xl_house.specs.Lawful.{may_do}
-use Rattle.xl_house.specs.Machine.{Sent, Whole, after_turn, all_shown, begun_by, ended_by, heard, heard_by, kind_of, most_connections, nfs_opens, program_heard, record_heard, rooms_of, settled, settled_for, showing, smb_opens}
+use Rattle.xl_house.specs.Machine.{Given, Whole, after_turn, all_shown, begun_by, end_given, given_by, heard, kind_of, message_given, most_connections, nfs_opens, program_given, record_given, rooms_of, settled, settled_for, showing, smb_opens}
 use Rattle.xl_house.specs.declared.layers.Fronts.{Fronts}
 use Rattle.xl_smb_laws.specs.WaitingRequests.{is_open_ask}
 use Rattle.xl_house.proofs.PairedWaiterLaws.{Others, Stand, ToTell, begin_stands, deeds_tell, end_tells, message_tells, none_tells, one_tells, quiet_tell, same_stand}
 use Rattle.xl_house.proofs.DoneLaws.{own_may}
 use Rattle.xl_house.proofs.LawfulLaws.{begun_waits}
-use Rattle.xl_house.proofs.MachineLaws.{heard_good}
 use Rattle.xl_house.proofs.OthersLaws.{nlm_others, refusal_named, theirs_named}
 use Rattle.xl_house.proofs.SettleLaws.{turned_good}
 use Rattle.xl_house.proofs.ShownLaws.{all_shown_good, shown_one}
@@ -94,12 +91,12 @@ tick_others n s now good = all_weaker (λ d. may_do (Tick now) d ≡ true) (λ d
 abbrev pub Ready : Fronts → Type 0
 Ready f = IsSound f.smb.state × AreDistinct f.smb.state
 
-abbrev Tells : List Effect × Fronts × CoreState → Type 0
-Tells g = ToTell g.0 g.2 g.1.smb.state
+abbrev Tells : Given → Type 0
+Tells g = ToTell g.1 g.3 g.2.smb.state
 
 program_tells : (n : ℕ) (exports : Exports) (f : Fronts) (s : CoreState) (number : ℕ) (r : RequestItem) (program : Program) → IsGood s → Stand s f.smb.state → Tells (program_given n exports f s number r program)
 program_tells n exports f s number r Nlm good stand =
-    deeds_tell n s _ f.smb.state (nlm_deeds exports f.nlm s r) _ good (nlm.step_takes n exports f.nlm s r) (nlm_others n exports f.nlm s r good) (nlm.step_does n exports f.nlm s number r) (nlm.step_tells n exports f.nlm s number r) stand
+    deeds_tell n s _ f.smb.state (nlm_deeds n exports f.nlm s r) _ good (nlm.step_takes n exports f.nlm s r) (nlm_others n exports f.nlm s r good) (nlm.step_does n exports f.nlm s number r) (nlm.step_tells n exports f.nlm s number r) stand
 program_tells n exports f s number r Nfs good stand =
     let takes = nfs_own.request_takes n exports (smb_opens f) f.nfs s r good in
     deeds_tell n s _ f.smb.state (nfs_deeds n exports (smb_opens f) f.nfs s r) _ good takes (theirs_named n s (nfs_deeds n exports (smb_opens f) f.nfs s r) (nfs_own.request_by n exports (smb_opens f) f.nfs s r good) takes)
@@ -138,47 +135,13 @@ given_tells n s Restart good ready stand = quiet_tell (step_begun s.core) s.fron
 
 -- ---- and what is heard
 
--- what the fronts show of what was given
-abbrev ShownStand : Exports → List Effect × Fronts × CoreState → Type 0
-ShownStand exports g = Stand (all_shown exports g.1 g.2 g.0).2 (all_shown exports g.1 g.2 g.0).1.smb.state
-
-abbrev HeardStand : Sent → Type 0
-HeardStand sent = Stand sent.2 sent.1.smb.state
-
-program_stands : (n : ℕ) (exports : Exports) (f : Fronts) (s : CoreState) (number : ℕ) (r : RequestItem) (program : Program) → ShownStand exports (program_given n exports f s number r program) → HeardStand (program_heard n exports f s number r program)
-program_stands n exports f s number r Nlm stand = stand
-program_stands n exports f s number r Nfs stand = stand
-
-record_stands : (n : ℕ) (exports : Exports) (f : Fronts) (s : CoreState) (number : ℕ) (incoming : IncomingItem) → ShownStand exports (record_given n exports f s number incoming) → HeardStand (record_heard n exports f s number incoming)
-record_stands n exports f s number Unanswered stand = stand
-record_stands n exports f s number (Refused xid verdict) stand = stand
-record_stands n exports f s number (Asked r) stand = program_stands n exports f s number r r.program stand
-
-message_stands : (n : ℕ) (exports : Exports) (f : Fronts) (s : CoreState) (kind : Option Kind) (number : ℕ) (bytes : List ℕ) → ShownStand exports (message_given n exports f s kind number bytes) → HeardStand (heard_by n exports f s kind number bytes)
-message_stands n exports f s None number bytes stand = stand
-message_stands n exports f s (Some Smb) number bytes stand = stand
-message_stands n exports f s (Some Rpc) number bytes stand = record_stands n exports f s number (incoming_at bytes) stand
-
-end_stands : (exports : Exports) (f : Fronts) (s : CoreState) (kind : Option Kind) (number : ℕ) → ShownStand exports (end_given f s kind number) → HeardStand (ended_by exports f s kind number)
-end_stands exports f s None number stand = stand
-end_stands exports f s (Some Rpc) number stand = stand
-end_stands exports f s (Some Smb) number stand = stand
-
-event_stands : (n : ℕ) (s : Whole) (event : Event) → ShownStand s.exports (given_by n s event) → HeardStand (heard n s event)
-unfolding heard
-event_stands n s (Open kind) stand = stand
-event_stands n s (Message number bytes) stand = message_stands n s.exports s.front (step_begun s.core) (kind_of s.connections number) number bytes stand
-event_stands n s (End number) stand = end_stands s.exports s.front (step_begun s.core) (kind_of s.connections number) number stand
-event_stands n s (Called number bytes) stand = stand
-event_stands n s (Tick now) stand = stand
-event_stands n s Restart stand = stand
-
 -- no two requests have one number where no two rows of a list have one key
 stand_of : (s : Whole) → Ready s.front → IsAwaiting s → Stand s.core s.front.smb.state
 stand_of s ready awaiting = record { awaits = awaiting.awaits; keeps = awaiting.keeps; apart = ready.1.waiting }
 
 pub heard_stand : (n : ℕ) (s : Whole) (event : Event) → IsFree s → Ready s.front → IsAwaiting s → Stand (heard n s event).2 (heard n s event).1.smb.state
+unfolding heard
 heard_stand n s event free ready awaiting =
     let g = given_by n s event in
     let stand = same_stand s.core (step_begun s.core) s.front.smb.state (begun_waits s.core) (stand_of s ready awaiting) in
-    event_stands n s event (shown_stand s.exports g.1 g.2 g.0 (given_tells n s event (begun_good s.core free.good) ready stand))
+    shown_stand s.exports g.2 g.3 g.1 (given_tells n s event (begun_good s.core free.good) ready stand)

@@ -1,5 +1,5 @@
 -- An event leaves the core as its deeds do, and the core takes them.
-use Rattle.std.proofs.Common.{◌≡◌, ℕ, zero, suc, Bool, true, false, List, [], ◌∷◌, ◌++◌, length, map, Option, Some, None, refl, sym, ap, subst, ◌∙◌, append_assoc, append-nil}
+use Rattle.std.proofs.Common.{◌≡◌, ℕ, zero, suc, true, false, List, [], ◌∷◌, ◌++◌, length, map, Option, Some, None, refl, sym, ap, subst, ◌∙◌, append_assoc}
 use Rattle.std.specs.List.{AllByRecursion}
 use Rattle.xl_base.proofs.Members.{all_append}
 use Rattle.xl_base.specs.declared.event.Event.{Event}
@@ -9,7 +9,6 @@ use Rattle.xl_base.specs.declared.event.Kind.TheVariants.{Rpc, Smb}
 use Rattle.xl_base.specs.declared.event.Out.{Out}
 use Rattle.xl_base.specs.declared.journal.Exports.{Exports}
 use Rattle.xl_matrix.specs.declared.claim.Claim.{Claim}
-use Rattle.xl_names.specs.declared.name.Name.{Name}
 use Rattle.xl_programs.specs.Programs.{RequestItem, IncomingItem, Unanswered, Refused, Asked, incoming_at}
 use Rattle.xl_programs.specs.declared.program.Program.{Program}
 use Rattle.xl_programs.specs.declared.program.Program.TheVariants.{Nlm, Nfs}
@@ -27,24 +26,20 @@ use Rattle.xl_core.specs.Ticks.{advanced, expire, lapse, lapsed_for}
 use Rattle.xl_core.proofs.TickLaws.{tick_done, tick_fits}
 use Rattle.xl_core.proofs.DeedLists.{done_append, fit_append}
 use Rattle.xl_front_nlm.proofs.AnswerLaws.{answer_does, answer_takes}
-use Rattle.xl_front_nlm.proofs.DoesLaws.{step_does, step_replies, step_takes}
+use Rattle.xl_front_nlm.proofs.DoesLaws.{step_does, step_own, step_replies, step_takes}
 use Rattle.xl_front_nlm.proofs.GrantLaws.{telling_does, telling_takes}
-use Rattle.xl_front_nlm.proofs.OwnLaws.{step_own}
-use Rattle.xl_front_nlm.specs.Answers.{refuses, refused_grant, refusal_deeds, nlm_called}
-use Rattle.xl_front_nlm.specs.FrontNlm.{nlm_step}
-use Rattle.xl_front_nlm.specs.Grants.{news, drawn_for, shown, shown_deeds}
+use Rattle.xl_front_nlm.specs.Answers.{refusal_deeds}
+use Rattle.xl_front_nlm.specs.Grants.{news, drawn_for, shown_deeds}
 use Rattle.xl_house.specs.declared.layers.Fronts.{Fronts}
 use Rattle.xl_front_nlm.specs.declared.grant.Grant.{Grant}
-use Rattle.xl_front_nfs.specs.FrontNfs.{nfs_step}
 use Rattle.xl_nfs_laws.proofs.RequestDeedLaws as nfs
 use Rattle.xl_nfs_laws.proofs.RequestOwn as nfs_own
-use Rattle.xl_front_smb.specs.FrontSmb.{smb_step}
 use Rattle.xl_smb_laws.proofs.RequestDeedLaws as smb
 use Rattle.xl_smb_laws.proofs.RequestOwn as smb_own
-use Rattle.xl_house.specs.Done.{program_deeds, program_owns, program_reply, record_deeds, record_owns, message_deeds, message_owns, record_replies, message_replies, end_deeds, end_owns, AreRefusals, own_deeds, own_replies, told_deeds, turn_deeds, turns_for, turns, given_of, program_given, record_given, message_given, end_given, given_by, behind_own, deeds, messages}
+use Rattle.xl_house.specs.Done.{program_deeds, program_owns, program_reply, record_deeds, record_owns, message_deeds, message_owns, record_replies, message_replies, end_deeds, end_owns, AreRefusals, own_deeds, own_replies, told_deeds, turn_deeds, turns_for, turns, told_of, behind_own, deeds, messages}
 use Rattle.xl_house.specs.Journals.{is_restart}
 use Rattle.xl_house.specs.Lawful.{may_do, may_follow, IsOwnersBy}
-use Rattle.xl_house.specs.Machine.{Whole, Sent, showing, with_nlm, with_nfs, with_smb, nfs_opens, smb_opens, kind_of, framed, all_shown, rooms_of, after_turn, settled_for, settled, program_heard, record_heard, heard_by, ended_by, heard}
+use Rattle.xl_house.specs.Machine.{Whole, Sent, showing, nfs_opens, smb_opens, kind_of, framed, all_shown, rooms_of, after_turn, settled_for, settled, program_given, record_given, message_given, end_given, given_by, telling, heard}
 use Rattle.xl_house.proofs.MayLaws.{May, MayEnd, nlm_may, nfs_may, smb_may, last_may}
 
 -- ---- telling
@@ -138,26 +133,26 @@ turns_follow n exports f s = follow_for (turns_left s) n exports f s
 
 -- ---- its own deeds
 
-program_does : (n : ℕ) (exports : Exports) (f : Fronts) (s : CoreState) (number : ℕ) (r : RequestItem) (program : Program) → (program_given n exports f s number r program).2 ≡ all_done n s (program_deeds n program exports f s r)
+program_does : (n : ℕ) (exports : Exports) (f : Fronts) (s : CoreState) (number : ℕ) (r : RequestItem) (program : Program) → (program_given n exports f s number r program).3 ≡ all_done n s (program_deeds n program exports f s r)
 program_does n exports f s number r Nlm = step_does n exports f.nlm s number r
 program_does n exports f s number r Nfs = nfs.request_does n exports (smb_opens f) f.nfs s number r
 
-record_does : (n : ℕ) (exports : Exports) (f : Fronts) (s : CoreState) (number : ℕ) (incoming : IncomingItem) → (record_given n exports f s number incoming).2 ≡ all_done n s (record_deeds n exports f s incoming)
+record_does : (n : ℕ) (exports : Exports) (f : Fronts) (s : CoreState) (number : ℕ) (incoming : IncomingItem) → (record_given n exports f s number incoming).3 ≡ all_done n s (record_deeds n exports f s incoming)
 record_does n exports f s number Unanswered = refl
 record_does n exports f s number (Refused xid verdict) = refl
 record_does n exports f s number (Asked r) = program_does n exports f s number r r.program
 
-message_does : (n : ℕ) (exports : Exports) (f : Fronts) (s : CoreState) (kind : Option Kind) (number : ℕ) (bytes : List ℕ) → (message_given n exports f s kind number bytes).2 ≡ all_done n s (message_deeds n exports f s kind number bytes)
+message_does : (n : ℕ) (exports : Exports) (f : Fronts) (s : CoreState) (kind : Option Kind) (number : ℕ) (bytes : List ℕ) → (message_given n exports f s kind number bytes).3 ≡ all_done n s (message_deeds n exports f s kind number bytes)
 message_does n exports f s None number bytes = refl
 message_does n exports f s (Some Smb) number bytes = smb.step_does n exports (nfs_opens f) f.smb s number bytes
 message_does n exports f s (Some Rpc) number bytes = record_does n exports f s number (incoming_at bytes)
 
-end_does : (n : ℕ) (f : Fronts) (s : CoreState) (kind : Option Kind) (number : ℕ) → (end_given f s kind number).2 ≡ all_done n s (end_deeds f s kind number)
+end_does : (n : ℕ) (f : Fronts) (s : CoreState) (kind : Option Kind) (number : ℕ) → (end_given f s kind number).3 ≡ all_done n s (end_deeds f s kind number)
 end_does n f s None number = refl
 end_does n f s (Some Rpc) number = refl
 end_does n f s (Some Smb) number = smb.end_does n f.smb s number
 
-own_does : (n : ℕ) (s : Whole) (event : Event) → (given_by n s event).2 ≡ all_done n (step_begun s.core) (own_deeds n s event)
+own_does : (n : ℕ) (s : Whole) (event : Event) → (given_by n s event).3 ≡ all_done n (step_begun s.core) (own_deeds n s event)
 own_does n s (Open kind) = refl
 own_does n s (Message number bytes) = message_does n s.exports s.front (step_begun s.core) (kind_of s.connections number) number bytes
 own_does n s (End number) = end_does n s.front (step_begun s.core) (kind_of s.connections number) number
@@ -194,50 +189,24 @@ own_takes n s Restart good = tt
 
 -- ---- all that an event does
 
--- what was heard leaves what telling of its own deeds leaves
-program_told : (n : ℕ) (exports : Exports) (f : Fronts) (s : CoreState) (number : ℕ) (r : RequestItem) (program : Program) → (let g = program_given n exports f s number r program in (program_heard n exports f s number r program).2 ≡ (all_shown exports g.1 g.2 g.0).2)
-program_told n exports f s number r Nlm = refl
-program_told n exports f s number r Nfs = refl
-
-record_told : (n : ℕ) (exports : Exports) (f : Fronts) (s : CoreState) (number : ℕ) (incoming : IncomingItem) → (let g = record_given n exports f s number incoming in (record_heard n exports f s number incoming).2 ≡ (all_shown exports g.1 g.2 g.0).2)
-record_told n exports f s number Unanswered = refl
-record_told n exports f s number (Refused xid verdict) = refl
-record_told n exports f s number (Asked r) = program_told n exports f s number r r.program
-
-message_told : (n : ℕ) (exports : Exports) (f : Fronts) (s : CoreState) (kind : Option Kind) (number : ℕ) (bytes : List ℕ) → (let g = message_given n exports f s kind number bytes in (heard_by n exports f s kind number bytes).2 ≡ (all_shown exports g.1 g.2 g.0).2)
-message_told n exports f s None number bytes = refl
-message_told n exports f s (Some Smb) number bytes = refl
-message_told n exports f s (Some Rpc) number bytes = record_told n exports f s number (incoming_at bytes)
-
-end_told : (exports : Exports) (f : Fronts) (s : CoreState) (kind : Option Kind) (number : ℕ) → (let g = end_given f s kind number in (ended_by exports f s kind number).2 ≡ (all_shown exports g.1 g.2 g.0).2)
-end_told exports f s None number = refl
-end_told exports f s (Some Rpc) number = refl
-end_told exports f s (Some Smb) number = refl
-
-own_told : (n : ℕ) (s : Whole) (event : Event) → (let g = given_by n s event in (heard n s event).2 ≡ (all_shown s.exports g.1 g.2 g.0).2)
-unfolding heard
-own_told n s (Open kind) = refl
-own_told n s (Message number bytes) = message_told n s.exports s.front (step_begun s.core) (kind_of s.connections number) number bytes
-own_told n s (End number) = end_told s.exports s.front (step_begun s.core) (kind_of s.connections number) number
-own_told n s (Called number bytes) = refl
-own_told n s (Tick moment) = refl
-own_told n s Restart = refl
-
 abbrev pub own_and_told : ℕ → Whole → Event → List Deed
-own_and_told n s event = let g = given_by n s event in own_deeds n s event ++ told_deeds s.exports g.1 g.2 g.0
+own_and_told n s event = own_deeds n s event ++ told_of s.exports (given_by n s event)
 
 pub heard_does : (n : ℕ) (s : Whole) (event : Event) → (heard n s event).2 ≡ all_done n (step_begun s.core) (own_and_told n s event)
+unfolding heard
 heard_does n s event =
     let g = given_by n s event in
-    own_told n s event ∙ told_does n s.exports g.1 g.2 g.0
-    ∙ ap (λ (t : CoreState). all_done n t (told_deeds s.exports g.1 g.2 g.0)) (own_does n s event)
-    ∙ sym (done_append n (step_begun s.core) (own_deeds n s event) (told_deeds s.exports g.1 g.2 g.0))
+    let told = told_of s.exports g in
+    told_does n s.exports g.2 g.3 g.1
+    ∙ ap (λ (t : CoreState). all_done n t told) (own_does n s event)
+    ∙ sym (done_append n (step_begun s.core) (own_deeds n s event) told)
 
 pub heard_takes : (n : ℕ) (s : Whole) (event : Event) → IsGood (step_begun s.core) → AreFit n (step_begun s.core) (own_and_told n s event)
 heard_takes n s event good =
     let g = given_by n s event in
-    fit_append n (step_begun s.core) (own_deeds n s event) (told_deeds s.exports g.1 g.2 g.0) (own_takes n s event good)
-    (subst (λ (t : CoreState). AreFit n t (told_deeds s.exports g.1 g.2 g.0)) (own_does n s event) (told_fit n s.exports g.1 g.2 g.0))
+    let told = told_of s.exports g in
+    fit_append n (step_begun s.core) (own_deeds n s event) told (own_takes n s event good)
+    (subst (λ (t : CoreState). AreFit n t told) (own_does n s event) (told_fit n s.exports g.2 g.3 g.1))
 
 -- the core at the end of a step
 abbrev pub left_by : ℕ → Whole → Event → CoreState
@@ -362,51 +331,41 @@ pub behind_follows : (n : ℕ) (s : Whole) (event : Event) → Follow (behind_ow
 behind_follows n s event =
     let g = given_by n s event in
     let h = heard n s event in
-    all_append (λ d. may_follow d ≡ true) (told_deeds s.exports g.1 g.2 g.0) (turns n s.exports h.1 h.2) (told_follow s.exports g.1 g.2 g.0) (turns_follow n s.exports h.1 h.2)
+    all_append (λ d. may_follow d ≡ true) (told_of s.exports g) (turns n s.exports h.1 h.2) (told_follow s.exports g.2 g.3 g.1) (turns_follow n s.exports h.1 h.2)
 
 -- ---- what is sent
 
 program_sends : (n : ℕ) (exports : Exports) (f : Fronts) (s : CoreState) (number : ℕ) (r : RequestItem) (program : Program)
-    → (let g = program_given n exports f s number r program in
-    (program_heard n exports f s number r program).0 ≡ (all_shown exports g.1 g.2 g.0).0 ++ map (framed Rpc) (sent_to number (program_reply n program exports f s (all_done n s (program_deeds n program exports f s r)).names r (answers_of n s (program_deeds n program exports f s r)))))
-program_sends n exports f s number r Nlm =
-    let x = with_nlm f (nlm_step n exports f.nlm s number r) in
-    ap (λ (outs : List Out). (all_shown exports x.2 x.3 x.1).0 ++ map (framed Rpc) outs) (step_replies n exports f.nlm s number r)
-program_sends n exports f s number r Nfs =
-    let x = with_nfs f (nfs_step n exports (smb_opens f) f.nfs s number r) in
-    ap (λ (outs : List Out). (all_shown exports x.2 x.3 x.1).0 ++ map (framed Rpc) outs) (nfs.request_replies n exports (smb_opens f) f.nfs s number r)
+    → (program_given n exports f s number r program).0 ≡ map (framed Rpc) (sent_to number (program_reply n program exports f s (all_done n s (program_deeds n program exports f s r)).names r (answers_of n s (program_deeds n program exports f s r))))
+program_sends n exports f s number r Nlm = ap (λ (outs : List Out). map (framed Rpc) outs) (step_replies n exports f.nlm s number r)
+program_sends n exports f s number r Nfs = ap (λ (outs : List Out). map (framed Rpc) outs) (nfs.request_replies n exports (smb_opens f) f.nfs s number r)
 
 record_sends : (n : ℕ) (exports : Exports) (f : Fronts) (s : CoreState) (number : ℕ) (incoming : IncomingItem)
-    → (let g = record_given n exports f s number incoming in
-    (record_heard n exports f s number incoming).0 ≡ (all_shown exports g.1 g.2 g.0).0 ++ map (framed Rpc) (record_replies n exports f s (all_done n s (record_deeds n exports f s incoming)).names number incoming (answers_of n s (record_deeds n exports f s incoming))))
+    → (record_given n exports f s number incoming).0 ≡ map (framed Rpc) (record_replies n exports f s (all_done n s (record_deeds n exports f s incoming)).names number incoming (answers_of n s (record_deeds n exports f s incoming)))
 record_sends n exports f s number Unanswered = refl
 record_sends n exports f s number (Refused xid verdict) = refl
 record_sends n exports f s number (Asked r) = program_sends n exports f s number r r.program
 
 message_sends : (n : ℕ) (exports : Exports) (f : Fronts) (s : CoreState) (kind : Option Kind) (number : ℕ) (bytes : List ℕ)
-    → (let g = message_given n exports f s kind number bytes in
-    (heard_by n exports f s kind number bytes).0 ≡ (all_shown exports g.1 g.2 g.0).0 ++ message_replies n exports f s (all_done n s (message_deeds n exports f s kind number bytes)) kind number bytes (answers_of n s (message_deeds n exports f s kind number bytes)) (all_told_of n s (message_deeds n exports f s kind number bytes)))
+    → (message_given n exports f s kind number bytes).0 ≡ message_replies n exports f s (all_done n s (message_deeds n exports f s kind number bytes)) kind number bytes (answers_of n s (message_deeds n exports f s kind number bytes)) (all_told_of n s (message_deeds n exports f s kind number bytes))
 message_sends n exports f s None number bytes = refl
-message_sends n exports f s (Some Smb) number bytes =
-    let x = with_smb f (smb_step n exports (nfs_opens f) f.smb s number bytes) in
-    ap (λ (outs : List Out). (all_shown exports x.2 x.3 x.1).0 ++ map (framed Smb) outs) (smb.step_replies n exports (nfs_opens f) f.smb s number bytes)
+message_sends n exports f s (Some Smb) number bytes = ap (λ (outs : List Out). map (framed Smb) outs) (smb.step_replies n exports (nfs_opens f) f.smb s number bytes)
 message_sends n exports f s (Some Rpc) number bytes = record_sends n exports f s number (incoming_at bytes)
 
-end_sends : (exports : Exports) (f : Fronts) (s : CoreState) (kind : Option Kind) (number : ℕ) → (let g = end_given f s kind number in (ended_by exports f s kind number).0 ≡ (all_shown exports g.1 g.2 g.0).0 ++ [])
-end_sends exports f s None number = refl
-end_sends exports f s (Some Rpc) number = refl
-end_sends exports f s (Some Smb) number = sym (append-nil _)
+end_sends : (f : Fronts) (s : CoreState) (kind : Option Kind) (number : ℕ) → (end_given f s kind number).0 ≡ []
+end_sends f s None number = refl
+end_sends f s (Some Rpc) number = refl
+end_sends f s (Some Smb) number = refl
 
-heard_sends : (n : ℕ) (s : Whole) (event : Event) → (let g = given_by n s event in (heard n s event).0 ≡ (all_shown s.exports g.1 g.2 g.0).0 ++ own_replies n s event)
-unfolding heard
-heard_sends n s (Open kind) = refl
-heard_sends n s (Message number bytes) = message_sends n s.exports s.front (step_begun s.core) (kind_of s.connections number) number bytes
-heard_sends n s (End number) = end_sends s.exports s.front (step_begun s.core) (kind_of s.connections number) number
-heard_sends n s (Called number bytes) = sym (append-nil _)
-heard_sends n s (Tick moment) = sym (append-nil _)
-heard_sends n s Restart = refl
+own_sends : (n : ℕ) (s : Whole) (event : Event) → (given_by n s event).0 ≡ own_replies n s event
+own_sends n s (Open kind) = refl
+own_sends n s (Message number bytes) = message_sends n s.exports s.front (step_begun s.core) (kind_of s.connections number) number bytes
+own_sends n s (End number) = end_sends s.front (step_begun s.core) (kind_of s.connections number) number
+own_sends n s (Called number bytes) = refl
+own_sends n s (Tick moment) = refl
+own_sends n s Restart = refl
 
-messages_are : (n : ℕ) (s : Whole) (event : Event) → is_restart event ≡ false → (let g = given_by n s event in messages n s event ≡ (all_shown s.exports g.1 g.2 g.0).0 ++ (own_replies n s event ++ (settled n s.exports (heard n s event).1 (heard n s event).2).0))
+messages_are : (n : ℕ) (s : Whole) (event : Event) → is_restart event ≡ false → messages n s event ≡ (telling s.exports (given_by n s event)).0 ++ (own_replies n s event ++ (settled n s.exports (heard n s event).1 (heard n s event).2).0)
 unfolding messages
 messages_are n s (Open kind) other = refl
 messages_are n s (Message number bytes) other = refl
@@ -415,10 +374,15 @@ messages_are n s (Called number bytes) other = refl
 messages_are n s (Tick moment) other = refl
 messages_are n s Restart other = absurd cc
 
+heard_sends : (n : ℕ) (s : Whole) (event : Event) → (heard n s event).0 ≡ (telling s.exports (given_by n s event)).0 ++ (given_by n s event).0
+unfolding heard
+heard_sends n s event = refl
+
 pub all_sent : (n : ℕ) (s : Whole) (event : Event) → is_restart event ≡ false → (heard n s event).0 ++ (settled n s.exports (heard n s event).1 (heard n s event).2).0 ≡ messages n s event
 all_sent n s event other =
-    let g = given_by n s event in
+    let told = (telling s.exports (given_by n s event)).0 in
     let last = (settled n s.exports (heard n s event).1 (heard n s event).2).0 in
     ap (λ (outs : List Out). outs ++ last) (heard_sends n s event)
-    ∙ append_assoc (all_shown s.exports g.1 g.2 g.0).0 (own_replies n s event) last
+    ∙ append_assoc told (given_by n s event).0 last
+    ∙ ap (λ (outs : List Out). told ++ (outs ++ last)) (own_sends n s event)
     ∙ sym (messages_are n s event other)

@@ -1,5 +1,5 @@
 -- Which deeds the fronts' tables have: such as a message may do, or the end of a connection. None of them tells of a grant.
-use Rattle.std.proofs.Common.{◌≡◌, ℕ, ◌+◌, true, false, inl, inr, Option, Some, None, List, [], ◌∷◌, ◌++◌, refl, sym, ap, subst, ◌∙◌, arith}
+use Rattle.std.proofs.Common.{◌≡◌, ℕ, ◌+◌, true, false, inl, inr, Option, Some, None, List, [], ◌∷◌, ◌++◌, refl, ap, ◌∙◌, arith}
 use Rattle.std.proofs.lemmas.Bool.{cases_Bool, both_ways}
 use Rattle.std.specs.List.{AllByRecursion}
 use Rattle.xl_base.proofs.Members.{all_weaker}
@@ -11,7 +11,8 @@ use Rattle.xl_wait.specs.declared.waiter.Rooms.{Rooms}
 use Rattle.xl_core.specs.State.{CoreState}
 use Rattle.xl_core.specs.Askers.{asked_whats, asked_claims, is_client}
 use Rattle.xl_core.specs.BreakAnswers.{ack}
-use Rattle.xl_core.specs.Clients.{IsOf, AreOf, AreOfSome}
+use Rattle.xl_core.specs.Clients.{IsOf, IsOfSome}
+use Rattle.xl_plan.proofs.PlanLaws.{at_each}
 use Rattle.xl_core.specs.Decide.{plea_of, way, ask}
 use Rattle.xl_core.specs.Deeds.{Deed, Asks, GivesBack, Weakens, Acks, Cancels, Ends, Closes, Serves, Draws, Advances, Renews, Expires, given, done, all_told_of, IsFitDeed, AreFit}
 use Rattle.xl_core.specs.Frames.{serves_none}
@@ -30,7 +31,7 @@ use Rattle.xl_front_nfs.specs.State.{FrontNfs}
 use Rattle.xl_nfs_laws.proofs.RequestOwn.{request_by}
 use Rattle.xl_front_nlm.specs.FrontNlm.{nlm_client, nlm_deeds}
 use Rattle.xl_front_nlm.specs.State.{FrontState}
-use Rattle.xl_front_nlm.proofs.OwnLaws.{step_own}
+use Rattle.xl_front_nlm.proofs.DoesLaws.{step_own}
 use Rattle.xl_front_smb.specs.Ending.{smb_end_deeds}
 use Rattle.xl_front_smb.specs.FrontSmb.{smb_deeds}
 use Rattle.xl_front_smb.specs.Owners.{IsOwn, is_end}
@@ -57,16 +58,13 @@ of_may s client number bytes (Ends party) own = refl
 of_may s client number bytes (Renews id) own = refl
 of_may s client number bytes d own = absurd own
 
-are_may : (n : ℕ) (s : CoreState) (client : Name) (number : ℕ) (bytes : List ℕ) (ds : List Deed) → AreOf n s client ds → May number bytes ds
-are_may n s client number bytes [] own = tt
-are_may n s client number bytes (d ∷ ds) own = (of_may s client number bytes d own.0, are_may n (done n s d) client number bytes ds own.1)
+some_may : (s : CoreState) (client : Option Name) (number : ℕ) (bytes : List ℕ) (d : Deed) → IsOfSome s client d → may_do (Message number bytes) d ≡ true
+some_may s None number bytes d own = absurd own
+some_may s (Some client) number bytes d own = of_may s client number bytes d own
 
-some_may : (n : ℕ) (s : CoreState) (client : Option Name) (number : ℕ) (bytes : List ℕ) (ds : List Deed) → AreOfSome n s client ds → May number bytes ds
-some_may n s None number bytes ds none = subst (λ (x : List Deed). May number bytes x) (sym none) tt
-some_may n s (Some client) number bytes ds own = are_may n s client number bytes ds own
-
-pub nlm_may : (n number : ℕ) (bytes : List ℕ) (exports : Exports) (f : FrontState) (s : CoreState) (r : RequestItem) → IsGood s → May number bytes (nlm_deeds exports f s r)
-nlm_may n number bytes exports f s r good = some_may n s (nlm_client r) number bytes (nlm_deeds exports f s r) (step_own n exports f s r good)
+pub nlm_may : (n number : ℕ) (bytes : List ℕ) (exports : Exports) (f : FrontState) (s : CoreState) (r : RequestItem) → IsGood s → May number bytes (nlm_deeds n exports f s r)
+nlm_may n number bytes exports f s r good =
+    at_each (λ t d. IsOfSome t (nlm_client r) d) (λ d. may_do (Message number bytes) d ≡ true) n s (nlm_deeds n exports f s r) (λ t d own. some_may t (nlm_client r) number bytes d own) (step_own n exports f s r good)
 
 -- ---- NFSv4
 

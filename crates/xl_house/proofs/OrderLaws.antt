@@ -22,12 +22,9 @@ use Rattle.xl_programs.specs.declared.program.Program.{Program}
 use Rattle.xl_programs.specs.declared.program.Program.TheVariants.{Nlm, Nfs}
 use Rattle.xl_core.specs.State.{CoreState, step_begun}
 use Rattle.xl_core.specs.Settle.{turns_left, settle}
-use Rattle.xl_core.specs.Ticks.{tick}
 use Rattle.xl_core.specs.declared.ask.Effect.{Effect}
 use Rattle.xl_core.specs.declared.ask.Effect.TheVariants.{Begun, Served, Cancelled, Expired}
-use Rattle.xl_front_nlm.specs.Answers.{nlm_called}
 use Rattle.xl_nfs_laws.proofs.RequestDeedLaws as nfs
-use Rattle.xl_front_nfs.specs.FrontNfs.{nfs_step}
 use Rattle.xl_front_nfs.specs.Recalls.{client_by, recall_out, recalled_as, recalled_from, recalls}
 use Rattle.xl_front_nfs.specs.State.{FrontNfs}
 use Rattle.xl_nfs_state.specs.State.{NfsLists, delegated_on}
@@ -35,17 +32,15 @@ use Rattle.xl_nfs_state.specs.declared.client.ClientRow.{ClientRow}
 use Rattle.xl_nfs_state.specs.declared.stateid.StateidRow.{StateidRow}
 use Rattle.xl_core.specs.BreakAnswers.{client_of}
 use Rattle.xl_front_nlm.proofs.DoesLaws as nlm
-use Rattle.xl_front_nlm.specs.FrontNlm.{nlm_step}
 use Rattle.xl_front_nlm.specs.Grants.{news, told_by, shown}
 use Rattle.xl_front_nlm.specs.State.{FrontState}
-use Rattle.xl_front_smb.specs.Ending.{smb_end}
 use Rattle.xl_front_smb.specs.FrontSmb.{smb_shown, smb_step}
 use Rattle.xl_smb_laws.proofs.WaitConnectionLaws as smb_waits
 use Rattle.xl_house.specs.declared.layers.Fronts.{Fronts}
 use Rattle.xl_front_nlm.specs.declared.grant.Grant.{Grant}
 use Rattle.xl_house.proofs.MachineLaws.{next_place}
 use Rattle.xl_house.specs.Journals.{is_restart, IsLegal, IsOrderly, IsTimely, opened_after}
-use Rattle.xl_house.specs.Machine.{Whole, Sent, FrontGiven, begin, begun_by, begun, with_connection, without, kind_of, framed_by, framed, showing, all_shown, front_done, with_nlm, with_nfs, with_smb, after_call, after_end, ticked, nfs_opens, smb_opens, rooms_of, after_turn, settled_for, settled, program_heard, record_heard, packet_heard, heard_by, ended_by, heard, connected, settled_turn, step, most_connections}
+use Rattle.xl_house.specs.Machine.{Whole, Sent, Given, begin, begun_by, begun, with_connection, without, kind_of, framed_by, framed, showing, all_shown, nfs_opens, smb_opens, rooms_of, after_turn, settled_for, settled, program_given, record_given, message_given, end_given, given_by, sent_of, heard, connected, settled_turn, step, most_connections}
 use Rattle.xl_house.specs.declared.connections.Connection.{Connection}
 
 abbrev numbers : List Connection → List ℕ
@@ -155,34 +150,33 @@ settled_timely n cs exports f s waits = settled_for_timely (turns_left s) n cs e
 
 -- ---- an event
 
--- what a front gave is sent behind what is shown
-done_timely : (cs : List Connection) (kind : Kind) (exports : Exports) (r : FrontGiven) → Waits cs r.2 → AreTimely (numbers cs) (numbers cs) (map (framed kind) r.0) → IsTimelySent cs (front_done kind exports r)
-done_timely cs kind exports r waits replies =
-    let told = all_timely cs exports r.2 r.3 r.1 waits in
-    (timely_append (numbers cs) (numbers cs) (all_shown exports r.2 r.3 r.1).0 (map (framed kind) r.0) told.0 replies, told.1)
+-- what an event gave of itself: its replies, and who waits then
+abbrev IsTimelyGiven : List Connection → Given → Type 0
+IsTimelyGiven cs g = AreTimely (numbers cs) (numbers cs) g.0 × Waits cs g.2
 
-program_timely : (n : ℕ) (cs : List Connection) (exports : Exports) (f : Fronts) (s : CoreState) (number : ℕ) (r : RequestItem) (program : Program) → IsIn number (numbers cs) → Waits cs f → IsTimelySent cs (program_heard n exports f s number r program)
+-- the replies are sent behind what is shown
+given_timely : (cs : List Connection) (exports : Exports) (g : Given) → IsTimelyGiven cs g → IsTimelySent cs (sent_of exports g)
+given_timely cs exports g given =
+    let told = all_timely cs exports g.2 g.3 g.1 given.1 in
+    (timely_append (numbers cs) (numbers cs) (all_shown exports g.2 g.3 g.1).0 g.0 told.0 given.0, told.1)
+
+program_timely : (n : ℕ) (cs : List Connection) (exports : Exports) (f : Fronts) (s : CoreState) (number : ℕ) (r : RequestItem) (program : Program) → IsIn number (numbers cs) → Waits cs f → IsTimelyGiven cs (program_given n exports f s number r program)
 program_timely n cs exports f s number r Nlm there waits =
-    done_timely cs Rpc exports (with_nlm f (nlm_step n exports f.nlm s number r)) waits
-    (subst (λ (outs : List Out). AreTimely (numbers cs) (numbers cs) (map (framed Rpc) outs)) (sym (nlm.step_replies n exports f.nlm s number r)) ((there, there), tt))
+    (subst (λ (outs : List Out). AreTimely (numbers cs) (numbers cs) (map (framed Rpc) outs)) (sym (nlm.step_replies n exports f.nlm s number r)) ((there, there), tt), waits)
 program_timely n cs exports f s number r Nfs there waits =
-    done_timely cs Rpc exports (with_nfs f (nfs_step n exports (smb_opens f) f.nfs s number r)) waits
-    (subst (λ (outs : List Out). AreTimely (numbers cs) (numbers cs) (map (framed Rpc) outs)) (sym (nfs.request_replies n exports (smb_opens f) f.nfs s number r)) ((there, there), tt))
+    (subst (λ (outs : List Out). AreTimely (numbers cs) (numbers cs) (map (framed Rpc) outs)) (sym (nfs.request_replies n exports (smb_opens f) f.nfs s number r)) ((there, there), tt), waits)
 
-record_timely : (n : ℕ) (cs : List Connection) (exports : Exports) (f : Fronts) (s : CoreState) (number : ℕ) (incoming : IncomingItem) → IsIn number (numbers cs) → Waits cs f → IsTimelySent cs (record_heard n exports f s number incoming)
+record_timely : (n : ℕ) (cs : List Connection) (exports : Exports) (f : Fronts) (s : CoreState) (number : ℕ) (incoming : IncomingItem) → IsIn number (numbers cs) → Waits cs f → IsTimelyGiven cs (record_given n exports f s number incoming)
 record_timely n cs exports f s number Unanswered there waits = (tt, waits)
 record_timely n cs exports f s number (Refused xid verdict) there waits = (((there, there), tt), waits)
 record_timely n cs exports f s number (Asked r) there waits = program_timely n cs exports f s number r r.program there waits
 
-packet_timely : (n : ℕ) (cs : List Connection) (exports : Exports) (f : Fronts) (s : CoreState) (number : ℕ) (bytes : List ℕ) → IsOpen cs number → Waits cs f → IsTimelySent cs (packet_heard n exports f s number bytes)
-packet_timely n cs exports f s number bytes there waits =
-    let heard = smb_waits.step_on (IsOpen cs) n exports (nfs_opens f) f.smb s number bytes there waits in
-    done_timely cs Smb exports (with_smb f (smb_step n exports (nfs_opens f) f.smb s number bytes)) heard.1 (finals_timely cs (smb_step n exports (nfs_opens f) f.smb s number bytes).0 heard.0)
-
-by_timely : (n : ℕ) (exports : Exports) (f : Fronts) (s : CoreState) (cs : List Connection) (number : ℕ) (bytes : List ℕ) (kind : Option Kind) → kind_of cs number ≡ kind → Waits cs f → IsTimelySent cs (heard_by n exports f s kind number bytes)
-by_timely n exports f s cs number bytes None e waits = (tt, waits)
-by_timely n exports f s cs number bytes (Some Smb) e waits = packet_timely n cs exports f s number bytes e waits
-by_timely n exports f s cs number bytes (Some Rpc) e waits = record_timely n cs exports f s number (incoming_at bytes) (found cs number Rpc e) waits
+message_timely : (n : ℕ) (exports : Exports) (f : Fronts) (s : CoreState) (cs : List Connection) (number : ℕ) (bytes : List ℕ) (kind : Option Kind) → kind_of cs number ≡ kind → Waits cs f → IsTimelyGiven cs (message_given n exports f s kind number bytes)
+message_timely n exports f s cs number bytes None e waits = (tt, waits)
+message_timely n exports f s cs number bytes (Some Smb) e waits =
+    let heard = smb_waits.step_on (IsOpen cs) n exports (nfs_opens f) f.smb s number bytes e waits in
+    (finals_timely cs (smb_step n exports (nfs_opens f) f.smb s number bytes).0 heard.0, heard.1)
+message_timely n exports f s cs number bytes (Some Rpc) e waits = record_timely n cs exports f s number (incoming_at bytes) (found cs number Rpc e) waits
 
 -- the other connections stay open where one ends
 stays_open : (cs : List Connection) (number other : ℕ) → eqb other number ≡ false → IsOpen cs other → IsOpen (without cs number) other
@@ -235,31 +229,31 @@ others_on cs f number kind e apart waits =
     smb_waits.on_weaker (IsOpen cs) (IsOpen (without cs number)) f.smb.state (λ other on. stays_open cs number other (two_kinds cs number other kind e apart on) on) waits
 
 -- what an end leaves waits and is held on connections that stay open
-ended_on : (cs : List Connection) (exports : Exports) (f : Fronts) (s : CoreState) (number : ℕ) (kind : Option Kind) → kind_of cs number ≡ kind → Waits cs f → IsTimelySent (without cs number) (ended_by exports f s kind number)
-ended_on cs exports f s number None e waits = (tt, others_on cs f number None e (λ h. no_kind h) waits) where
+ended_on : (cs : List Connection) (f : Fronts) (s : CoreState) (number : ℕ) (kind : Option Kind) → kind_of cs number ≡ kind → Waits cs f → IsTimelyGiven (without cs number) (end_given f s kind number)
+ended_on cs f s number None e waits = (tt, others_on cs f number None e (λ h. no_kind h) waits) where
   no_kind : None ≡ Some Smb → ⊥
   no_kind h = cc
-ended_on cs exports f s number (Some Rpc) e waits = (tt, others_on cs f number (Some Rpc) e (λ h. other_kind h) waits) where
+ended_on cs f s number (Some Rpc) e waits = (tt, others_on cs f number (Some Rpc) e (λ h. other_kind h) waits) where
   other_kind : Some Rpc ≡ Some Smb → ⊥
   other_kind h = cc
-ended_on cs exports f s number (Some Smb) e waits =
-    let r = after_end f (smb_end f.smb s number) in
-    all_timely (without cs number) exports r.1 r.2 r.0
-    (smb_waits.end_on (IsOpen cs) (IsOpen (without cs number)) number (λ other apart on. stays_open cs number other apart on) f.smb s waits)
+ended_on cs f s number (Some Smb) e waits = (tt, smb_waits.end_on (IsOpen cs) (IsOpen (without cs number)) number (λ other apart on. stays_open cs number other apart on) f.smb s waits)
 
 -- the connections that are open before the event and after it
 abbrev both_open : List Connection → Event → List Connection
 both_open cs (End number) = without cs number
 both_open cs event = cs
 
+event_timely : (n : ℕ) (s : Whole) (e : Event) → Waits s.connections s.front → IsTimelyGiven (both_open s.connections e) (given_by n s e)
+event_timely n s (Open kind) waits = (tt, begun_on s.connections s.front s.connections s.place kind waits)
+event_timely n s (Message number bytes) waits = message_timely n s.exports s.front (step_begun s.core) s.connections number bytes (kind_of s.connections number) refl waits
+event_timely n s (End number) waits = ended_on s.connections s.front (step_begun s.core) number (kind_of s.connections number) refl waits
+event_timely n s (Called call reply) waits = (tt, waits)
+event_timely n s (Tick moment) waits = (tt, waits)
+event_timely n s Restart waits = (tt, waits)
+
 heard_timely : (n : ℕ) (s : Whole) (e : Event) → Waits s.connections s.front → IsTimelySent (both_open s.connections e) (heard n s e)
 unfolding heard
-heard_timely n s (Open kind) waits = (tt, begun_on s.connections s.front s.connections s.place kind waits)
-heard_timely n s (Message number bytes) waits = by_timely n s.exports s.front (step_begun s.core) s.connections number bytes (kind_of s.connections number) refl waits
-heard_timely n s (End number) waits = ended_on s.connections s.exports s.front (step_begun s.core) number (kind_of s.connections number) refl waits
-heard_timely n s (Called call reply) waits = let r = after_call s.front (nlm_called n s.front.nlm (step_begun s.core) call reply) in all_timely s.connections s.exports r.1 r.2 r.0 waits
-heard_timely n s (Tick moment) waits = let r = tick (step_begun s.core) moment in all_timely s.connections s.exports (ticked s.front r.1.clock) r.1 r.0 waits
-heard_timely n s Restart waits = (tt, waits)
+heard_timely n s e waits = given_timely (both_open s.connections e) s.exports (given_by n s e) (event_timely n s e waits)
 
 -- ---- which are opened
 

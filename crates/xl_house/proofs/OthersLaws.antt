@@ -12,7 +12,6 @@ use Rattle.xl_core.specs.Deeds.{AreFit, Deed, Asks, GivesBack, Weakens, Acks, Ca
 use Rattle.xl_core.specs.Good.{IsGood}
 use Rattle.xl_core.specs.State.{CoreState}
 use Rattle.xl_front_nlm.proofs.DoesLaws as nlm
-use Rattle.xl_front_nlm.proofs.OwnLaws as nlm_own
 use Rattle.xl_front_nlm.specs.Answers.{refusal_deeds}
 use Rattle.xl_front_nlm.specs.FrontNlm.{call_in, nlm_client, nlm_deeds}
 use Rattle.xl_front_nlm.specs.Serving.{client_of}
@@ -39,8 +38,8 @@ call_plain : (o : Option calls.CallItem) (client : Name) → option_and_then (λ
 call_plain None client is = absurd (none_some is)
 call_plain (Some call) client is = caller_plain call client is
 
-pub nlm_others : (n : ℕ) (exports : Exports) (f : FrontState) (s : CoreState) (r : RequestItem) → IsGood s → Others (nlm_deeds exports f s r)
-nlm_others n exports f s r good = some_named n s (nlm_client r) (nlm_deeds exports f s r) (λ client is. call_plain (call_in r) client is) (nlm_own.step_own n exports f s r good) (nlm.step_takes n exports f s r)
+pub nlm_others : (n : ℕ) (exports : Exports) (f : FrontState) (s : CoreState) (r : RequestItem) → IsGood s → Others (nlm_deeds n exports f s r)
+nlm_others n exports f s r good = some_named n s (nlm_client r) (nlm_deeds n exports f s r) (λ client is. call_plain (call_in r) client is) (nlm.step_own n exports f s r good) (nlm.step_takes n exports f s r)
 
 by_named : (s : CoreState) (d : Deed) → IsBy s (λ _. Unit {0}) d → IsFitDeed s d → is_open_ask d ≡ false
 by_named s (Asks left a) own fit = asked_named a.owner a.party (NfsParty own.0) refl own.2 fit.party

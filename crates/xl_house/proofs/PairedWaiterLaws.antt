@@ -11,8 +11,10 @@ use Rattle.xl_smb_state.specs.State.{Lists}
 use Rattle.xl_smb_state.specs.declared.row.Waiting.{Waiting}
 use Rattle.xl_wait.specs.declared.waiter.Waiter.{Waiter}
 use Rattle.xl_core.specs.Askers.{is_client, is_lease, is_named}
-use Rattle.xl_core.specs.Clients.{AreOf, AreOfSome, IsOf}
-use Rattle.xl_core.specs.Deeds.{AreFit, Deed, Asks, GivesBack, Weakens, Acks, Cancels, Ends, Serves, Draws, Advances, Lapses, Renews, Expires, Closes, IsFitDeed, all_done, all_told_of, done}
+use Rattle.xl_core.specs.Clients.{IsOfSome}
+use Rattle.xl_plan.proofs.PlanLaws.{at_both, at_each, fit_at}
+use Rattle.xl_plan.specs.Plans.{AllAt}
+use Rattle.xl_core.specs.Deeds.{AreFit, Deed, Asks, GivesBack, Weakens, Acks, Cancels, Ends, Serves, Draws, Advances, Lapses, Renews, Expires, Closes, IsFitDeed, all_done, all_told_of}
 use Rattle.xl_core.specs.Good.{IsGood}
 use Rattle.xl_core.specs.State.{CoreState}
 use Rattle.xl_core.specs.declared.ask.Effect.{Effect}
@@ -115,17 +117,14 @@ pub asked_named : (owner party : Who) (client : Name) → is_lease client ≡ fa
 asked_named (who.Named name) party client plain is fits = refl
 asked_named (who.Open number) party client plain is fits = absurd (true≢false (sym (subst (λ (p : Who). is_client (who.Open number) p ≡ true) is fits) ∙ plain))
 
-of_named : (s : CoreState) (client : Name) (d : Deed) → is_lease client ≡ false → IsOf s client d → IsFitDeed s d → is_open_ask d ≡ false
-of_named s client (Asks left a) plain own fit = asked_named a.owner a.party client plain own fit.party
-of_named s client d plain own fit = refl
+of_named : (s : CoreState) (o : Option Name) (d : Deed) → ((client : Name) → o ≡ Some client → is_lease client ≡ false) → IsOfSome s o d → IsFitDeed s d → is_open_ask d ≡ false
+of_named s None d plain own fit = absurd own
+of_named s (Some client) (Asks left a) plain own fit = asked_named a.owner a.party client (plain client refl) own fit.party
+of_named s (Some client) d plain own fit = refl
 
-are_named : (n : ℕ) (s : CoreState) (client : Name) (ds : List Deed) → is_lease client ≡ false → AreOf n s client ds → AreFit n s ds → Others ds
-are_named n s client [] plain own fit = tt
-are_named n s client (d ∷ ds) plain own fit = (of_named s client d plain own.0 fit.0, are_named n (done n s d) client ds plain own.1 fit.1)
-
-pub some_named : (n : ℕ) (s : CoreState) (o : Option Name) (ds : List Deed) → ((client : Name) → o ≡ Some client → is_lease client ≡ false) → AreOfSome n s o ds → AreFit n s ds → Others ds
-some_named n s None ds plain none fit = subst (λ (x : List Deed). Others x) (sym none) tt
-some_named n s (Some client) ds plain own fit = are_named n s client ds (plain client refl) own fit
+pub some_named : (n : ℕ) (s : CoreState) (o : Option Name) (ds : List Deed) → ((client : Name) → o ≡ Some client → is_lease client ≡ false) → AllAt (λ t d. IsOfSome t o d) n s ds → AreFit n s ds → Others ds
+some_named n s o ds plain own fit =
+    at_each (λ t d. IsOfSome t o d × IsFitDeed t d) (λ d. is_open_ask d ≡ false) n s ds (λ t d is. of_named t o d plain is.0 is.1) (at_both (λ t d. IsOfSome t o d) IsFitDeed n s ds own (fit_at n s ds fit))
 
 -- ---- what comes to the front
 

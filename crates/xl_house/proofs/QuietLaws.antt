@@ -53,7 +53,7 @@ step_quiet exports f g s t conn r outs effects good is =
     let n = t.made in
     ap (λ (x : List Out × List Effect × FrontState × CoreState). grants x.1) (sym (is n (may_be_made t)))
     ∙ ap (λ (told : List Effect). grants told) (step_tells n exports f s conn r)
-    ∙ may_quiet n s conn [] (nlm_deeds exports f s r) good (step_takes n exports f s r) (nlm_may n conn [] exports f s r good)
+    ∙ may_quiet n s conn [] (nlm_deeds n exports f s r) good (step_takes n exports f s r) (nlm_may n conn [] exports f s r good)
 
 pub nfs_quiet : (exports : Exports) (others : ℕ) (f g : FrontNfs) (s t : CoreState) (conn : ℕ) (r : RequestItem) (outs : List Out) (effects : List Effect) → IsGood s → ((n : ℕ) → MayBe n t → nfs_step n exports others f s conn r ≡ (outs, effects, g, t)) → grants effects ≡ 0
 nfs_quiet exports others f g s t conn r outs effects good is =

@@ -11,20 +11,16 @@ use Rattle.xl_core.specs.Causes.{IsTurn}
 use Rattle.xl_core.proofs.SettleLaws.{none_settled, turn_is, turn_fewer}
 use Rattle.xl_core.proofs.NumberLaws.{counter_numbers}
 use Rattle.xl_house.proofs.QuietLaws.{turn_pays}
-use Rattle.xl_house.proofs.Stores.{may_be_made, may_be_before, goes_on_self, goes_further}
+use Rattle.xl_house.proofs.Stores.{may_be_made, may_be_before, goes_further}
 use Rattle.xl_house.proofs.ShownLaws.{all_shown_is, all_shown_good, shown_numbers, shown_names, told_turns}
 use Rattle.xl_base.specs.declared.journal.Exports.{Exports}
 use Rattle.xl_house.specs.declared.layers.Fronts.{Fronts}
 use Rattle.xl_names.specs.declared.name.Name.{Name}
 use Rattle.xl_core.proofs.GoodLaws.{settle_good}
-use Rattle.xl_front_nlm.specs.Short.{AreShort}
-use Rattle.xl_house.specs.Shown.{IsShown, IsReadyFor, LeavesBy}
+use Rattle.xl_plan.proofs.BudgetLaws.{come_same}
+use Rattle.xl_front_nlm.specs.Short.{AreShort, IsReady, Leaves}
+use Rattle.xl_house.specs.Shown.{IsShown}
 use Rattle.xl_house.specs.Machine.{Sent, grants, behind, and_then, all_shown, rooms_of, after_turn, settled_for, settled}
-
--- ---- what is left
-
-pub leaves_self : (m k : ℕ) (s : CoreState) → IsReadyFor m s → LeavesBy k s s
-leaves_self m k s ready = record { on = goes_on_self s; good = ready.good; short = ready.short; numbers = omega arith }
 
 -- ---- settling
 
@@ -114,16 +110,15 @@ turn_good : (f : Fronts) (s t : CoreState) (effects : List Effect) → IsGood s 
 turn_good f s t effects good gives = subst (λ (r : Turned). IfSome r (λ x. IsGood x.1)) (gives t.made (may_be_made t)) (settle_good t.made (rooms_of f) s good)
 
 -- so what a turn tells may be told
-pub settling_numbers : (exports : Exports) (before : Fronts) (first : CoreState) (sent : List Out) (f : Fronts) (s : CoreState) (outs : List Out) → IsSettling exports before first sent f s outs → IsReadyFor 0 first → s.counter + numbers_left < 2 ^ 32
-settling_numbers exports before first sent f s outs settling ready = omega (arith, counter_numbers s, settling.numbers, ready.numbers)
+pub settling_numbers : (exports : Exports) (before : Fronts) (first : CoreState) (sent : List Out) (f : Fronts) (s : CoreState) (outs : List Out) → IsSettling exports before first sent f s outs → IsReady 0 first → s.counter + numbers_left < 2 ^ 32
+settling_numbers exports before first sent f s outs settling ready = omega (arith, counter_numbers s, settling.numbers, ready.core.numbers)
 
 pub turn_ready : (exports : Exports) (before : Fronts) (first : CoreState) (sent : List Out) (f : Fronts) (s t : CoreState) (outs : List Out) (r : Option (List Effect)) (effects : List Effect)
-    → IsSettling exports before first sent f s outs → IsGood s → Gives f s t r → r ≡ Some effects → IsReadyFor 0 first → IsReadyFor (grants effects) t
+    → IsSettling exports before first sent f s outs → IsGood s → Gives f s t r → r ≡ Some effects → IsReady 0 first → IsReady (grants effects) t
 turn_ready exports before first sent f s t outs r effects settling good gives e ready =
     let given = gives_some f s t r effects gives e in
     record {
-      good = turn_good f s t effects good given;
-      numbers = omega (arith, settling.numbers, turn_room f s t effects good given, ready.numbers);
+      core = record { good = turn_good f s t effects good given; numbers = omega (arith, settling.numbers, turn_room f s t effects good given, ready.core.numbers) };
       short = subst (λ (names : List Name). AreShort names) (sym (turn_names f s t effects good given ∙ settling.names)) ready.short;
     }
 
@@ -173,7 +168,7 @@ pub ended_settled : (f : Fronts) (s t : CoreState) (r : Option (List Effect)) �
 ended_settled f s t r gives e same =
     subst (λ (x : CoreState). IsSettled x) (sym same) (none_settled t.made (rooms_of f) s (gives_none f s t r gives e t.made (may_be_made t)))
 
-pub ended_leaves : (exports : Exports) (before : Fronts) (first : CoreState) (sent : List Out) (f : Fronts) (s t : CoreState) (outs : List Out) → IsSettling exports before first sent f s outs → IsGood s → t ≡ s → IsReadyFor 0 first → LeavesBy 0 first t
-ended_leaves exports before first sent f s t outs settling good same ready =
-    subst (λ (x : CoreState). LeavesBy 0 first x) (sym same)
-    (record { on = settling.on; good = good; short = subst (λ (names : List Name). AreShort names) (sym settling.names) ready.short; numbers = omega (arith, settling.numbers) })
+pub ended_leaves : (exports : Exports) (before : Fronts) (first : CoreState) (sent : List Out) (f : Fronts) (s t : CoreState) (outs : List Out) → IsSettling exports before first sent f s outs → IsGood s → t ≡ s → Leaves 0 first t
+ended_leaves exports before first sent f s t outs settling good same =
+    subst (λ (x : CoreState). Leaves 0 first x) (sym same)
+    (record { on = settling.on; good = good; numbers = omega (arith, settling.numbers); names = come_same first.names s.names settling.names })

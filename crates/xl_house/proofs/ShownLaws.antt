@@ -19,9 +19,9 @@ use Rattle.xl_front_nlm.specs.State.{FrontState}
 use Rattle.xl_house.specs.declared.layers.Fronts.{Fronts}
 use Rattle.xl_front_nlm.specs.declared.grant.Grant.{Grant}
 use Rattle.xl_house.specs.Machine.{Sent, is_grant, grants, behind, showing, all_shown}
-use Rattle.xl_names.specs.declared.name.Name.{Name}
-use Rattle.xl_front_nlm.specs.Short.{AreShort}
-use Rattle.xl_house.specs.Shown.{IsShown, IsReadyFor, LeavesBy}
+use Rattle.xl_plan.proofs.BudgetLaws.{come_same}
+use Rattle.xl_front_nlm.specs.Short.{IsReady, Leaves}
+use Rattle.xl_house.specs.Shown.{IsShown}
 
 -- ---- one after another
 
@@ -118,7 +118,7 @@ all_is_shown exports f g s t effects old outs e = subst (λ (x : CoreState). IsS
 pub shown_numbers : (most : ℕ) (s t : CoreState) → IsShown most s t → numbers_of t ≤ numbers_of s + most
 shown_numbers most s t is = omega (arith, is.most, ap (λ (x : CoreState). length x.waiters + delegations_left x.claims) is.parts)
 
-pub all_leaves : (exports : Exports) (f g : Fronts) (s t : CoreState) (effects : List Effect) (old outs : List Out) → behind old (all_shown exports f s effects) ≡ (outs, g, t) → IsReadyFor (grants effects) s → LeavesBy (grants effects) s t
+pub all_leaves : (exports : Exports) (f g : Fronts) (s t : CoreState) (effects : List Effect) (old outs : List Out) → behind old (all_shown exports f s effects) ≡ (outs, g, t) → IsReady (grants effects) s → Leaves (grants effects) s t
 all_leaves exports f g s t effects old outs e ready =
     let is = all_is_shown exports f g s t effects old outs e in
     record {
@@ -126,9 +126,9 @@ all_leaves exports f g s t effects old outs e ready =
         made = omega (arith, ap (λ (x : CoreState). x.made) is.parts);
         failed = λ h. (ap (λ (x : CoreState). x.failed) is.parts ∙ h, ap (λ (x : CoreState). x.made) is.parts);
       };
-      good = subst (λ (x : CoreState). IsGood x) (ap (λ (r : Sent). r.2) e) (all_shown_good exports f s effects ready.good);
-      short = subst (λ (names : List Name). AreShort names) (sym (ap (λ (x : CoreState). x.names) is.parts)) ready.short;
+      good = subst (λ (x : CoreState). IsGood x) (ap (λ (r : Sent). r.2) e) (all_shown_good exports f s effects ready.core.good);
       numbers = shown_numbers (grants effects) s t is;
+      names = come_same s.names t.names (ap (λ (x : CoreState). x.names) is.parts);
     }
 
 -- one more effect of those that are left

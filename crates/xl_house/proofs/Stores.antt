@@ -1,7 +1,7 @@
 -- The stores of a step.
 use Rattle.std.proofs.Common.{◌≡◌, ℕ, ◌≤◌, sym, ◌∙◌, arith}
 use Rattle.xl_core.specs.State.{CoreState, MayBe, GoesOn}
-pub use Rattle.xl_core.proofs.FrameLaws.{goes_on_self, may_be_made}
+pub use Rattle.xl_core.proofs.FrameLaws.{may_be_made}
 
 -- how many stores succeed may have been told before
 pub may_be_before : (n : ℕ) (old new : CoreState) → GoesOn old new → MayBe n new → MayBe n old

@@ -1,9 +1,9 @@
 -- What each event does to the core: the deeds of its message or call, of the fronts' tables, or those of the clock, and
 -- behind them the turns of those who wait, with what telling of them draws.
-use Rattle.std.specs.Prelude.{◌≡◌, ◌==◌, ℕ, zero, suc, List, [], ◌∷◌, ◌++◌, length, map, Option, Some, None}
+use Rattle.std.specs.Prelude.{◌≡◌, ◌==◌, ℕ, zero, suc, List, [], ◌∷◌, ◌++◌, map, Option, Some, None}
 use Rattle.std.specs.List.{AllByRecursion, find}
 use Rattle.xl_base.specs.declared.event.Event.{Event}
-use Rattle.xl_base.specs.declared.event.Event.TheVariants.{Open, Message, End, Called, Tick, Restart}
+use Rattle.xl_base.specs.declared.event.Event.TheVariants.{Message, End, Called, Tick, Restart}
 use Rattle.xl_base.specs.declared.event.Kind.{Kind}
 use Rattle.xl_base.specs.declared.event.Kind.TheVariants.{Rpc, Smb}
 use Rattle.xl_base.specs.declared.event.Out.{Out}
@@ -18,34 +18,34 @@ use Rattle.xl_programs.specs.Sent.{refusal_of, sent_to}
 use Rattle.xl_core.specs.State.{CoreState, step_begun}
 use Rattle.xl_core.specs.Deeds.{Deed, Asks, Serves, all_done, all_told_of, answers_of, tick_deeds}
 use Rattle.xl_core.specs.Settle.{turns_left, settle}
-use Rattle.xl_core.specs.Ticks.{tick}
 use Rattle.xl_core.specs.declared.ask.Act.TheVariants.{Unlock}
 use Rattle.xl_core.specs.declared.ask.Answer.{Answer}
 use Rattle.xl_core.specs.declared.ask.Effect.{Effect}
 use Rattle.xl_core.specs.declared.ask.Who.TheVariants.{Named}
-use Rattle.xl_front_nlm.specs.Answers.{refuses, refused_grant, called_deeds, nlm_called}
-use Rattle.xl_front_nlm.specs.FrontNlm.{nlm_client, nlm_deeds, nlm_reply, nlm_step}
-use Rattle.xl_front_nlm.specs.Grants.{shown, shown_deeds}
+use Rattle.xl_front_nlm.specs.Answers.{refuses, refused_grant, called_deeds}
+use Rattle.xl_front_nlm.specs.FrontNlm.{nlm_client, nlm_deeds, nlm_reply}
+use Rattle.xl_front_nlm.specs.Grants.{shown_deeds}
 use Rattle.xl_front_nlm.specs.State.{FrontState}
 use Rattle.xl_front_nlm.specs.declared.grant.Grant.{Grant}
 use Rattle.xl_house.specs.declared.layers.Fronts.{Fronts}
-use Rattle.xl_front_nfs.specs.FrontNfs.{nfs_deeds, nfs_reply, nfs_step}
+use Rattle.xl_front_nfs.specs.FrontNfs.{nfs_deeds, nfs_reply}
 use Rattle.xl_nfs_laws.specs.RequestOwners.{AreTheirs}
-use Rattle.xl_front_smb.specs.Ending.{smb_end, smb_end_deeds}
-use Rattle.xl_front_smb.specs.FrontSmb.{smb_deeds, smb_replies, smb_step}
+use Rattle.xl_front_smb.specs.Ending.{smb_end_deeds}
+use Rattle.xl_front_smb.specs.FrontSmb.{smb_deeds, smb_replies}
 use Rattle.xl_front_smb.specs.Owners.{AreOwn}
-use Rattle.xl_core.specs.Clients.{AreOfSome}
-use Rattle.xl_house.specs.Machine.{Whole, FrontGiven, showing, with_nlm, with_nfs, with_smb, after_call, after_end, begun, ticked, nfs_opens, smb_opens, kind_of, framed, all_shown, rooms_of, settled, heard}
+use Rattle.xl_core.specs.Clients.{IsOfSome}
+use Rattle.xl_plan.specs.Plans.{AllAt}
+use Rattle.xl_house.specs.Machine.{Whole, Given, given_by, telling, showing, nfs_opens, smb_opens, kind_of, framed, all_shown, rooms_of, settled, heard}
 
 -- ---- of each program its front's table
 
 abbrev pub program_deeds : ℕ → Program → Exports → Fronts → CoreState → RequestItem → List Deed
-program_deeds n Nlm exports f s r = nlm_deeds exports f.nlm s r
+program_deeds n Nlm exports f s r = nlm_deeds n exports f.nlm s r
 program_deeds n Nfs exports f s r = nfs_deeds n exports (smb_opens f) f.nfs s r
 
 -- whose they are: of the client that a request of NLM names; of the clients that the operations of a COMPOUND name
 abbrev pub program_owns : ℕ → Program → Exports → Fronts → CoreState → RequestItem → Type 0
-program_owns n Nlm exports f s r = AreOfSome n s (nlm_client r) (nlm_deeds exports f.nlm s r)
+program_owns n Nlm exports f s r = AllAt (λ t d. IsOfSome t (nlm_client r) d) n s (nlm_deeds n exports f.nlm s r)
 program_owns n Nfs exports f s r = AreTheirs n exports (smb_opens f) f.nfs s r
 
 abbrev pub program_reply : ℕ → Program → Exports → Fronts → CoreState → List Name → RequestItem → List Answer → List ℕ
@@ -140,6 +140,10 @@ abbrev pub told_deeds : Exports → Fronts → CoreState → List Effect → Lis
 told_deeds exports f s [] = []
 told_deeds exports f s (effect ∷ effects) = shown_deeds exports s effect ++ told_deeds exports (showing exports f s effect).1 (showing exports f s effect).2 effects
 
+-- what telling of what an event gave of itself does
+abbrev pub told_of : Exports → Given → List Deed
+told_of exports g = told_deeds exports g.2 g.3 g.1
+
 -- a turn, what telling of it does, and the turns behind
 abbrev pub turn_deeds : Exports → (Fronts → CoreState → List Deed) → Fronts → Option (List Effect × CoreState) → List Deed
 turn_deeds exports rest f None = []
@@ -154,44 +158,12 @@ turns_for (suc fuel) n exports f s = turn_deeds exports (turns_for fuel n export
 unfoldable pub turns : ℕ → Exports → Fronts → CoreState → List Deed
 turns n exports f s = turns_for (turns_left s) n exports f s
 
--- ---- what the front gave, before it is told
-
-abbrev pub given_of : FrontGiven → List Effect × Fronts × CoreState
-given_of r = (r.1, r.2, r.3)
-
-abbrev pub program_given : ℕ → Exports → Fronts → CoreState → ℕ → RequestItem → Program → List Effect × Fronts × CoreState
-program_given n exports f s number r Nlm = given_of (with_nlm f (nlm_step n exports f.nlm s number r))
-program_given n exports f s number r Nfs = given_of (with_nfs f (nfs_step n exports (smb_opens f) f.nfs s number r))
-
-abbrev pub record_given : ℕ → Exports → Fronts → CoreState → ℕ → IncomingItem → List Effect × Fronts × CoreState
-record_given n exports f s number (Asked r) = program_given n exports f s number r r.program
-record_given n exports f s number incoming = ([], f, s)
-
-abbrev pub message_given : ℕ → Exports → Fronts → CoreState → Option Kind → ℕ → List ℕ → List Effect × Fronts × CoreState
-message_given n exports f s (Some Rpc) number bytes = record_given n exports f s number (incoming_at bytes)
-message_given n exports f s (Some Smb) number bytes = given_of (with_smb f (smb_step n exports (nfs_opens f) f.smb s number bytes))
-message_given n exports f s None number bytes = ([], f, s)
-
-abbrev pub end_given : Fronts → CoreState → Option Kind → ℕ → List Effect × Fronts × CoreState
-end_given f s (Some Smb) number = after_end f (smb_end f.smb s number)
-end_given f s (Some Rpc) number = ([], f, s)
-end_given f s None number = ([], f, s)
-
--- what its own deeds tell of, and the front and the core that they leave
-abbrev pub given_by : ℕ → Whole → Event → List Effect × Fronts × CoreState
-given_by n s (Message number bytes) = message_given n s.exports s.front (step_begun s.core) (kind_of s.connections number) number bytes
-given_by n s (Open kind) = ([], begun s.front s.connections s.place kind, step_begun s.core)
-given_by n s (End number) = end_given s.front (step_begun s.core) (kind_of s.connections number) number
-given_by n s (Called number bytes) = after_call s.front (nlm_called n s.front.nlm (step_begun s.core) number bytes)
-given_by n s (Tick now) = ((tick (step_begun s.core) now).0, ticked s.front (tick (step_begun s.core) now).1.clock, (tick (step_begun s.core) now).1)
-given_by n s Restart = ([], s.front, step_begun s.core)
-
 -- ---- all that an event does
 
 -- what stands behind its own deeds: what telling of them does, and the turns
 abbrev pub behind_own : ℕ → Whole → Event → List Deed
 behind_own n s event =
-    told_deeds s.exports (given_by n s event).1 (given_by n s event).2 (given_by n s event).0 ++ turns n s.exports (heard n s event).1 (heard n s event).2
+    told_of s.exports (given_by n s event) ++ turns n s.exports (heard n s event).1 (heard n s event).2
 
 -- a restart does nothing to the core: it begins anew
 unfoldable pub deeds : ℕ → Whole → Event → List Deed
@@ -204,4 +176,4 @@ deeds n s event = own_deeds n s event ++ behind_own n s event
 unfoldable pub messages : ℕ → Whole → Event → List Out
 messages n s Restart = []
 messages n s event =
-    (all_shown s.exports (given_by n s event).1 (given_by n s event).2 (given_by n s event).0).0 ++ (own_replies n s event ++ (settled n s.exports (heard n s event).1 (heard n s event).2).0)
+    (telling s.exports (given_by n s event)).0 ++ (own_replies n s event ++ (settled n s.exports (heard n s event).1 (heard n s event).2).0)

@@ -163,50 +163,44 @@ settled n exports f s = settled_for (turns_left s) n exports f s
 
 -- ---- an event
 
--- what a front gave: what is sent to the connection, what the core told of besides, and the fronts and the core afterwards
-abbrev pub FrontGiven : Type 0
-FrontGiven = List Out × List Effect × Fronts × CoreState
+-- What an event gives of itself: its replies, in their frames, what the core told of, and the fronts and the core afterwards. What the
+-- fronts show for that is sent before the replies.
+abbrev pub Given : Type 0
+Given = List Out × List Effect × Fronts × CoreState
 
--- each with the others as they are
-abbrev pub with_nlm : Fronts → List Out × List Effect × FrontState × CoreState → FrontGiven
-with_nlm f r = (r.0, r.1, record f { nlm = r.2 }, r.3)
+-- what a front gave for a message, with the others as they are
+abbrev pub with_nlm : Fronts → List Out × List Effect × FrontState × CoreState → Given
+with_nlm f r = (map (framed Rpc) r.0, r.1, record f { nlm = r.2 }, r.3)
 
-abbrev pub with_nfs : Fronts → List Out × List Effect × FrontNfs × CoreState → FrontGiven
-with_nfs f r = (r.0, r.1, record f { nfs = r.2 }, r.3)
+abbrev pub with_nfs : Fronts → List Out × List Effect × FrontNfs × CoreState → Given
+with_nfs f r = (map (framed Rpc) r.0, r.1, record f { nfs = r.2 }, r.3)
 
-abbrev pub with_smb : Fronts → List Out × List Effect × FrontSmb × CoreState → FrontGiven
-with_smb f r = (r.0, r.1, record f { smb = r.2 }, r.3)
+abbrev pub with_smb : Fronts → List Out × List Effect × FrontSmb × CoreState → Given
+with_smb f r = (map (framed Smb) r.0, r.1, record f { smb = r.2 }, r.3)
 
-abbrev pub after_call : Fronts → List Effect × FrontState × CoreState → List Effect × Fronts × CoreState
-after_call f r = (r.0, record f { nlm = r.1 }, r.2)
+-- what is not replied to
+abbrev pub after_call : Fronts → List Effect × FrontState × CoreState → Given
+after_call f r = ([], r.0, record f { nlm = r.1 }, r.2)
 
-abbrev pub after_end : Fronts → List Effect × FrontSmb × CoreState → List Effect × Fronts × CoreState
-after_end f r = (r.0, record f { smb = r.1 }, r.2)
-
--- what a front gave for a message of a connection of this kind: what the fronts show for the effects comes before the reply
-abbrev pub front_done : Kind → Exports → FrontGiven → Sent
-front_done kind exports r = before (all_shown exports r.2 r.3 r.1) (map (framed kind) r.0)
+abbrev pub after_end : Fronts → List Effect × FrontSmb × CoreState → Given
+after_end f r = ([], r.0, record f { smb = r.1 }, r.2)
 
 -- what a request of a program that is served gives
-abbrev pub program_heard : ℕ → Exports → Fronts → CoreState → ℕ → RequestItem → Program → Sent
-program_heard n exports f s number r Nlm = front_done Rpc exports (with_nlm f (nlm_step n exports f.nlm s number r))
-program_heard n exports f s number r Nfs = front_done Rpc exports (with_nfs f (nfs_step n exports (smb_opens f) f.nfs s number r))
+abbrev pub program_given : ℕ → Exports → Fronts → CoreState → ℕ → RequestItem → Program → Given
+program_given n exports f s number r Nlm = with_nlm f (nlm_step n exports f.nlm s number r)
+program_given n exports f s number r Nfs = with_nfs f (nfs_step n exports (smb_opens f) f.nfs s number r)
 
 -- what a record of ONC RPC gives
-abbrev pub record_heard : ℕ → Exports → Fronts → CoreState → ℕ → IncomingItem → Sent
-record_heard n exports f s number Unanswered = ([], f, s)
-record_heard n exports f s number (Refused xid verdict) = (map (framed Rpc) (sent_to number (refusal_of xid verdict)), f, s)
-record_heard n exports f s number (Asked r) = program_heard n exports f s number r r.program
-
--- what a message of SMB gives
-abbrev pub packet_heard : ℕ → Exports → Fronts → CoreState → ℕ → List ℕ → Sent
-packet_heard n exports f s number bytes = front_done Smb exports (with_smb f (smb_step n exports (nfs_opens f) f.smb s number bytes))
+abbrev pub record_given : ℕ → Exports → Fronts → CoreState → ℕ → IncomingItem → Given
+record_given n exports f s number Unanswered = ([], [], f, s)
+record_given n exports f s number (Refused xid verdict) = (map (framed Rpc) (sent_to number (refusal_of xid verdict)), [], f, s)
+record_given n exports f s number (Asked r) = program_given n exports f s number r r.program
 
 -- what a message from a connection of this kind gives, if it is open
-abbrev pub heard_by : ℕ → Exports → Fronts → CoreState → Option Kind → ℕ → List ℕ → Sent
-heard_by n exports f s (Some Rpc) number bytes = record_heard n exports f s number (incoming_at bytes)
-heard_by n exports f s (Some Smb) number bytes = packet_heard n exports f s number bytes
-heard_by n exports f s None number bytes = ([], f, s)
+abbrev pub message_given : ℕ → Exports → Fronts → CoreState → Option Kind → ℕ → List ℕ → Given
+message_given n exports f s (Some Rpc) number bytes = record_given n exports f s number (incoming_at bytes)
+message_given n exports f s (Some Smb) number bytes = with_smb f (smb_step n exports (nfs_opens f) f.smb s number bytes)
+message_given n exports f s None number bytes = ([], [], f, s)
 
 -- the fronts once a connection of this kind opened: that of SMB keeps its own
 abbrev pub begun_by : Fronts → ℕ → Kind → Fronts
@@ -217,31 +211,39 @@ begun_by f number Smb = record f { smb = smb_begin f.smb number }
 abbrev pub begun : Fronts → List Connection → ℕ → Kind → Fronts
 begun f connections place kind = if nat_lt (length connections) most_connections then begun_by f place kind else f
 
--- what is told of effects alone
-abbrev pub called_done : Exports → List Effect × Fronts × CoreState → Sent
-called_done exports r = all_shown exports r.1 r.2 r.0
-
 -- what the end of a connection of this kind gives, if it was open; that of ONC RPC changes nothing (NLM-20)
-abbrev pub ended_by : Exports → Fronts → CoreState → Option Kind → ℕ → Sent
-ended_by exports f s (Some Smb) number = called_done exports (after_end f (smb_end f.smb s number))
-ended_by exports f s (Some Rpc) number = ([], f, s)
-ended_by exports f s None number = ([], f, s)
+abbrev pub end_given : Fronts → CoreState → Option Kind → ℕ → Given
+end_given f s (Some Smb) number = after_end f (smb_end f.smb s number)
+end_given f s (Some Rpc) number = ([], [], f, s)
+end_given f s None number = ([], [], f, s)
 
 -- what a reading of the clock gives: unconfirmed clients whose time has come are forgotten
 abbrev pub ticked : Fronts → Moment → Fronts
 ticked f now = record f { nfs = nfs_tick f.nfs now }
 
-abbrev pub ticked_done : Exports → Fronts → List Effect × CoreState → Sent
-ticked_done exports f r = all_shown exports (ticked f r.1.clock) r.1 r.0
+abbrev pub after_tick : Fronts → List Effect × CoreState → Given
+after_tick f r = ([], r.0, ticked f r.1.clock, r.1)
+
+-- what an event gives of itself
+abbrev pub given_by : ℕ → Whole → Event → Given
+given_by n s (Open kind) = ([], [], begun s.front s.connections s.place kind, step_begun s.core)
+given_by n s (Message number bytes) = message_given n s.exports s.front (step_begun s.core) (kind_of s.connections number) number bytes
+given_by n s (End number) = end_given s.front (step_begun s.core) (kind_of s.connections number) number
+given_by n s (Called call reply) = after_call s.front (nlm_called n s.front.nlm (step_begun s.core) call reply)
+given_by n s (Tick now) = after_tick s.front (tick (step_begun s.core) now)
+given_by n s Restart = ([], [], s.front, step_begun s.core)
+
+-- what the fronts show of it
+abbrev pub telling : Exports → Given → Sent
+telling exports g = all_shown exports g.2 g.3 g.1
+
+-- and behind that its replies
+abbrev pub sent_of : Exports → Given → Sent
+sent_of exports g = before (telling exports g) g.0
 
 -- what an event gives before the table is settled
 unfoldable pub heard : ℕ → Whole → Event → Sent
-heard n s (Open kind) = ([], begun s.front s.connections s.place kind, step_begun s.core)
-heard n s (Message number bytes) = heard_by n s.exports s.front (step_begun s.core) (kind_of s.connections number) number bytes
-heard n s (End number) = ended_by s.exports s.front (step_begun s.core) (kind_of s.connections number) number
-heard n s (Called call reply) = called_done s.exports (after_call s.front (nlm_called n s.front.nlm (step_begun s.core) call reply))
-heard n s (Tick now) = ticked_done s.exports s.front (tick (step_begun s.core) now)
-heard n s Restart = ([], s.front, step_begun s.core)
+heard n s event = sent_of s.exports (given_by n s event)
 
 -- the connections after the event at this place
 unfoldable pub connected : List Connection → ℕ → Event → List Connection

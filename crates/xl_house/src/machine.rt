@@ -9,12 +9,11 @@ ghost use Rattle.xl_core.specs.State.{MayBe, step_begun};
 ghost use Rattle.xl_core.specs.Ticks.{tick};
 ghost use Rattle.xl_front_nlm.specs.Answers.{nlm_called};
 ghost use Rattle.xl_front_nlm.specs.FrontNlm.{nlm_step};
-ghost use Rattle.xl_front_nlm.specs.Short.{AreShort};
+ghost use Rattle.xl_front_nlm.specs.Short.{AreShort, IsReady, Leaves};
 ghost use Rattle.xl_house.specs.Journals.{is_restart};
 ghost use Rattle.xl_front_nfs.specs.FrontNfs.{nfs_step};
 ghost use Rattle.xl_front_smb.specs.FrontSmb.{smb_step};
-ghost use Rattle.xl_house.specs.Machine.{with_nlm, with_nfs, with_smb, smb_opens, after_call, framed, connected, front_done, begun, called_done, ended_by, ticked_done, program_heard, record_heard, packet_heard, heard_by, heard, step};
-ghost use Rattle.xl_house.specs.Shown.{IsReadyFor, LeavesBy};
+ghost use Rattle.xl_house.specs.Machine.{with_nlm, with_nfs, with_smb, smb_opens, nfs_opens, after_call, after_tick, framed, connected, begun, record_given, message_given, end_given, sent_of, heard, step};
 ghost use Rattle.xl_house.specs.Whole.{whole_of};
 
 use crate::connections::{Connection, end, has_room, kind_of, open};
@@ -63,9 +62,9 @@ fn hear_nlm<K: Keeper>(
     request: &Request,
 ) -> Result<Sequence<Out>, AllocError>
     requires known { serves Program.Nlm request.now.procedure ≡ true }
-    requires ready { IsReadyFor most_numbers layers.old.core }
-    ensures heard { (n : ℕ) → IfOk result (λ outs. MayBe n layers.new.core → front_done Kind.Rpc exports.now (with_nlm layers.old.front (nlm_step n exports.now layers.old.front.nlm layers.old.core number (shown_request request.now))) ≡ (outs, layers.new.front, layers.new.core)) }
-    ensures leaves { OnOk result (LeavesBy most_numbers layers.old.core layers.new.core) }
+    requires ready { IsReady most_numbers layers.old.core }
+    ensures heard { (n : ℕ) → IfOk result (λ outs. MayBe n layers.new.core → sent_of exports.now (with_nlm layers.old.front (nlm_step n exports.now layers.old.front.nlm layers.old.core number (shown_request request.now))) ≡ (outs, layers.new.front, layers.new.core)) }
+    ensures leaves { OnOk result (Leaves most_numbers layers.old.core layers.new.core) }
     ensures keeper { keeper.new ≡ keeper.old }
 {
     let (reply, effects) = nlm_step(
@@ -93,9 +92,9 @@ fn hear_nfs<K: Keeper>(
     request: &Request,
 ) -> Result<Sequence<Out>, AllocError>
     requires known { serves Program.Nfs request.now.procedure ≡ true }
-    requires ready { IsReadyFor most_numbers layers.old.core }
-    ensures heard { (n : ℕ) → IfOk result (λ outs. MayBe n layers.new.core → front_done Kind.Rpc exports.now (with_nfs layers.old.front (nfs_step n exports.now (smb_opens layers.old.front) layers.old.front.nfs layers.old.core number (shown_request request.now))) ≡ (outs, layers.new.front, layers.new.core)) }
-    ensures leaves { OnOk result (LeavesBy most_numbers layers.old.core layers.new.core) }
+    requires ready { IsReady most_numbers layers.old.core }
+    ensures heard { (n : ℕ) → IfOk result (λ outs. MayBe n layers.new.core → sent_of exports.now (with_nfs layers.old.front (nfs_step n exports.now (smb_opens layers.old.front) layers.old.front.nfs layers.old.core number (shown_request request.now))) ≡ (outs, layers.new.front, layers.new.core)) }
+    ensures leaves { OnOk result (Leaves most_numbers layers.old.core layers.new.core) }
     ensures keeper { keeper.new ≡ keeper.old }
 {
     let others = layers.front.smb.opens_held();
@@ -130,7 +129,7 @@ fn refuse(
 }
 
 /// What a record of ONC RPC sends.
-#[tactic(auto, using(crate::proofs::SettleLaws::leaves_self))]
+#[tactic(auto, using(xl_front_nlm::proofs::LeaveLaws::leaves_self))]
 fn hear_record<K: Keeper>(
     alloc: Global,
     exports: &Exports,
@@ -139,9 +138,9 @@ fn hear_record<K: Keeper>(
     number: u64,
     bytes: &[u8],
 ) -> Result<Sequence<Out>, AllocError>
-    requires ready { IsReadyFor most_numbers layers.old.core }
-    ensures heard { (n : ℕ) → IfOk result (λ outs. MayBe n layers.new.core → record_heard n exports.now layers.old.front layers.old.core number (incoming_at bytes.now) ≡ (outs, layers.new.front, layers.new.core)) }
-    ensures leaves { OnOk result (LeavesBy most_numbers layers.old.core layers.new.core) }
+    requires ready { IsReady most_numbers layers.old.core }
+    ensures heard { (n : ℕ) → IfOk result (λ outs. MayBe n layers.new.core → sent_of exports.now (record_given n exports.now layers.old.front layers.old.core number (incoming_at bytes.now)) ≡ (outs, layers.new.front, layers.new.core)) }
+    ensures leaves { OnOk result (Leaves most_numbers layers.old.core layers.new.core) }
     ensures keeper { keeper.new ≡ keeper.old }
 {
     match read_incoming(bytes) {
@@ -163,9 +162,9 @@ fn hear_packet<K: Keeper>(
     number: u64,
     bytes: &[u8],
 ) -> Result<Sequence<Out>, AllocError>
-    requires ready { IsReadyFor most_numbers layers.old.core }
-    ensures heard { (n : ℕ) → IfOk result (λ outs. MayBe n layers.new.core → packet_heard n exports.now layers.old.front layers.old.core number bytes.now ≡ (outs, layers.new.front, layers.new.core)) }
-    ensures leaves { OnOk result (LeavesBy most_numbers layers.old.core layers.new.core) }
+    requires ready { IsReady most_numbers layers.old.core }
+    ensures heard { (n : ℕ) → IfOk result (λ outs. MayBe n layers.new.core → sent_of exports.now (with_smb layers.old.front (smb_step n exports.now (nfs_opens layers.old.front) layers.old.front.smb layers.old.core number bytes.now)) ≡ (outs, layers.new.front, layers.new.core)) }
+    ensures leaves { OnOk result (Leaves most_numbers layers.old.core layers.new.core) }
     ensures keeper { keeper.new ≡ keeper.old }
 {
     let others = layers.front.nfs_opens();
@@ -184,7 +183,7 @@ fn hear_packet<K: Keeper>(
 }
 
 /// What a message from a connection of this kind sends.
-#[tactic(auto, using(crate::proofs::SettleLaws::leaves_self))]
+#[tactic(auto, using(xl_front_nlm::proofs::LeaveLaws::leaves_self))]
 fn hear<K: Keeper>(
     alloc: Global,
     exports: &Exports,
@@ -194,9 +193,9 @@ fn hear<K: Keeper>(
     number: u64,
     bytes: &[u8],
 ) -> Result<Sequence<Out>, AllocError>
-    requires ready { IsReadyFor most_numbers layers.old.core }
-    ensures heard { (n : ℕ) → IfOk result (λ outs. MayBe n layers.new.core → heard_by n exports.now layers.old.front layers.old.core kind number bytes.now ≡ (outs, layers.new.front, layers.new.core)) }
-    ensures leaves { OnOk result (LeavesBy most_numbers layers.old.core layers.new.core) }
+    requires ready { IsReady most_numbers layers.old.core }
+    ensures heard { (n : ℕ) → IfOk result (λ outs. MayBe n layers.new.core → sent_of exports.now (message_given n exports.now layers.old.front layers.old.core kind number bytes.now) ≡ (outs, layers.new.front, layers.new.core)) }
+    ensures leaves { OnOk result (Leaves most_numbers layers.old.core layers.new.core) }
     ensures keeper { keeper.new ≡ keeper.old }
 {
     let Some(kind) = kind else {
@@ -233,9 +232,9 @@ fn hear_last(
     layers: &mut Layers,
     number: u64,
 ) -> Result<Sequence<Out>, AllocError>
-    requires ready { IsReadyFor most_numbers layers.old.core }
-    ensures heard { IfOk result (λ outs. ended_by exports.now layers.old.front layers.old.core (Some Kind.Smb) number ≡ (outs, layers.new.front, layers.new.core)) }
-    ensures leaves { OnOk result (LeavesBy most_numbers layers.old.core layers.new.core) }
+    requires ready { IsReady most_numbers layers.old.core }
+    ensures heard { IfOk result (λ outs. sent_of exports.now (end_given layers.old.front layers.old.core (Some Kind.Smb) number) ≡ (outs, layers.new.front, layers.new.core)) }
+    ensures leaves { OnOk result (Leaves most_numbers layers.old.core layers.new.core) }
 {
     let effects = smb_end(alloc, &mut layers.front.smb, &mut layers.core, number)?;
     let outs = sent_for(alloc, exports, layers, effects)?;
@@ -243,7 +242,7 @@ fn hear_last(
 }
 
 /// What the end of a connection of this kind sends.
-#[tactic(auto, using(crate::proofs::SettleLaws::leaves_self))]
+#[tactic(auto, using(xl_front_nlm::proofs::LeaveLaws::leaves_self))]
 fn hear_end(
     alloc: Global,
     exports: &Exports,
@@ -251,9 +250,9 @@ fn hear_end(
     kind: Option<Kind>,
     number: u64,
 ) -> Result<Sequence<Out>, AllocError>
-    requires ready { IsReadyFor most_numbers layers.old.core }
-    ensures heard { IfOk result (λ outs. ended_by exports.now layers.old.front layers.old.core kind number ≡ (outs, layers.new.front, layers.new.core)) }
-    ensures leaves { OnOk result (LeavesBy most_numbers layers.old.core layers.new.core) }
+    requires ready { IsReady most_numbers layers.old.core }
+    ensures heard { IfOk result (λ outs. sent_of exports.now (end_given layers.old.front layers.old.core kind number) ≡ (outs, layers.new.front, layers.new.core)) }
+    ensures leaves { OnOk result (Leaves most_numbers layers.old.core layers.new.core) }
 {
     match kind {
         Some(Kind::Smb) => hear_last(alloc, exports, layers, number),
@@ -281,9 +280,9 @@ fn hear_answer<K: Keeper>(
     call: u64,
     reply: &Option<Sequence<u8>>,
 ) -> Result<Sequence<Out>, AllocError>
-    requires ready { IsReadyFor most_numbers layers.old.core }
-    ensures heard { (n : ℕ) → IfOk result (λ outs. MayBe n layers.new.core → called_done exports.now (after_call layers.old.front (nlm_called n layers.old.front.nlm layers.old.core call reply.now)) ≡ (outs, layers.new.front, layers.new.core)) }
-    ensures leaves { OnOk result (LeavesBy most_numbers layers.old.core layers.new.core) }
+    requires ready { IsReady most_numbers layers.old.core }
+    ensures heard { (n : ℕ) → IfOk result (λ outs. MayBe n layers.new.core → sent_of exports.now (after_call layers.old.front (nlm_called n layers.old.front.nlm layers.old.core call reply.now)) ≡ (outs, layers.new.front, layers.new.core)) }
+    ensures leaves { OnOk result (Leaves most_numbers layers.old.core layers.new.core) }
     ensures keeper { keeper.new ≡ keeper.old }
 {
     let effects = nlm_called(
@@ -308,9 +307,9 @@ fn hear_tick<K: Keeper>(
     keeper: &mut K,
     now: Moment,
 ) -> Result<Sequence<Out>, AllocError>
-    requires ready { IsReadyFor most_numbers layers.old.core }
-    ensures heard { IfOk result (λ outs. ticked_done exports.now layers.old.front (tick layers.old.core now) ≡ (outs, layers.new.front, layers.new.core)) }
-    ensures leaves { OnOk result (LeavesBy most_numbers layers.old.core layers.new.core) }
+    requires ready { IsReady most_numbers layers.old.core }
+    ensures heard { IfOk result (λ outs. sent_of exports.now (after_tick layers.old.front (tick layers.old.core now)) ≡ (outs, layers.new.front, layers.new.core)) }
+    ensures leaves { OnOk result (Leaves most_numbers layers.old.core layers.new.core) }
     ensures keeper { keeper.new ≡ keeper.old }
 {
     let effects = layers.core.tick(alloc, keeper, now)?;
@@ -328,9 +327,9 @@ fn hear_event<K: Keeper>(
     keeper: &mut K,
     event: &Event,
 ) -> Result<Sequence<Out>, AllocError>
-    requires ready { IsReadyFor most_numbers machine.old.layers.core }
+    requires ready { IsReady most_numbers machine.old.layers.core }
     ensures heard { (n : ℕ) → IfOk result (λ outs. MayBe n machine.new.layers.core → heard n (whole_of exports.now machine.old) event.now ≡ (outs, machine.new.layers.front, machine.new.layers.core)) }
-    ensures leaves { OnOk result (LeavesBy most_numbers (step_begun machine.old.layers.core) machine.new.layers.core) }
+    ensures leaves { OnOk result (Leaves most_numbers (step_begun machine.old.layers.core) machine.new.layers.core) }
     ensures place { machine.new.place ≡ machine.old.place }
     ensures connections { machine.new.connections.items ≡ machine.old.connections.items }
     ensures keeper { keeper.new ≡ keeper.old }
@@ -379,7 +378,7 @@ pub(crate) fn act<K: Keeper>(
     event: &Event,
 ) -> Result<Sequence<Out>, AllocError>
     requires place { machine.old.place < 2 ^ 63 }
-    requires ready { IsReadyFor most_numbers machine.old.layers.core }
+    requires ready { IsReady most_numbers machine.old.layers.core }
     requires goes_on { is_restart event.now ≡ false }
     ensures step { IfOk result (λ outs. step 0 (whole_of exports.now machine.old) event.now ≡ record { next = whole_of exports.now machine.new; made = 0; outs = outs }) }
     ensures short { OnOk result (AreShort machine.new.layers.core.names) }

@@ -3,8 +3,7 @@ ghost use Rattle.std.specs.Prelude.{◌≡◌, ◌≤◌, ◌++◌, [], map, vec
 ghost use Rattle.std.specs.List.{AllByRecursion};
 ghost use Rattle.xl_front_nlm.specs.Short.{IsReady, Leaves};
 ghost use Rattle.xl_programs.specs.Sent.{FitsFrame};
-ghost use Rattle.xl_house.specs.Machine.{showing, framed, front_done, grants, behind, all_shown};
-ghost use Rattle.xl_house.specs.Shown.{IsReadyFor, LeavesBy};
+ghost use Rattle.xl_house.specs.Machine.{showing, framed, sent_of, grants, behind, all_shown};
 
 use crate::layers::Layers;
 use std::alloc::{AllocError, Global};
@@ -61,9 +60,9 @@ fn show(
     effect: &Effect,
     outs: &mut Sequence<Out>,
 ) -> Result<(), AllocError>
-    requires ready { IsReady layers.old.core }
+    requires ready { IsReady 0 layers.old.core }
     ensures state { OnOk result (behind outs.old (showing exports.now layers.old.front layers.old.core effect.now) ≡ (outs.new, layers.new.front, layers.new.core)) }
-    ensures leaves { OnOk result (Leaves layers.old.core layers.new.core) }
+    ensures leaves { OnOk result (Leaves 2 layers.old.core layers.new.core) }
 {
     let asked_back = recalls(alloc, &layers.front.nfs, &layers.core, effect)?;
     nfs_shown(&mut layers.front.nfs, effect);
@@ -91,7 +90,7 @@ fn show_each(
     effects: &[Effect],
     outs: &mut Sequence<Out>,
 ) -> Result<(), AllocError>
-    requires ready { IsReadyFor (grants effects.now) layers.old.core }
+    requires ready { IsReady (grants effects.now) layers.old.core }
     ensures { OnOk result (behind outs.old (all_shown exports.now layers.old.front layers.old.core effects.now) ≡ (outs.new, layers.new.front, layers.new.core)) }
 {
     for effect in effects {
@@ -109,9 +108,9 @@ pub(crate) fn show_all(
     effects: &[Effect],
     outs: &mut Sequence<Out>,
 ) -> Result<(), AllocError>
-    requires ready { IsReadyFor (grants effects.now) layers.old.core }
+    requires ready { IsReady (grants effects.now) layers.old.core }
     ensures sent { OnOk result (behind outs.old (all_shown exports.now layers.old.front layers.old.core effects.now) ≡ (outs.new, layers.new.front, layers.new.core)) }
-    ensures leaves { OnOk result (LeavesBy (grants effects.now) layers.old.core layers.new.core) }
+    ensures leaves { OnOk result (Leaves (grants effects.now) layers.old.core layers.new.core) }
 {
     show_each(alloc, exports, layers, effects, outs)?;
     Ok(())
@@ -124,13 +123,12 @@ pub(crate) fn sent_for(
     layers: &mut Layers,
     effects: Sequence<Effect>,
 ) -> Result<Sequence<Out>, AllocError>
-    requires ready { IsReadyFor (grants effects) layers.old.core }
-    ensures sent { IfOk result (λ outs. all_shown exports.now layers.old.front layers.old.core effects ≡ (outs, layers.new.front, layers.new.core)) }
-    ensures leaves { OnOk result (LeavesBy (grants effects) layers.old.core layers.new.core) }
+    requires ready { IsReady (grants effects) layers.old.core }
+    ensures sent { IfOk result (λ outs. sent_of exports.now ([], effects, layers.old.front, layers.old.core) ≡ (outs, layers.new.front, layers.new.core)) }
+    ensures leaves { OnOk result (Leaves (grants effects) layers.old.core layers.new.core) }
 {
-    let mut outs = Sequence::new(alloc);
-    show_all(alloc, exports, layers, effects.as_slice(), &mut outs)?;
-    Ok(outs)
+    let none = Sequence::new(alloc);
+    sent_with(alloc, exports, Kind::Rpc, layers, none, effects)
 }
 
 /// What the fronts send for these effects, and behind it this reply to a connection of this kind.
@@ -143,9 +141,9 @@ pub(crate) fn sent_with(
     effects: Sequence<Effect>,
 ) -> Result<Sequence<Out>, AllocError>
     requires fits { AllByRecursion FitsFrame reply }
-    requires ready { IsReadyFor (grants effects) layers.old.core }
-    ensures sent { IfOk result (λ outs. front_done kind exports.now (reply, effects, layers.old.front, layers.old.core) ≡ (outs, layers.new.front, layers.new.core)) }
-    ensures leaves { OnOk result (LeavesBy (grants effects) layers.old.core layers.new.core) }
+    requires ready { IsReady (grants effects) layers.old.core }
+    ensures sent { IfOk result (λ outs. sent_of exports.now (map (framed kind) reply, effects, layers.old.front, layers.old.core) ≡ (outs, layers.new.front, layers.new.core)) }
+    ensures leaves { OnOk result (Leaves (grants effects) layers.old.core layers.new.core) }
 {
     let mut outs = Sequence::from_vec(room_for(alloc, reply.len())?);
     show_all(alloc, exports, layers, effects.as_slice(), &mut outs)?;

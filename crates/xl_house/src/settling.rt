@@ -3,7 +3,7 @@ ghost use Rattle.std.specs.Prelude.{◌≡◌, ℕ, OnOk};
 ghost use Rattle.xl_core.specs.Good.{IsSettled};
 ghost use Rattle.xl_core.specs.State.{MayBe};
 ghost use Rattle.xl_house.specs.Machine.{behind, settled};
-ghost use Rattle.xl_house.specs.Shown.{IsReadyFor, LeavesBy};
+ghost use Rattle.xl_front_nlm.specs.Short.{IsReady, Leaves};
 
 use crate::layers::Layers;
 use crate::outs::show_all;
@@ -18,9 +18,9 @@ pub(crate) fn settle<K: Keeper>(
     keeper: &mut K,
     outs: &mut Sequence<Out>,
 ) -> Result<(), AllocError>
-    requires ready { IsReadyFor 0 layers.old.core }
+    requires ready { IsReady 0 layers.old.core }
     ensures state { (n : ℕ) → OnOk result (MayBe n layers.new.core → behind outs.old (settled n exports.now layers.old.front layers.old.core) ≡ (outs.new, layers.new.front, layers.new.core)) }
-    ensures leaves { OnOk result (LeavesBy 0 layers.old.core layers.new.core) }
+    ensures leaves { OnOk result (Leaves 0 layers.old.core layers.new.core) }
     ensures settled { OnOk result (IsSettled layers.new.core) }
     ensures keeper { keeper.new ≡ keeper.old }
 {

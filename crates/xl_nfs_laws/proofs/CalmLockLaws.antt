@@ -283,14 +283,14 @@ release_calm last s l current a set =
 
 -- ---- each operation
 
-pub lock_tied : (n : ℕ) (s : CoreState) (l : NfsLists) (current : Option ℕ) (a : LockArgsItem) → IsGood s → AreTied s l → (let r = carried n s l current (first.lock s l current a) in AreTied r.4 r.3)
-lock_tied n s l current a good tied = carried_tied n s l current (first.lock s l current a) _ good (lock_own n s l current a good) tied (lock_calm s.counter s l current a tied.set)
+pub lock_tied : (n : ℕ) (s : CoreState) (l : NfsLists) (current : Option ℕ) (a : LockArgsItem) → IsGood s → AreTied s l → (let r = carried n s l (first.lock s l current a) in AreTied r.4 r.3)
+lock_tied n s l current a good tied = carried_tied n s l (first.lock s l current a) _ good (lock_own n s l current a good) tied (lock_calm s.counter s l current a tied.set)
 
-pub test_tied : (n : ℕ) (s : CoreState) (l : NfsLists) (current : Option ℕ) (a : LockTestArgsItem) → IsGood s → AreTied s l → (let r = carried n s l current (lock_test s l current a) in AreTied r.4 r.3)
-test_tied n s l current a good tied = carried_tied n s l current (lock_test s l current a) _ good (test_own n s l current a good) tied (test_calm s.counter s l current a tied.set)
+pub test_tied : (n : ℕ) (s : CoreState) (l : NfsLists) (current : Option ℕ) (a : LockTestArgsItem) → IsGood s → AreTied s l → (let r = carried n s l (lock_test s l current a) in AreTied r.4 r.3)
+test_tied n s l current a good tied = carried_tied n s l (lock_test s l current a) _ good (test_own n s l current a good) tied (test_calm s.counter s l current a tied.set)
 
-pub unlock_tied : (n : ℕ) (s : CoreState) (l : NfsLists) (current : Option ℕ) (a : UnlockArgs) → IsGood s → AreTied s l → (let r = carried n s l current (unlock s l current a) in AreTied r.4 r.3)
-unlock_tied n s l current a good tied = carried_tied n s l current (unlock s l current a) _ good (unlock_own n s l current a good) tied (unlock_calm s.counter s l current a tied.set)
+pub unlock_tied : (n : ℕ) (s : CoreState) (l : NfsLists) (current : Option ℕ) (a : UnlockArgs) → IsGood s → AreTied s l → (let r = carried n s l (unlock s l current a) in AreTied r.4 r.3)
+unlock_tied n s l current a good tied = carried_tied n s l (unlock s l current a) _ good (unlock_own n s l current a good) tied (unlock_calm s.counter s l current a tied.set)
 
-pub release_tied : (n : ℕ) (s : CoreState) (l : NfsLists) (current : Option ℕ) (a : OwnerItem) → IsGood s → AreTied s l → (let r = carried n s l current (release s l current a) in AreTied r.4 r.3)
-release_tied n s l current a good tied = carried_tied n s l current (release s l current a) _ good (release_own n s l current a good) tied (release_calm s.counter s l current a tied.set)
+pub release_tied : (n : ℕ) (s : CoreState) (l : NfsLists) (current : Option ℕ) (a : OwnerItem) → IsGood s → AreTied s l → (let r = carried n s l (release s l current a) in AreTied r.4 r.3)
+release_tied n s l current a good tied = carried_tied n s l (release s l current a) _ good (release_own n s l current a good) tied (release_calm s.counter s l current a tied.set)

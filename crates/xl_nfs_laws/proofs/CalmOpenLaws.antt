@@ -41,7 +41,8 @@ use Rattle.xl_nfs_laws.specs.Delegated.{AreSet, AreTied, IsShut, is_open_still, 
 use Rattle.xl_nfs_opens.specs.Downgrades.{downgrade_by, downgrade_done, downgrade_fault, open_downgrade, weakens}
 use Rattle.xl_nfs_opens.specs.Opens.{gives, repeated, rights_of, share_by, share_held, stood}
 use Rattle.xl_nfs_laws.specs.Orderly.{IsOrderly}
-use Rattle.xl_nfs_opens.specs.Plans.{Plan, Fails, Does, Behind, Asking, carried, deeds_of}
+use Rattle.xl_plan.specs.Plans.{Tells, Does, Behind, Asking, deeds_of}
+use Rattle.xl_nfs_opens.specs.Plans.{Plan, carried}
 use Rattle.xl_nfs_opens.specs.Renewing.{renewals, renewals_by, renewed_for, renewing, state_client}
 use Rattle.xl_nfs_opens.specs.Results.{spelled}
 use Rattle.xl_nfs_opens.specs.declared.opener.Checked.{Checked}
@@ -67,8 +68,8 @@ tied_by s t last l m tied quiet le still = record {
 
 -- whatever it comes to in a state in which this number was given out last, no delegation comes or goes
 abbrev pub IsCalm : ℕ → NfsLists → Plan → Type 0
-IsCalm last l (Fails status) = Unit {0}
-IsCalm last l (Does deeds lists current told) = AllByRecursion IsQuietDeed deeds × AreStill (last + draws deeds) l lists
+IsCalm last l (Tells told) = Unit {0}
+IsCalm last l (Does deeds lists told) = AllByRecursion IsQuietDeed deeds × AreStill (last + draws deeds) l lists
 IsCalm last l (Behind deeds lists rest) = AllByRecursion IsQuietDeed deeds × AreStill last l lists × ((t : CoreState) → last ≤ t.counter → IsCalm t.counter lists (rest t))
 IsCalm last l (Asking left a rest) = (a.wish ≡ []) × ((answer : Answer) (t : CoreState) → last ≤ t.counter → IsCalm t.counter l (rest answer t))
 
@@ -78,19 +79,19 @@ later_still a b l m le still = record { set = later_set a b m le still.set; rows
 pub does_still : (last : ℕ) (deeds : List Deed) (l m : NfsLists) → AreStill last l m → AreStill (last + draws deeds) l m
 does_still last deeds l m still = later_still last (last + draws deeds) l m (omega arith) still
 
-pub carried_tied : (n : ℕ) (s : CoreState) (l : NfsLists) (current : Option ℕ) (plan : Plan) (Client : List ℕ → Type 0) → IsGood s → Owned n s Client plan → AreTied s l → IsCalm s.counter l plan → AreTied (carried n s l current plan).4 (carried n s l current plan).3
-carried_tied n s l current (Fails status) Client good own tied calm = tied
-carried_tied n s l current (Does deeds lists handle told) Client good own tied calm =
+pub carried_tied : (n : ℕ) (s : CoreState) (l : NfsLists) (plan : Plan) (Client : List ℕ → Type 0) → IsGood s → Owned n s Client plan → AreTied s l → IsCalm s.counter l plan → AreTied (carried n s l plan).4 (carried n s l plan).3
+carried_tied n s l (Tells told) Client good own tied calm = tied
+carried_tied n s l (Does deeds lists told) Client good own tied calm =
     tied_by s (all_done n s deeds) (s.counter + draws deeds) l lists tied (all_quiet n s deeds good own.0 calm.0) (deeds_rise n s Client deeds good own.0 own.1) calm.1
-carried_tied n s l current (Behind deeds lists rest) Client good own tied calm =
+carried_tied n s l (Behind deeds lists rest) Client good own tied calm =
     let t = all_done n s deeds in
     let parts = parts_own n s Client deeds (deeds_of n t (rest t)) own.0 own.1 in
     let quiet = all_quiet n s deeds good parts.0.0 calm.0 in
-    carried_tied n t lists current (rest t) Client quiet.good parts.1 (tied_by s t s.counter l lists tied quiet quiet.later calm.1) (calm.2 t quiet.later)
-carried_tied n s l current (Asking left a rest) Client good own tied calm =
+    carried_tied n t lists (rest t) Client quiet.good parts.1 (tied_by s t s.counter l lists tied quiet quiet.later calm.1) (calm.2 t quiet.later)
+carried_tied n s l (Asking left a rest) Client good own tied calm =
     let r = ask n left s a in
     let quiet = one_quiet n s (Asks left a) good own.0.0 calm.0 in
-    carried_tied n r.2 l current (rest r.0 r.2) Client quiet.good (own.0.1, own.1.1) (tied_by s r.2 s.counter l l tied quiet quiet.later (still_self s.counter l tied.set)) (calm.1 r.0 r.2 quiet.later)
+    carried_tied n r.2 l (rest r.0 r.2) Client quiet.good (own.0.1, own.1.1) (tied_by s r.2 s.counter l l tied quiet quiet.later (still_self s.counter l tied.set)) (calm.1 r.0 r.2 quiet.later)
 
 -- ---- leases
 
@@ -248,11 +249,11 @@ close_calm last s l current a orderly set =
 
 -- ---- each operation
 
-pub confirm_tied : (n : ℕ) (s : CoreState) (l : NfsLists) (current : Option ℕ) (a : OpenConfirmArgs) → IsGood s → AreTied s l → (let r = carried n s l current (open_confirm s l current a) in AreTied r.4 r.3)
-confirm_tied n s l current a good tied = carried_tied n s l current (open_confirm s l current a) _ good (confirm_own n s l current a good) tied (confirm_calm s.counter s l current a tied.set)
+pub confirm_tied : (n : ℕ) (s : CoreState) (l : NfsLists) (current : Option ℕ) (a : OpenConfirmArgs) → IsGood s → AreTied s l → (let r = carried n s l (open_confirm s l current a) in AreTied r.4 r.3)
+confirm_tied n s l current a good tied = carried_tied n s l (open_confirm s l current a) _ good (confirm_own n s l current a good) tied (confirm_calm s.counter s l current a tied.set)
 
-pub downgrade_tied : (n : ℕ) (s : CoreState) (l : NfsLists) (current : Option ℕ) (a : OpenDowngradeArgs) → IsGood s → AreTied s l → (let r = carried n s l current (open_downgrade s l current a) in AreTied r.4 r.3)
-downgrade_tied n s l current a good tied = carried_tied n s l current (open_downgrade s l current a) _ good (downgrade_own n s l current a good) tied (downgrade_calm s.counter s l current a tied.set)
+pub downgrade_tied : (n : ℕ) (s : CoreState) (l : NfsLists) (current : Option ℕ) (a : OpenDowngradeArgs) → IsGood s → AreTied s l → (let r = carried n s l (open_downgrade s l current a) in AreTied r.4 r.3)
+downgrade_tied n s l current a good tied = carried_tied n s l (open_downgrade s l current a) _ good (downgrade_own n s l current a good) tied (downgrade_calm s.counter s l current a tied.set)
 
-pub close_tied : (n : ℕ) (s : CoreState) (l : NfsLists) (current : Option ℕ) (a : CloseArgs) → IsGood s → IsOrderly l → AreTied s l → (let r = carried n s l current (close s l current a) in AreTied r.4 r.3)
-close_tied n s l current a good orderly tied = carried_tied n s l current (close s l current a) _ good (close_own n s l current a good) tied (close_calm s.counter s l current a orderly tied.set)
+pub close_tied : (n : ℕ) (s : CoreState) (l : NfsLists) (current : Option ℕ) (a : CloseArgs) → IsGood s → IsOrderly l → AreTied s l → (let r = carried n s l (close s l current a) in AreTied r.4 r.3)
+close_tied n s l current a good orderly tied = carried_tied n s l (close s l current a) _ good (close_own n s l current a good) tied (close_calm s.counter s l current a orderly tied.set)

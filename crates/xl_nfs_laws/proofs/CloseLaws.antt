@@ -73,7 +73,7 @@ unfolding give_back
 same_names n s None = refl
 same_names n s (Some claim) = refl
 
-pub close_gives : (n : ℕ) (s : CoreState) (l : NfsLists) (current : Option ℕ) (a : CloseArgs) (r : StateidRow) (owner number : ℕ) (seqids : SeqidState) (o : Opener) → IsGood s → opener_by l r.client owner ≡ Some o → number_of (NfsShare o.id o.owner) (carried n s l current (close_done s l current a r owner seqids None)).4.names ≡ Some number → shares_of r.file (owners.Name Nfs number) (carried n s l current (close_done s l current a r owner seqids None)).4.claims ≡ []
+pub close_gives : (n : ℕ) (s : CoreState) (l : NfsLists) (current : Option ℕ) (a : CloseArgs) (r : StateidRow) (owner number : ℕ) (seqids : SeqidState) (o : Opener) → IsGood s → opener_by l r.client owner ≡ Some o → number_of (NfsShare o.id o.owner) (carried n s l (close_done s l current a r owner seqids None)).4.names ≡ Some number → shares_of r.file (owners.Name Nfs number) (carried n s l (close_done s l current a r owner seqids None)).4.claims ≡ []
 unfolding share_held
 close_gives n s l current a r owner number seqids o good is named =
     let ds = ends_locks l r (locks_under l r.number) in
@@ -86,7 +86,7 @@ close_gives n s l current a r owner number seqids o good is named =
 
 -- ---- the open
 
-pub close_is_marked : (n : ℕ) (s : CoreState) (l : NfsLists) (current : Option ℕ) (a : CloseArgs) (r : StateidRow) (owner by : ℕ) (seqids : SeqidState) → IsOrderly l → checked s l current 4 a.seqid a.stateid ≡ Passed r owner seqids → r.holder ≡ holders.Open by → option_map (λ (x : StateidRow). x.standing.closed) (find (is_stateid r.number) (carried n s l current (close_done s l current a r owner seqids None)).3.stateids) ≡ Some true
+pub close_is_marked : (n : ℕ) (s : CoreState) (l : NfsLists) (current : Option ℕ) (a : CloseArgs) (r : StateidRow) (owner by : ℕ) (seqids : SeqidState) → IsOrderly l → checked s l current 4 a.seqid a.stateid ≡ Passed r owner seqids → r.holder ≡ holders.Open by → option_map (λ (x : StateidRow). x.standing.closed) (find (is_stateid r.number) (carried n s l (close_done s l current a r owner seqids None)).3.stateids) ≡ Some true
 close_is_marked n s l current a r owner by seqids orderly e holds =
     let passed : IsPassed l r owner seqids = subst (λ (c : Checked). IfPassed l c) e (checked_passed s l current 4 a.seqid a.stateid) in
     let there : IsIn r l.stateids × (is_stateid r.number r ≡ true) = subst (λ (o : Option StateidRow). IfSome o (λ y. IsIn y l.stateids × (is_stateid r.number y ≡ true))) passed.found (find_in (is_stateid r.number) l.stateids) in

@@ -149,7 +149,7 @@ given_stays : (n : ℕ) (s : CoreState) (share : Option Claim) (at : ℕ) (owner
 given_stays n s None at owner byte good fit free = free
 given_stays n s (Some claim) at owner byte good fit free = deed_makes n s (GivesBack claim) (ByteOf at owner byte) good (fit claim refl) ∙ cleared_stays (part_of claim (ByteOf at owner byte)) (held_at s (ByteOf at owner byte)) free
 
-pub closed_free : (n : ℕ) (s : CoreState) (l : NfsLists) (current : Option ℕ) (a : CloseArgs) (r : StateidRow) (owner : ℕ) (seqids : SeqidState) (q : StateidRow) (o : Opener) (byte : ℕ) → IsGood s → IsIn q (locks_under l r.number) → opener_by l r.client (lock_owner q.holder) ≡ Some o → byte ≤ all_ones → held_at (carried n s l current (close_done s l current a r owner seqids None)).4 (ByteOf r.file (owner_of s.names o) byte) ≡ []
+pub closed_free : (n : ℕ) (s : CoreState) (l : NfsLists) (current : Option ℕ) (a : CloseArgs) (r : StateidRow) (owner : ℕ) (seqids : SeqidState) (q : StateidRow) (o : Opener) (byte : ℕ) → IsGood s → IsIn q (locks_under l r.number) → opener_by l r.client (lock_owner q.holder) ≡ Some o → byte ≤ all_ones → held_at (carried n s l (close_done s l current a r owner seqids None)).4 (ByteOf r.file (owner_of s.names o) byte) ≡ []
 closed_free n s l current a r owner seqids q o byte good there named le =
     let Any : List ℕ → Type 0 = λ _. Unit {0} in
     let ds = ends_locks l r (locks_under l r.number) in
@@ -166,7 +166,7 @@ module _ {A : Type 0} where
         | inr e ↦ rw e (rw e (none_kept p xs))
       ]
 
-pub closed_alone : (n : ℕ) (s : CoreState) (l : NfsLists) (current : Option ℕ) (a : CloseArgs) (r : StateidRow) (owner : ℕ) (seqids : SeqidState) → locks_under (carried n s l current (close_done s l current a r owner seqids None)).3 r.number ≡ []
+pub closed_alone : (n : ℕ) (s : CoreState) (l : NfsLists) (current : Option ℕ) (a : CloseArgs) (r : StateidRow) (owner : ℕ) (seqids : SeqidState) → locks_under (carried n s l (close_done s l current a r owner seqids None)).3 r.number ≡ []
 closed_alone n s l current a r owner seqids =
     let t = all_done n s (ends_locks l r (locks_under l r.number)) in
     none_kept (is_whose (whose.Under r.number)) (done_lists t l r owner seqids 4 a.seqid seqids.confirmed (Some r.number) r.standing.access r.standing.deny true).stateids

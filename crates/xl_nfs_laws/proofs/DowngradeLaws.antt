@@ -39,7 +39,7 @@ use Rattle.xl_nfs_opens.specs.Seqids.{closed_gone, counted, seqid_set}
 use Rattle.xl_nfs_opens.specs.declared.opener.Opener.{Opener}
 use Rattle.xl_nfs_laws.proofs.EnteredOpenLaws.{changed_found, kept_stateids, still_there}
 
-pub downgrade_row : (n : ℕ) (s : CoreState) (l : NfsLists) (current : Option ℕ) (a : OpenDowngradeArgs) (r : StateidRow) (owner by : ℕ) (seqids : SeqidState) → find (is_stateid r.number) l.stateids ≡ Some r → r.holder ≡ holders.Open by → (seqids.closed ≡ Some r.number → ⊥) → find (is_stateid r.number) (carried n s l current (downgrade_done s l current a r owner seqids None)).3.stateids ≡ Some (with_standing (record { seqid = next_seqid r.standing.seqid; access = a.access; deny = a.deny; closed = false }) r)
+pub downgrade_row : (n : ℕ) (s : CoreState) (l : NfsLists) (current : Option ℕ) (a : OpenDowngradeArgs) (r : StateidRow) (owner by : ℕ) (seqids : SeqidState) → find (is_stateid r.number) l.stateids ≡ Some r → r.holder ≡ holders.Open by → (seqids.closed ≡ Some r.number → ⊥) → find (is_stateid r.number) (carried n s l (downgrade_done s l current a r owner seqids None)).3.stateids ≡ Some (with_standing (record { seqid = next_seqid r.standing.seqid; access = a.access; deny = a.deny; closed = false }) r)
 unfolding counted
 downgrade_row n s l current a r owner by seqids found holds other =
     let to : Standing = record { seqid = next_seqid r.standing.seqid; access = a.access; deny = a.deny; closed = false } in
@@ -54,7 +54,7 @@ weakened_to n s claim access deny good here has = rw has (weakened_share s claim
 found_claim : (s : CoreState) (file : ℕ) (owner : Owner) (claim : Claim) → find (is_share_of file owner) s.claims ≡ Some claim → IsIn claim s.claims × (is_share_of file owner claim ≡ true)
 found_claim s file owner claim found = subst (λ (o : Option Claim). IfSome o (λ y. IsIn y s.claims × (is_share_of file owner y ≡ true))) found (find_in (is_share_of file owner) s.claims)
 
-pub downgrade_share : (n : ℕ) (s : CoreState) (l : NfsLists) (current : Option ℕ) (a : OpenDowngradeArgs) (r : StateidRow) (owner number : ℕ) (seqids : SeqidState) (o : Opener) (claim : Claim) → IsGood s → opener_by l r.client owner ≡ Some o → number_of (NfsShare o.id o.owner) s.names ≡ Some number → share_held s o r.file ≡ Some claim → share_has claim.what (rights_of a.access) (rights_of a.deny) ≡ true → shares_of r.file (owners.Name Nfs number) (carried n s l current (downgrade_done s l current a r owner seqids None)).4.claims ≡ (rights_of a.access, rights_of a.deny) ∷ []
+pub downgrade_share : (n : ℕ) (s : CoreState) (l : NfsLists) (current : Option ℕ) (a : OpenDowngradeArgs) (r : StateidRow) (owner number : ℕ) (seqids : SeqidState) (o : Opener) (claim : Claim) → IsGood s → opener_by l r.client owner ≡ Some o → number_of (NfsShare o.id o.owner) s.names ≡ Some number → share_held s o r.file ≡ Some claim → share_has claim.what (rights_of a.access) (rights_of a.deny) ≡ true → shares_of r.file (owners.Name Nfs number) (carried n s l (downgrade_done s l current a r owner seqids None)).4.claims ≡ (rights_of a.access, rights_of a.deny) ∷ []
 unfolding share_held
 downgrade_share n s l current a r owner number seqids o claim good is named held has =
     let access : Rwd = rights_of a.access in

@@ -74,14 +74,14 @@ delegated_found p s o file (Some write) l r e =
       | inr h ↦ rw h e
     ]
 
-pub new_open_comes : (n : ℕ) (s : CoreState) (l : NfsLists) (current : Option ℕ) (o : Opener) (a : OpenArgsItem) (file : ℕ) (confirmed : Bool) (write : Option Bool) → can_come s l o a file confirmed ≡ true → find (is_stateid (s.counter + 1)) (carried n s l current (granted_new s l o a file confirmed write)).3.stateids ≡ Some (open_row (s.counter + 1) o (opener_number o l) file a)
+pub new_open_comes : (n : ℕ) (s : CoreState) (l : NfsLists) (current : Option ℕ) (o : Opener) (a : OpenArgsItem) (file : ℕ) (confirmed : Bool) (write : Option Bool) → can_come s l o a file confirmed ≡ true → find (is_stateid (s.counter + 1)) (carried n s l (granted_new s l o a file confirmed write)).3.stateids ≡ Some (open_row (s.counter + 1) o (opener_number o l) file a)
 unfolding entered
 new_open_comes n s l current o a file confirmed write room =
     let row = open_row (s.counter + 1) o (opener_number o l) file a in
     let there : NfsLists = seated o (open_seqids a confirmed) l in
     let come : find (is_stateid (s.counter + 1)) (entered row there).stateids ≡ Some row = rw room (found_behind row (without (is_whose (whose.Stateid (s.counter + 1))) there.stateids) (number_gone (s.counter + 1) there.stateids)) in
     let whole : NfsLists = delegated (drawn s) o file write (entered row there) in
-    ap (λ (ss : List StateidRow). find (is_stateid (s.counter + 1)) ss) (kept_stateids (opener_number o l) (spelled 18 (carried n s l current (granted_new s l o a file confirmed write)).0) whole)
+    ap (λ (ss : List StateidRow). find (is_stateid (s.counter + 1)) ss) (kept_stateids (opener_number o l) (spelled 18 (carried n s l (granted_new s l o a file confirmed write)).0) whole)
     ∙ delegated_found (is_stateid (s.counter + 1)) (drawn s) o file write (entered row there) row come
 
 -- ---- an open is closed
@@ -116,7 +116,7 @@ still_there (Some m) l r by found holds other =
       | inr h ↦ rw h (not_under m by r.holder holds)
     ])
 
-pub close_marks : (n : ℕ) (s : CoreState) (l : NfsLists) (current : Option ℕ) (a : CloseArgs) (r : StateidRow) (owner by : ℕ) (seqids : SeqidState) → find (is_stateid r.number) l.stateids ≡ Some r → r.holder ≡ holders.Open by → (seqids.closed ≡ Some r.number → ⊥) → option_map (λ (x : StateidRow). x.standing.closed) (find (is_stateid r.number) (carried n s l current (close_done s l current a r owner seqids None)).3.stateids) ≡ Some true
+pub close_marks : (n : ℕ) (s : CoreState) (l : NfsLists) (current : Option ℕ) (a : CloseArgs) (r : StateidRow) (owner by : ℕ) (seqids : SeqidState) → find (is_stateid r.number) l.stateids ≡ Some r → r.holder ≡ holders.Open by → (seqids.closed ≡ Some r.number → ⊥) → option_map (λ (x : StateidRow). x.standing.closed) (find (is_stateid r.number) (carried n s l (close_done s l current a r owner seqids None)).3.stateids) ≡ Some true
 unfolding counted
 close_marks n s l current a r owner by seqids found holds other =
     let t = all_done n s (ends_locks l r (locks_under l r.number)) in
@@ -142,12 +142,12 @@ unfolding seated
 seated_there o seqids l r by found holds other = seated_by_there o seqids l r by (find (is_opener o) l.owners) found holds other
 
 pub more_is_had : (n : ℕ) (s : CoreState) (l : NfsLists) (current : Option ℕ) (o : Opener) (a : OpenArgsItem) (file : ℕ) (confirmed : Bool) (write : Option Bool) (r : StateidRow) (by : ℕ) → find (is_stateid r.number) l.stateids ≡ Some r → r.holder ≡ holders.Open by → (option_and_then (λ (y : OwnerRow). y.seqids.closed) (find (is_opener o) l.owners) ≡ Some r.number → ⊥)
-    → find (is_stateid r.number) (carried n s l current (granted_more s l o a file confirmed write r)).3.stateids ≡ Some (with_standing (record { seqid = next_seqid r.standing.seqid; access = either_bits r.standing.access a.access; deny = either_bits r.standing.deny a.deny; closed = false }) r)
+    → find (is_stateid r.number) (carried n s l (granted_more s l o a file confirmed write r)).3.stateids ≡ Some (with_standing (record { seqid = next_seqid r.standing.seqid; access = either_bits r.standing.access a.access; deny = either_bits r.standing.deny a.deny; closed = false }) r)
 more_is_had n s l current o a file confirmed write r by found holds other =
     let to : Standing = record { seqid = next_seqid r.standing.seqid; access = either_bits r.standing.access a.access; deny = either_bits r.standing.deny a.deny; closed = false } in
     let after : NfsLists = stood r.number r (either_bits r.standing.access a.access) (either_bits r.standing.deny a.deny) false l in
     let there : NfsLists = seated o (open_seqids a confirmed) after in
-    ap (λ (ss : List StateidRow). find (is_stateid r.number) ss) (kept_stateids (opener_number o l) (spelled 18 (carried n s l current (granted_more s l o a file confirmed write r)).0) (delegated s o file write there))
+    ap (λ (ss : List StateidRow). find (is_stateid r.number) ss) (kept_stateids (opener_number o l) (spelled 18 (carried n s l (granted_more s l o a file confirmed write r)).0) (delegated s o file write there))
     ∙ delegated_found (is_stateid r.number) s o file write there (with_standing to r) (seated_there o (open_seqids a confirmed) after (with_standing to r) by (changed_found r.number to l.stateids r found) holds other)
 
 -- ---- the seqid of an OPEN
@@ -175,6 +175,6 @@ unfolding judged
 bad_judged l o r seqid found confirmed next last =
     ap (λ (x : Option OwnerRow). judged_by seqid x) found ∙ rw (differ seqid (next_seqid r.seqids.seqid) next) (rw (not_both seqid r.seqids.seqid r.seqids.op last) (rw confirmed refl))
 
-pub others_are_bad : (n : ℕ) (files : List (List ℕ)) (others : ℕ) (s : CoreState) (l : NfsLists) (current : Option ℕ) (at : ℕ) (o : Opener) (a : OpenArgsItem) (r : OwnerRow) → find (is_opener o) l.owners ≡ Some r → r.seqids.confirmed ≡ true → (a.seqid ≡ next_seqid r.seqids.seqid → ⊥) → (a.seqid ≡ r.seqids.seqid → r.seqids.op ≡ 18 → ⊥) → carried n s l current (open_judged files others s l current at o a (judged l o a.seqid)) ≡ (Ended statuses.BadSeqid, current, [], l, s)
+pub others_are_bad : (n : ℕ) (files : List (List ℕ)) (others : ℕ) (s : CoreState) (l : NfsLists) (current : Option ℕ) (at : ℕ) (o : Opener) (a : OpenArgsItem) (r : OwnerRow) → find (is_opener o) l.owners ≡ Some r → r.seqids.confirmed ≡ true → (a.seqid ≡ next_seqid r.seqids.seqid → ⊥) → (a.seqid ≡ r.seqids.seqid → r.seqids.op ≡ 18 → ⊥) → carried n s l (open_judged files others s l current at o a (judged l o a.seqid)) ≡ (Ended statuses.BadSeqid, current, [], l, s)
 others_are_bad n files others s l current at o a r found confirmed next last =
-    ap (λ (j : Judged). carried n s l current (open_judged files others s l current at o a j)) (bad_judged l o r a.seqid found confirmed next last)
+    ap (λ (j : Judged). carried n s l (open_judged files others s l current at o a j)) (bad_judged l o r a.seqid found confirmed next last)

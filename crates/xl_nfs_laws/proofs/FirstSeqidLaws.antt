@@ -117,19 +117,19 @@ same_come o seqids l new same come = record {
   others = λ number other. ap (λ (rs : List OwnerRow). find (is_owner number) rs) same ∙ come.others number other;
 }
 
-pub new_come : (n : ℕ) (s : CoreState) (l : NfsLists) (current : Option ℕ) (o : Opener) (a : OpenArgsItem) (file : ℕ) (confirmed : Bool) (write : Option Bool) → IsRising l.owners → is_room_for o l ≡ true → HasCome o (record { seqid = a.seqid; op = 18; confirmed = confirmed; closed = None }) l (carried n s l current (granted_new s l o a file confirmed write)).3
+pub new_come : (n : ℕ) (s : CoreState) (l : NfsLists) (current : Option ℕ) (o : Opener) (a : OpenArgsItem) (file : ℕ) (confirmed : Bool) (write : Option Bool) → IsRising l.owners → is_room_for o l ≡ true → HasCome o (record { seqid = a.seqid; op = 18; confirmed = confirmed; closed = None }) l (carried n s l (granted_new s l o a file confirmed write)).3
 new_come n s l current o a file confirmed write rising room =
     let row = open_row (s.counter + 1) o (opener_number o l) file a in
     let there : NfsLists = seated o (open_seqids a confirmed) l in
     let whole : NfsLists = delegated (drawn s) o file write (entered row there) in
-    same_come o (open_seqids a confirmed) l _ (kept_owners (opener_number o l) (spelled 18 (carried n s l current (granted_new s l o a file confirmed write)).0) whole ∙ delegated_owners (drawn s) o file write (entered row there) ∙ entered_owners row there) (seated_come o (open_seqids a confirmed) l rising room)
+    same_come o (open_seqids a confirmed) l _ (kept_owners (opener_number o l) (spelled 18 (carried n s l (granted_new s l o a file confirmed write)).0) whole ∙ delegated_owners (drawn s) o file write (entered row there) ∙ entered_owners row there) (seated_come o (open_seqids a confirmed) l rising room)
 
-pub more_come : (n : ℕ) (s : CoreState) (l : NfsLists) (current : Option ℕ) (o : Opener) (a : OpenArgsItem) (file : ℕ) (confirmed : Bool) (write : Option Bool) (r : StateidRow) → IsRising l.owners → is_room_for o l ≡ true → HasCome o (record { seqid = a.seqid; op = 18; confirmed = confirmed; closed = None }) l (carried n s l current (granted_more s l o a file confirmed write r)).3
+pub more_come : (n : ℕ) (s : CoreState) (l : NfsLists) (current : Option ℕ) (o : Opener) (a : OpenArgsItem) (file : ℕ) (confirmed : Bool) (write : Option Bool) (r : StateidRow) → IsRising l.owners → is_room_for o l ≡ true → HasCome o (record { seqid = a.seqid; op = 18; confirmed = confirmed; closed = None }) l (carried n s l (granted_more s l o a file confirmed write r)).3
 more_come n s l current o a file confirmed write r rising room =
     let after : NfsLists = stood r.number r (either_bits r.standing.access a.access) (either_bits r.standing.deny a.deny) false l in
     let there : NfsLists = seated o (open_seqids a confirmed) after in
-    let new : NfsLists = (carried n s l current (granted_more s l o a file confirmed write r)).3 in
-    let come : HasCome o (open_seqids a confirmed) after new = same_come o (open_seqids a confirmed) after new (kept_owners (opener_number o l) (spelled 18 (carried n s l current (granted_more s l o a file confirmed write r)).0) (delegated s o file write there) ∙ delegated_owners s o file write there) (seated_come o (open_seqids a confirmed) after rising room) in
+    let new : NfsLists = (carried n s l (granted_more s l o a file confirmed write r)).3 in
+    let come : HasCome o (open_seqids a confirmed) after new = same_come o (open_seqids a confirmed) after new (kept_owners (opener_number o l) (spelled 18 (carried n s l (granted_more s l o a file confirmed write r)).0) (delegated s o file write there) ∙ delegated_owners s o file write there) (seated_come o (open_seqids a confirmed) after rising room) in
     record { own = come.own; others = come.others }
 
 pub refusal_come : (o : Opener) (a : OpenArgsItem) (confirmed : Bool) (status : NfsStatus) (l : NfsLists) → advances status ≡ true → IsRising l.owners → is_room_for o l ≡ true → HasCome o (record { seqid = a.seqid; op = 18; confirmed = confirmed; closed = None }) l (refused_lists o a confirmed status l)

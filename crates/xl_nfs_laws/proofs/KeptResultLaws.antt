@@ -126,25 +126,25 @@ delegated_owners s o file (Some write) l =
       | inr e ↦ rw e refl
     ]
 
-pub new_kept : (n : ℕ) (s : CoreState) (l : NfsLists) (current : Option ℕ) (o : Opener) (a : OpenArgsItem) (file : ℕ) (confirmed : Bool) (write : Option Bool) → is_room_for o l ≡ true → find (is_kept (opener_number o l)) (carried n s l current (granted_new s l o a file confirmed write)).3.kept ≡ Some (record { owner = opener_number o l; result = spelled 18 (carried n s l current (granted_new s l o a file confirmed write)).0 })
+pub new_kept : (n : ℕ) (s : CoreState) (l : NfsLists) (current : Option ℕ) (o : Opener) (a : OpenArgsItem) (file : ℕ) (confirmed : Bool) (write : Option Bool) → is_room_for o l ≡ true → find (is_kept (opener_number o l)) (carried n s l (granted_new s l o a file confirmed write)).3.kept ≡ Some (record { owner = opener_number o l; result = spelled 18 (carried n s l (granted_new s l o a file confirmed write)).0 })
 new_kept n s l current o a file confirmed write room =
     let row = open_row (s.counter + 1) o (opener_number o l) file a in
     let there : NfsLists = seated o (open_seqids a confirmed) l in
-    granted_kept o (open_seqids a confirmed) (spelled 18 (carried n s l current (granted_new s l o a file confirmed write)).0) l (delegated (drawn s) o file write (entered row there)) (delegated_owners (drawn s) o file write (entered row there) ∙ entered_owners row there) room
+    granted_kept o (open_seqids a confirmed) (spelled 18 (carried n s l (granted_new s l o a file confirmed write)).0) l (delegated (drawn s) o file write (entered row there)) (delegated_owners (drawn s) o file write (entered row there) ∙ entered_owners row there) room
 
-pub more_kept : (n : ℕ) (s : CoreState) (l : NfsLists) (current : Option ℕ) (o : Opener) (a : OpenArgsItem) (file : ℕ) (confirmed : Bool) (write : Option Bool) (r : StateidRow) → is_room_for o l ≡ true → find (is_kept (opener_number o l)) (carried n s l current (granted_more s l o a file confirmed write r)).3.kept ≡ Some (record { owner = opener_number o l; result = spelled 18 (carried n s l current (granted_more s l o a file confirmed write r)).0 })
+pub more_kept : (n : ℕ) (s : CoreState) (l : NfsLists) (current : Option ℕ) (o : Opener) (a : OpenArgsItem) (file : ℕ) (confirmed : Bool) (write : Option Bool) (r : StateidRow) → is_room_for o l ≡ true → find (is_kept (opener_number o l)) (carried n s l (granted_more s l o a file confirmed write r)).3.kept ≡ Some (record { owner = opener_number o l; result = spelled 18 (carried n s l (granted_more s l o a file confirmed write r)).0 })
 more_kept n s l current o a file confirmed write r room =
     let after : NfsLists = stood r.number r (either_bits r.standing.access a.access) (either_bits r.standing.deny a.deny) false l in
     let there : NfsLists = seated o (open_seqids a confirmed) after in
-    granted_kept o (open_seqids a confirmed) (spelled 18 (carried n s l current (granted_more s l o a file confirmed write r)).0) after (delegated s o file write there) (delegated_owners s o file write there) room
+    granted_kept o (open_seqids a confirmed) (spelled 18 (carried n s l (granted_more s l o a file confirmed write r)).0) after (delegated s o file write there) (delegated_owners s o file write there) room
 
-pub confirm_kept : (n : ℕ) (s : CoreState) (l : NfsLists) (current : Option ℕ) (a : OpenConfirmArgs) (r : StateidRow) (owner : ℕ) (seqids : SeqidState) → is_some (find (is_owner owner) l.owners) ≡ true → find (is_kept owner) (carried n s l current (confirm_done s l current a r owner seqids None)).3.kept ≡ Some (record { owner = owner; result = spelled 20 (carried n s l current (confirm_done s l current a r owner seqids None)).0 })
+pub confirm_kept : (n : ℕ) (s : CoreState) (l : NfsLists) (current : Option ℕ) (a : OpenConfirmArgs) (r : StateidRow) (owner : ℕ) (seqids : SeqidState) → is_some (find (is_owner owner) l.owners) ≡ true → find (is_kept owner) (carried n s l (confirm_done s l current a r owner seqids None)).3.kept ≡ Some (record { owner = owner; result = spelled 20 (carried n s l (confirm_done s l current a r owner seqids None)).0 })
 confirm_kept n s l current a r owner seqids there = counted_kept owner seqids.closed (next_seqids 20 a.seqid true None) (spelled 20 (state_told s r)) (stood r.number r r.standing.access r.standing.deny false l) there
 
-pub downgrade_kept : (n : ℕ) (s : CoreState) (l : NfsLists) (current : Option ℕ) (a : OpenDowngradeArgs) (r : StateidRow) (owner : ℕ) (seqids : SeqidState) → is_some (find (is_owner owner) l.owners) ≡ true → find (is_kept owner) (carried n s l current (downgrade_done s l current a r owner seqids None)).3.kept ≡ Some (record { owner = owner; result = spelled 21 (carried n s l current (downgrade_done s l current a r owner seqids None)).0 })
+pub downgrade_kept : (n : ℕ) (s : CoreState) (l : NfsLists) (current : Option ℕ) (a : OpenDowngradeArgs) (r : StateidRow) (owner : ℕ) (seqids : SeqidState) → is_some (find (is_owner owner) l.owners) ≡ true → find (is_kept owner) (carried n s l (downgrade_done s l current a r owner seqids None)).3.kept ≡ Some (record { owner = owner; result = spelled 21 (carried n s l (downgrade_done s l current a r owner seqids None)).0 })
 downgrade_kept n s l current a r owner seqids there = counted_kept owner seqids.closed (next_seqids 21 a.seqid seqids.confirmed None) (spelled 21 (state_told s r)) (stood r.number r a.access a.deny false l) there
 
-pub close_kept : (n : ℕ) (s : CoreState) (l : NfsLists) (current : Option ℕ) (a : CloseArgs) (r : StateidRow) (owner : ℕ) (seqids : SeqidState) → is_some (find (is_owner owner) l.owners) ≡ true → find (is_kept owner) (carried n s l current (close_done s l current a r owner seqids None)).3.kept ≡ Some (record { owner = owner; result = spelled 4 (carried n s l current (close_done s l current a r owner seqids None)).0 })
+pub close_kept : (n : ℕ) (s : CoreState) (l : NfsLists) (current : Option ℕ) (a : CloseArgs) (r : StateidRow) (owner : ℕ) (seqids : SeqidState) → is_some (find (is_owner owner) l.owners) ≡ true → find (is_kept owner) (carried n s l (close_done s l current a r owner seqids None)).3.kept ≡ Some (record { owner = owner; result = spelled 4 (carried n s l (close_done s l current a r owner seqids None)).0 })
 close_kept n s l current a r owner seqids there =
     let t = all_done n s (ends_locks l r (locks_under l r.number)) in
     counted_kept owner seqids.closed (next_seqids 4 a.seqid seqids.confirmed (Some r.number)) (spelled 4 (state_told t r)) (stood r.number r r.standing.access r.standing.deny true l) there

@@ -229,7 +229,7 @@ done_for n s None = refl
 done_for n s (Some write) = refl
 
 new_known : (n others : ℕ) (s : CoreState) (l : NfsLists) (current : Option ℕ) (o : Opener) (a : OpenArgsItem) (file : ℕ) (confirmed : Bool) (write : Option Bool) (stateid : Stateid) (flags : ℕ) (gave : Option (Stateid × Bool)) → o.kind ≡ kinds.Open → is_some (find (is_client o.client true) l.clients) ≡ true → IsOrderly l → has_room others l o file ≡ true → open_held l o file ≡ None
-    → (carried n s l current (granted_new s l o a file confirmed write)).0 ≡ Opened stateid flags gave → IsKnown o a stateid (carried n s l current (granted_new s l o a file confirmed write))
+    → (carried n s l (granted_new s l o a file confirmed write)).0 ≡ Opened stateid flags gave → IsKnown o a stateid (carried n s l (granted_new s l o a file confirmed write))
 new_known n others s l current o a file confirmed write stateid flags gave kind client orderly room none told =
     let seqids = open_seqids a confirmed in
     let there : NfsLists = seated o seqids l in
@@ -261,7 +261,7 @@ found_there : {A : Type 0} (p : A → Bool) (xs : List A) (x : A) → find p xs 
 found_there {A = A} p xs x found = subst (λ (o : Option A). IfSome o (λ y. IsIn y xs × (p y ≡ true))) found (find_in p xs)
 
 more_known : (n : ℕ) (s : CoreState) (l : NfsLists) (current : Option ℕ) (o : Opener) (a : OpenArgsItem) (file : ℕ) (confirmed : Bool) (write : Option Bool) (r : StateidRow) (stateid : Stateid) (flags : ℕ) (gave : Option (Stateid × Bool)) → o.kind ≡ kinds.Open → is_room_for o l ≡ true → IsOrderly l → open_held l o file ≡ Some r
-    → (carried n s l current (granted_more s l o a file confirmed write r)).0 ≡ Opened stateid flags gave → IsKnown o a stateid (carried n s l current (granted_more s l o a file confirmed write r))
+    → (carried n s l (granted_more s l o a file confirmed write r)).0 ≡ Opened stateid flags gave → IsKnown o a stateid (carried n s l (granted_more s l o a file confirmed write r))
 more_known n s l current o a file confirmed write r stateid flags gave kind room orderly e told =
     let seqids = open_seqids a confirmed in
     let had = had_is o file l r orderly e in
@@ -298,46 +298,46 @@ known_behind o a stateid effects done known = record { row = known.row; owner = 
 abbrev Knows : Opener → OpenArgsItem → Stateid → ℕ → Option (Stateid × Bool) → Outcome → Type 0
 Knows o a stateid flags gave done = done.0 ≡ Opened stateid flags gave → IsKnown o a stateid done
 
-granted_known : (n others : ℕ) (s : CoreState) (l : NfsLists) (current : Option ℕ) (o : Opener) (a : OpenArgsItem) (file : ℕ) (confirmed : Bool) (stateid : Stateid) (flags : ℕ) (gave : Option (Stateid × Bool)) (write : Option Bool) (x : Option StateidRow) → open_held l o file ≡ x → o.kind ≡ kinds.Open → is_some (find (is_client o.client true) l.clients) ≡ true → IsOrderly l → has_room others l o file ≡ true → Knows o a stateid flags gave (carried n s l current (granted_by s l o a file confirmed write x))
+granted_known : (n others : ℕ) (s : CoreState) (l : NfsLists) (current : Option ℕ) (o : Opener) (a : OpenArgsItem) (file : ℕ) (confirmed : Bool) (stateid : Stateid) (flags : ℕ) (gave : Option (Stateid × Bool)) (write : Option Bool) (x : Option StateidRow) → open_held l o file ≡ x → o.kind ≡ kinds.Open → is_some (find (is_client o.client true) l.clients) ≡ true → IsOrderly l → has_room others l o file ≡ true → Knows o a stateid flags gave (carried n s l (granted_by s l o a file confirmed write x))
 granted_known n others s l current o a file confirmed stateid flags gave write None e kind client orderly room = new_known n others s l current o a file confirmed write stateid flags gave kind client orderly room e
 granted_known n others s l current o a file confirmed stateid flags gave write (Some r) e kind client orderly room = more_known n s l current o a file confirmed write r stateid flags gave kind (and_parts (is_room_for o l) _ room).0 orderly e
 
-answered_known : (n others : ℕ) (s : CoreState) (l : NfsLists) (current : Option ℕ) (o : Opener) (a : OpenArgsItem) (file : ℕ) (confirmed : Bool) (stateid : Stateid) (flags : ℕ) (gave : Option (Stateid × Bool)) (wish : Option Bool) (answer : Answer) → o.kind ≡ kinds.Open → is_some (find (is_client o.client true) l.clients) ≡ true → IsOrderly l → has_room others l o file ≡ true → Knows o a stateid flags gave (carried n s l current (answered l current o a file confirmed wish answer s))
+answered_known : (n others : ℕ) (s : CoreState) (l : NfsLists) (current : Option ℕ) (o : Opener) (a : OpenArgsItem) (file : ℕ) (confirmed : Bool) (stateid : Stateid) (flags : ℕ) (gave : Option (Stateid × Bool)) (wish : Option Bool) (answer : Answer) → o.kind ≡ kinds.Open → is_some (find (is_client o.client true) l.clients) ≡ true → IsOrderly l → has_room others l o file ≡ true → Knows o a stateid flags gave (carried n s l (answered l current o a file confirmed wish answer s))
 answered_known n others s l current o a file confirmed stateid flags gave wish answer kind client orderly room =
     elim (cases_Bool (is_granted answer)) [
       | inl e ↦ rw e (granted_known n others s l current o a file (confirmed || reclaims a.claim) stateid flags gave (granted_wish s o file wish) (open_held l o file) refl kind client orderly room)
       | inr e ↦ rw e (λ d. absurd cc)
     ]
 
-by_known : (n others : ℕ) (s : CoreState) (l : NfsLists) (current : Option ℕ) (o : Opener) (a : OpenArgsItem) (confirmed : Bool) (stateid : Stateid) (flags : ℕ) (gave : Option (Stateid × Bool)) (r : Result ℕ NfsStatus) → o.kind ≡ kinds.Open → is_some (find (is_client o.client true) l.clients) ≡ true → IsOrderly l → Knows o a stateid flags gave (carried n s l current (open_by others s l current o a confirmed r))
+by_known : (n others : ℕ) (s : CoreState) (l : NfsLists) (current : Option ℕ) (o : Opener) (a : OpenArgsItem) (confirmed : Bool) (stateid : Stateid) (flags : ℕ) (gave : Option (Stateid × Bool)) (r : Result ℕ NfsStatus) → o.kind ≡ kinds.Open → is_some (find (is_client o.client true) l.clients) ≡ true → IsOrderly l → Knows o a stateid flags gave (carried n s l (open_by others s l current o a confirmed r))
 by_known n others s l current o a confirmed stateid flags gave (Err status) kind client orderly = λ d. absurd cc
 by_known n others s l current o a confirmed stateid flags gave (Ok file) kind client orderly =
     let wish = wish_of s l o a confirmed file in
     let r = ask n all_rooms s (share_ask wish o a file) in
     elim (cases_Bool (has_room others l o file)) [
-      | inl e ↦ rw e (λ told. known_behind o a stateid r.1 (carried n r.2 l current (answered l current o a file confirmed wish r.0 r.2)) (answered_known n others r.2 l current o a file confirmed stateid flags gave wish r.0 kind client orderly e told))
+      | inl e ↦ rw e (λ told. known_behind o a stateid r.1 (carried n r.2 l (answered l current o a file confirmed wish r.0 r.2)) (answered_known n others r.2 l current o a file confirmed stateid flags gave wish r.0 kind client orderly e told))
       | inr e ↦ rw e (λ d. absurd cc)
     ]
 
-as_known : (n : ℕ) (files : List (List ℕ)) (others : ℕ) (s : CoreState) (l : NfsLists) (current : Option ℕ) (at : ℕ) (o : Opener) (a : OpenArgsItem) (confirmed : Bool) (stateid : Stateid) (flags : ℕ) (gave : Option (Stateid × Bool)) → o.kind ≡ kinds.Open → is_some (find (is_client o.client true) l.clients) ≡ true → IsOrderly l → Knows o a stateid flags gave (carried n s l current (open_as files others s l current at o a confirmed))
+as_known : (n : ℕ) (files : List (List ℕ)) (others : ℕ) (s : CoreState) (l : NfsLists) (current : Option ℕ) (at : ℕ) (o : Opener) (a : OpenArgsItem) (confirmed : Bool) (stateid : Stateid) (flags : ℕ) (gave : Option (Stateid × Bool)) → o.kind ≡ kinds.Open → is_some (find (is_client o.client true) l.clients) ≡ true → IsOrderly l → Knows o a stateid flags gave (carried n s l (open_as files others s l current at o a confirmed))
 unfolding open_as
 as_known n files others s l current at o a confirmed stateid flags gave kind client orderly = by_known n others s l current o a confirmed stateid flags gave (opened_file files s l o.client at a) kind client orderly
 
-repeat_known : (n : ℕ) (s : CoreState) (l : NfsLists) (current : Option ℕ) (o : Opener) (a : OpenArgsItem) (stateid : Stateid) (flags : ℕ) (gave : Option (Stateid × Bool)) (k : Option KeptRow) → Knows o a stateid flags gave (carried n s l current (repeated s l current k))
+repeat_known : (n : ℕ) (s : CoreState) (l : NfsLists) (current : Option ℕ) (o : Opener) (a : OpenArgsItem) (stateid : Stateid) (flags : ℕ) (gave : Option (Stateid × Bool)) (k : Option KeptRow) → Knows o a stateid flags gave (carried n s l (repeated s l current k))
 repeat_known n s l current o a stateid flags gave None = λ d. absurd cc
 repeat_known n s l current o a stateid flags gave (Some k) = λ d. absurd cc
 
-judged_known : (n : ℕ) (files : List (List ℕ)) (others : ℕ) (s : CoreState) (l : NfsLists) (current : Option ℕ) (at : ℕ) (o : Opener) (a : OpenArgsItem) (stateid : Stateid) (flags : ℕ) (gave : Option (Stateid × Bool)) (j : Judged) → o.kind ≡ kinds.Open → is_some (find (is_client o.client true) l.clients) ≡ true → IsOrderly l → Knows o a stateid flags gave (carried n s l current (open_judged files others s l current at o a j))
+judged_known : (n : ℕ) (files : List (List ℕ)) (others : ℕ) (s : CoreState) (l : NfsLists) (current : Option ℕ) (at : ℕ) (o : Opener) (a : OpenArgsItem) (stateid : Stateid) (flags : ℕ) (gave : Option (Stateid × Bool)) (j : Judged) → o.kind ≡ kinds.Open → is_some (find (is_client o.client true) l.clients) ≡ true → IsOrderly l → Knows o a stateid flags gave (carried n s l (open_judged files others s l current at o a j))
 judged_known n files others s l current at o a stateid flags gave judgements.Bad kind client orderly = λ d. absurd cc
 judged_known n files others s l current at o a stateid flags gave (judgements.Repeats number) kind client orderly = repeat_known n s l current o a stateid flags gave (find (is_kept number) l.kept)
 judged_known n files others s l current at o a stateid flags gave (judgements.Anew number) kind client orderly =
     let deeds = gives_all s o (filter (is_whose (whose.Owner number)) l.stateids) in
     let m = without_owner number l in
-    λ told. known_behind o a stateid (all_told_of n s deeds) (carried n (all_done n s deeds) m current (open_as files others (all_done n s deeds) m current at o a false)) (as_known n files others (all_done n s deeds) m current at o a false stateid flags gave kind client (owner_goes l number orderly) told)
+    λ told. known_behind o a stateid (all_told_of n s deeds) (carried n (all_done n s deeds) m (open_as files others (all_done n s deeds) m current at o a false)) (as_known n files others (all_done n s deeds) m current at o a false stateid flags gave kind client (owner_goes l number orderly) told)
 judged_known n files others s l current at o a stateid flags gave judgements.New kind client orderly = as_known n files others s l current at o a false stateid flags gave kind client orderly
 judged_known n files others s l current at o a stateid flags gave judgements.Next kind client orderly = as_known n files others s l current at o a true stateid flags gave kind client orderly
 
-pub told_is_known : (n : ℕ) (files : List (List ℕ)) (others : ℕ) (s : CoreState) (l : NfsLists) (current : Option ℕ) (at : ℕ) (c : ClientRow) (a : OpenArgsItem) (stateid : Stateid) (flags : ℕ) (gave : Option (Stateid × Bool)) → IsOrderly l → client_in s l a.owner.clientid ≡ Some c → (carried n s l current (open_judged files others s l current at (opener_of c a) a (judged l (opener_of c a) a.seqid))).0 ≡ Opened stateid flags gave
-    → IsKnown (opener_of c a) a stateid (carried n s l current (open_judged files others s l current at (opener_of c a) a (judged l (opener_of c a) a.seqid)))
+pub told_is_known : (n : ℕ) (files : List (List ℕ)) (others : ℕ) (s : CoreState) (l : NfsLists) (current : Option ℕ) (at : ℕ) (c : ClientRow) (a : OpenArgsItem) (stateid : Stateid) (flags : ℕ) (gave : Option (Stateid × Bool)) → IsOrderly l → client_in s l a.owner.clientid ≡ Some c → (carried n s l (open_judged files others s l current at (opener_of c a) a (judged l (opener_of c a) a.seqid))).0 ≡ Opened stateid flags gave
+    → IsKnown (opener_of c a) a stateid (carried n s l (open_judged files others s l current at (opener_of c a) a (judged l (opener_of c a) a.seqid)))
 told_is_known n files others s l current at c a stateid flags gave orderly found told =
     judged_known n files others s l current at (opener_of c a) a stateid flags gave (judged l (opener_of c a) a.seqid) refl (opener_there s l a c (opener_of c a) (sym found) refl) orderly told

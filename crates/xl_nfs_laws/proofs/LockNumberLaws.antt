@@ -267,14 +267,14 @@ release_few s l current a given =
 
 -- ---- each operation
 
-pub lock_given : (n : ℕ) (s : CoreState) (l : NfsLists) (current : Option ℕ) (a : LockArgsItem) → IsGood s → AreGivenOut s.counter l → StayGivenOut s (carried n s l current (first.lock s l current a))
-lock_given n s l current a good given = carried_few n s l current (first.lock s l current a) _ good (lock_own n s l current a good) given (lock_few s l current a given)
+pub lock_given : (n : ℕ) (s : CoreState) (l : NfsLists) (current : Option ℕ) (a : LockArgsItem) → IsGood s → AreGivenOut s.counter l → StayGivenOut s (carried n s l (first.lock s l current a))
+lock_given n s l current a good given = carried_few n s l (first.lock s l current a) _ good (lock_own n s l current a good) given (lock_few s l current a given)
 
-pub test_given : (n : ℕ) (s : CoreState) (l : NfsLists) (current : Option ℕ) (a : LockTestArgsItem) → IsGood s → AreGivenOut s.counter l → StayGivenOut s (carried n s l current (lock_test s l current a))
-test_given n s l current a good given = carried_few n s l current (lock_test s l current a) _ good (test_own n s l current a good) given (test_few s l current a given)
+pub test_given : (n : ℕ) (s : CoreState) (l : NfsLists) (current : Option ℕ) (a : LockTestArgsItem) → IsGood s → AreGivenOut s.counter l → StayGivenOut s (carried n s l (lock_test s l current a))
+test_given n s l current a good given = carried_few n s l (lock_test s l current a) _ good (test_own n s l current a good) given (test_few s l current a given)
 
-pub unlock_given : (n : ℕ) (s : CoreState) (l : NfsLists) (current : Option ℕ) (a : UnlockArgs) → IsGood s → AreGivenOut s.counter l → StayGivenOut s (carried n s l current (unlock s l current a))
-unlock_given n s l current a good given = carried_few n s l current (unlock s l current a) _ good (unlock_own n s l current a good) given (unlock_few s l current a given)
+pub unlock_given : (n : ℕ) (s : CoreState) (l : NfsLists) (current : Option ℕ) (a : UnlockArgs) → IsGood s → AreGivenOut s.counter l → StayGivenOut s (carried n s l (unlock s l current a))
+unlock_given n s l current a good given = carried_few n s l (unlock s l current a) _ good (unlock_own n s l current a good) given (unlock_few s l current a given)
 
-pub release_given : (n : ℕ) (s : CoreState) (l : NfsLists) (current : Option ℕ) (a : OwnerItem) → IsGood s → AreGivenOut s.counter l → StayGivenOut s (carried n s l current (release s l current a))
-release_given n s l current a good given = carried_few n s l current (release s l current a) _ good (release_own n s l current a good) given (release_few s l current a given)
+pub release_given : (n : ℕ) (s : CoreState) (l : NfsLists) (current : Option ℕ) (a : OwnerItem) → IsGood s → AreGivenOut s.counter l → StayGivenOut s (carried n s l (release s l current a))
+release_given n s l current a good given = carried_few n s l (release s l current a) _ good (release_own n s l current a good) given (release_few s l current a given)

@@ -47,7 +47,8 @@ use Rattle.xl_nfs_opens.specs.Closing.{checked, standing_fault, opener_by}
 use Rattle.xl_core.specs.Ids.{number_in}
 use Rattle.xl_nfs_opens.specs.Opens.{all_rooms, client_in, is_granted}
 use Rattle.xl_nfs_opens.specs.Owners.{is_named, is_holder, is_locker, Names}
-use Rattle.xl_nfs_opens.specs.Plans.{Plan, Does, Asking}
+use Rattle.xl_plan.specs.Plans.{Does, Asking}
+use Rattle.xl_nfs_opens.specs.Plans.{Plan}
 use Rattle.xl_nfs_opens.specs.Renewing.{number_of, client_if_live, state_numbered, state_client, renewed_for, renewing}
 use Rattle.xl_nfs_opens.specs.Seqids.{is_room_for}
 use Rattle.xl_nfs_opens.specs.declared.opener.Checked.{Checked}
@@ -263,7 +264,7 @@ named_own n s l clientid by good each = renewing_own n s l (λ id. is_named s l 
 
 test_to_own : (n : ℕ) (s : CoreState) (l : NfsLists) (current : Option ℕ) (a : LockTestArgsItem) (file : ℕ) (o : Opener) (Client : List ℕ → Type 0) (last : Option ℕ) → NotBefore a.offset last → Client o.id → Owned n s Client (test_to l current a file o last)
 test_to_own n s l current a file o Client None le is = (tt, tt)
-test_to_own n s l current a file o Client (Some last) le is = asks_own n s Client o.id (test_ask o file a.kind a.offset last) (λ answer t. Does [] l current (tested_told t l answer)) is (test_fits o file a.kind a.offset last le) refl (λ answer t. (tt, tt))
+test_to_own n s l current a file o Client (Some last) le is = asks_own n s Client o.id (test_ask o file a.kind a.offset last) (λ answer t. Does [] l (tested_told t l answer, current)) is (test_fits o file a.kind a.offset last le) refl (λ answer t. (tt, tt))
 
 test_of_own : (n : ℕ) (s : CoreState) (l : NfsLists) (current : Option ℕ) (a : LockTestArgsItem) (file : ℕ) (Client : List ℕ → Type 0) (c : Option ClientRow) → ((y : ClientRow) → c ≡ Some y → Client y.id) → Owned n s Client (test_of l current a file c)
 test_of_own n s l current a file Client None each = (tt, tt)

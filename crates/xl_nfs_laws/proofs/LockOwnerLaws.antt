@@ -155,7 +155,7 @@ both_same b o bytes old m new rows kept come = record {
   lock_kept = ap (λ (ks : List KeptRow). find (is_kept (opener_number o old)) ks) kept ∙ come.lock_kept;
 }
 
-joined_counts : (n : ℕ) (s : CoreState) (l : NfsLists) (current : Option ℕ) (b : BothOwners) (w : OwnerRow) (o : Opener) (r : StateidRow) (q : Option StateidRow) → IsRising l.owners → find (is_owner b.number) l.owners ≡ Some w → is_opener o w ≡ false → is_room_for o l ≡ true → CountsWithBoth b o l (carried n s l current (joined_by s l current b o r q))
+joined_counts : (n : ℕ) (s : CoreState) (l : NfsLists) (current : Option ℕ) (b : BothOwners) (w : OwnerRow) (o : Opener) (r : StateidRow) (q : Option StateidRow) → IsRising l.owners → find (is_owner b.number) l.owners ≡ Some w → is_opener o w ≡ false → is_room_for o l ≡ true → CountsWithBoth b o l (carried n s l (joined_by s l current b o r q))
 joined_counts n s l current b w o r None rising found other room = λ counts.
     (let bytes : List ℕ = spelled 12 (State (stateid_of (drawn s) (s.counter + 1) 1)) in
     let m : NfsLists = counted_both b o bytes l in
@@ -165,17 +165,17 @@ joined_counts n s l current b w o r (Some q) rising found other room = λ counts
     (let come = both_come b w o (spelled 12 (state_told s q)) (stood q.number q 0 0 false l) rising found other room in
     record { open_owner = come.open_owner; lock_owner = come.lock_owner; others = come.others; open_kept = come.open_kept; lock_kept = come.lock_kept })
 
-refused_counts : (n : ℕ) (s : CoreState) (l : NfsLists) (current : Option ℕ) (b : BothOwners) (w : OwnerRow) (o : Opener) (told : Told) → IsRising l.owners → find (is_owner b.number) l.owners ≡ Some w → is_opener o w ≡ false → is_room_for o l ≡ true → CountsWithBoth b o l (carried n s l current (both_refused l current b o told))
+refused_counts : (n : ℕ) (s : CoreState) (l : NfsLists) (current : Option ℕ) (b : BothOwners) (w : OwnerRow) (o : Opener) (told : Told) → IsRising l.owners → find (is_owner b.number) l.owners ≡ Some w → is_opener o w ≡ false → is_room_for o l ≡ true → CountsWithBoth b o l (carried n s l (both_refused l current b o told))
 refused_counts n s l current b w o told rising found other room = λ counts. rw counts (both_come b w o (spelled 12 told) l rising found other room)
 
-answered_counts : (n : ℕ) (s : CoreState) (l : NfsLists) (current : Option ℕ) (b : BothOwners) (w : OwnerRow) (o : Opener) (r : StateidRow) (q : Option StateidRow) (reclaim : Bool) (answer : Answer) → IsRising l.owners → find (is_owner b.number) l.owners ≡ Some w → is_opener o w ≡ false → is_room_for o l ≡ true → CountsWithBoth b o l (carried n s l current (join_answered l current b o r q reclaim answer s))
+answered_counts : (n : ℕ) (s : CoreState) (l : NfsLists) (current : Option ℕ) (b : BothOwners) (w : OwnerRow) (o : Opener) (r : StateidRow) (q : Option StateidRow) (reclaim : Bool) (answer : Answer) → IsRising l.owners → find (is_owner b.number) l.owners ≡ Some w → is_opener o w ≡ false → is_room_for o l ≡ true → CountsWithBoth b o l (carried n s l (join_answered l current b o r q reclaim answer s))
 answered_counts n s l current b w o r q reclaim answer rising found other room =
     elim (cases_Bool (is_granted answer)) [
       | inl e ↦ rw e (joined_counts n s l current b w o r q rising found other room)
       | inr e ↦ rw e (refused_counts n s l current b w o (lock_told s l reclaim answer) rising found other room)
     ]
 
-pub to_counts : (n : ℕ) (s : CoreState) (l : NfsLists) (current : Option ℕ) (a : LockArgsItem) (b : BothOwners) (w : OwnerRow) (o : Opener) (r : StateidRow) (q : Option StateidRow) (last : Result ℕ NfsStatus) → IsRising l.owners → find (is_owner b.number) l.owners ≡ Some w → w.name.kind ≡ kinds.Open → o.kind ≡ kinds.Lock → is_room_for o l ≡ true → CountsWithBoth b o l (carried n s l current (join_to l current a b o r q last))
+pub to_counts : (n : ℕ) (s : CoreState) (l : NfsLists) (current : Option ℕ) (a : LockArgsItem) (b : BothOwners) (w : OwnerRow) (o : Opener) (r : StateidRow) (q : Option StateidRow) (last : Result ℕ NfsStatus) → IsRising l.owners → find (is_owner b.number) l.owners ≡ Some w → w.name.kind ≡ kinds.Open → o.kind ≡ kinds.Lock → is_room_for o l ≡ true → CountsWithBoth b o l (carried n s l (join_to l current a b o r q last))
 to_counts n s l current a b w o r q (Err status) rising found opens locks room = refused_counts n s l current b w o (Ended status) rising found (other_kind o w opens locks) room
 to_counts n s l current a b w o r q (Ok last) rising found opens locks room =
     let x = ask n all_rooms s (lock_ask o r.file a.kind a.reclaim a.offset last) in
@@ -183,24 +183,24 @@ to_counts n s l current a b w o r q (Ok last) rising found opens locks room =
 
 -- ---- one that doesn't count
 
-joined_stays : (n : ℕ) (s : CoreState) (l : NfsLists) (current : Option ℕ) (b : BothOwners) (o : Opener) (r : StateidRow) (q : Option StateidRow) → advances (status_of (carried n s l current (joined_by s l current b o r q)).0) ≡ false → (carried n s l current (joined_by s l current b o r q)).3 ≡ l
+joined_stays : (n : ℕ) (s : CoreState) (l : NfsLists) (current : Option ℕ) (b : BothOwners) (o : Opener) (r : StateidRow) (q : Option StateidRow) → advances (status_of (carried n s l (joined_by s l current b o r q)).0) ≡ false → (carried n s l (joined_by s l current b o r q)).3 ≡ l
 joined_stays n s l current b o r None counts_not = absurd (true≢false counts_not)
 joined_stays n s l current b o r (Some q) counts_not = absurd (true≢false counts_not)
 
-refused_stays : (n : ℕ) (s : CoreState) (l : NfsLists) (current : Option ℕ) (b : BothOwners) (o : Opener) (told : Told) → advances (status_of (carried n s l current (both_refused l current b o told)).0) ≡ false → (carried n s l current (both_refused l current b o told)).3 ≡ l
+refused_stays : (n : ℕ) (s : CoreState) (l : NfsLists) (current : Option ℕ) (b : BothOwners) (o : Opener) (told : Told) → advances (status_of (carried n s l (both_refused l current b o told)).0) ≡ false → (carried n s l (both_refused l current b o told)).3 ≡ l
 refused_stays n s l current b o told counts_not = rw counts_not refl
 
 abbrev StaysUncounted : NfsLists → Told → NfsLists → Type 0
 StaysUncounted l told new = advances (status_of told) ≡ false → new ≡ l
 
-answered_stays : (n : ℕ) (s : CoreState) (l : NfsLists) (current : Option ℕ) (b : BothOwners) (o : Opener) (r : StateidRow) (q : Option StateidRow) (reclaim : Bool) (answer : Answer) → StaysUncounted l (carried n s l current (join_answered l current b o r q reclaim answer s)).0 (carried n s l current (join_answered l current b o r q reclaim answer s)).3
+answered_stays : (n : ℕ) (s : CoreState) (l : NfsLists) (current : Option ℕ) (b : BothOwners) (o : Opener) (r : StateidRow) (q : Option StateidRow) (reclaim : Bool) (answer : Answer) → StaysUncounted l (carried n s l (join_answered l current b o r q reclaim answer s)).0 (carried n s l (join_answered l current b o r q reclaim answer s)).3
 answered_stays n s l current b o r q reclaim answer =
     elim (cases_Bool (is_granted answer)) [
       | inl e ↦ rw e (joined_stays n s l current b o r q)
       | inr e ↦ rw e (refused_stays n s l current b o (lock_told s l reclaim answer))
     ]
 
-room_stays : (n : ℕ) (s : CoreState) (l : NfsLists) (current : Option ℕ) (a : LockArgsItem) (b : BothOwners) (o : Opener) (r : StateidRow) (q : Option StateidRow) (last : ℕ) → StaysUncounted l (carried n s l current (join_to l current a b o r q (Ok last))).0 (carried n s l current (join_to l current a b o r q (Ok last))).3
+room_stays : (n : ℕ) (s : CoreState) (l : NfsLists) (current : Option ℕ) (a : LockArgsItem) (b : BothOwners) (o : Opener) (r : StateidRow) (q : Option StateidRow) (last : ℕ) → StaysUncounted l (carried n s l (join_to l current a b o r q (Ok last))).0 (carried n s l (join_to l current a b o r q (Ok last))).3
 room_stays n s l current a b o r q last =
     let x = ask n all_rooms s (lock_ask o r.file a.kind a.reclaim a.offset last) in
     elim (cases_Bool (is_room_for o l)) [
@@ -208,7 +208,7 @@ room_stays n s l current a b o r q last =
       | inr e ↦ rw e (λ counts_not. refl)
     ]
 
-pub to_stays : (n : ℕ) (s : CoreState) (l : NfsLists) (current : Option ℕ) (a : LockArgsItem) (b : BothOwners) (o : Opener) (r : StateidRow) (q : Option StateidRow) (last : Result ℕ NfsStatus) → advances (status_of (carried n s l current (join_to l current a b o r q last)).0) ≡ false → (carried n s l current (join_to l current a b o r q last)).3 ≡ l
+pub to_stays : (n : ℕ) (s : CoreState) (l : NfsLists) (current : Option ℕ) (a : LockArgsItem) (b : BothOwners) (o : Opener) (r : StateidRow) (q : Option StateidRow) (last : Result ℕ NfsStatus) → advances (status_of (carried n s l (join_to l current a b o r q last)).0) ≡ false → (carried n s l (join_to l current a b o r q last)).3 ≡ l
 to_stays n s l current a b o r q (Err status) counts_not = refused_stays n s l current b o (Ended status) counts_not
 to_stays n s l current a b o r q (Ok last) counts_not = room_stays n s l current a b o r q last counts_not
 
@@ -234,7 +234,7 @@ module _ {A : Type 0} where
 forgotten : (number : ℕ) (l : NfsLists) → IsForgotten number (without_owner number l)
 forgotten number l = (none_left (is_owner number) l.owners, (any_gone (λ q. hangs_on number q.holder) l.stateids, any_gone (is_kept number) l.kept))
 
-pub release_forgets : (n : ℕ) (s : CoreState) (l : NfsLists) (current : Option ℕ) (owner : List ℕ) (c : ClientRow) (r : OwnerRow) → is_ok (status_of (carried n s l current (release_of s l current owner (Some c))).0) ≡ true → find (is_owner_named c.number kinds.Lock owner) l.owners ≡ Some r → IsForgotten r.number (carried n s l current (release_of s l current owner (Some c))).3
+pub release_forgets : (n : ℕ) (s : CoreState) (l : NfsLists) (current : Option ℕ) (owner : List ℕ) (c : ClientRow) (r : OwnerRow) → is_ok (status_of (carried n s l (release_of s l current owner (Some c))).0) ≡ true → find (is_owner_named c.number kinds.Lock owner) l.owners ≡ Some r → IsForgotten r.number (carried n s l (release_of s l current owner (Some c))).3
 unfolding released
 release_forgets n s l current owner c r ok found =
     elim (cases_Bool (holds_any s c.id owner)) [
@@ -271,7 +271,7 @@ without_unnamed : (l : NfsLists) (p : OwnerName) (x : Option OwnerRow) → find 
 without_unnamed l p None found distinct = found
 without_unnamed l p (Some r) found distinct = unnamed_left p l.owners r distinct found
 
-pub release_unnames : (n : ℕ) (s : CoreState) (l : NfsLists) (current : Option ℕ) (owner : List ℕ) (c : ClientRow) → is_ok (status_of (carried n s l current (release_of s l current owner (Some c))).0) ≡ true → IsDistinct same_owner_name (map owner_name l.owners) → find (is_owner_named c.number kinds.Lock owner) (carried n s l current (release_of s l current owner (Some c))).3.owners ≡ None
+pub release_unnames : (n : ℕ) (s : CoreState) (l : NfsLists) (current : Option ℕ) (owner : List ℕ) (c : ClientRow) → is_ok (status_of (carried n s l (release_of s l current owner (Some c))).0) ≡ true → IsDistinct same_owner_name (map owner_name l.owners) → find (is_owner_named c.number kinds.Lock owner) (carried n s l (release_of s l current owner (Some c))).3.owners ≡ None
 unfolding released
 release_unnames n s l current owner c ok distinct =
     elim (cases_Bool (holds_any s c.id owner)) [
@@ -279,7 +279,7 @@ release_unnames n s l current owner c ok distinct =
       | inr e ↦ rw e (without_unnamed l (record { client = c.number; kind = kinds.Lock; owner = owner }) (find (is_owner_named c.number kinds.Lock owner) l.owners) refl distinct)
     ]
 
-pub release_refused : (n : ℕ) (s : CoreState) (l : NfsLists) (current : Option ℕ) (owner : List ℕ) (c : Option ClientRow) → is_ok (status_of (carried n s l current (release_of s l current owner c)).0) ≡ false → (carried n s l current (release_of s l current owner c)).3 ≡ l
+pub release_refused : (n : ℕ) (s : CoreState) (l : NfsLists) (current : Option ℕ) (owner : List ℕ) (c : Option ClientRow) → is_ok (status_of (carried n s l (release_of s l current owner c)).0) ≡ false → (carried n s l (release_of s l current owner c)).3 ≡ l
 release_refused n s l current owner None refused = refl
 release_refused n s l current owner (Some c) refused =
     elim (cases_Bool (holds_any s c.id owner)) [
@@ -287,7 +287,7 @@ release_refused n s l current owner (Some c) refused =
       | inr e ↦ (let f : true ≡ false = rw e at refused in absurd (true≢false f))
     ]
 
-pub release_told : (n : ℕ) (s : CoreState) (l : NfsLists) (current : Option ℕ) (owner : List ℕ) (c : ClientRow) → is_ok (status_of (carried n s l current (release_of s l current owner (Some c))).0) ≡ not (holds_any s c.id owner)
+pub release_told : (n : ℕ) (s : CoreState) (l : NfsLists) (current : Option ℕ) (owner : List ℕ) (c : ClientRow) → is_ok (status_of (carried n s l (release_of s l current owner (Some c))).0) ≡ not (holds_any s c.id owner)
 release_told n s l current owner c =
     elim (cases_Bool (holds_any s c.id owner)) [
       | inl e ↦ rw e refl

@@ -91,7 +91,7 @@ exactly n s t l o file kind reclaim first last status =
       λ told. back w t l a claim answer (λ x due. (ask_due n all_rooms s a what x refl).1 due) status told,
     )
 
-known_told : (n : ℕ) (t : CoreState) (l : NfsLists) (current : Option ℕ) (r : StateidRow) (owner : ℕ) (seqids : SeqidState) (seqid : ℕ) (reclaim : Bool) (answer : Answer) → status_of (carried n t l current (lock_answered l current r owner seqids seqid reclaim answer t)).0 ≡ status_of (lock_told t l reclaim answer)
+known_told : (n : ℕ) (t : CoreState) (l : NfsLists) (current : Option ℕ) (r : StateidRow) (owner : ℕ) (seqids : SeqidState) (seqid : ℕ) (reclaim : Bool) (answer : Answer) → status_of (carried n t l (lock_answered l current r owner seqids seqid reclaim answer t)).0 ≡ status_of (lock_told t l reclaim answer)
 known_told n t l current r owner seqids seqid reclaim (answers.Granted c) = refl
 known_told n t l current r owner seqids seqid reclaim (answers.Conflict c) = refl
 known_told n t l current r owner seqids seqid reclaim (answers.Queued id) = refl
@@ -107,16 +107,16 @@ by_status : {X : Type 0} (told is status : NfsStatus) → told ≡ is → ((is �
 by_status told is status e exact = (λ d. exact.0 (sym e ∙ d), λ x. e ∙ exact.1 x)
 
 pub known_exactly : (n : ℕ) (s : CoreState) (l : NfsLists) (current : Option ℕ) (a : LockArgsItem) (r : StateidRow) (owner : ℕ) (seqids : SeqidState) (seqid last : ℕ) (o : Opener) (status : NfsStatus)
-    → (status_of (carried n s l current (lock_by_owner l current a r owner seqids seqid last (Some o))).0 ≡ status) ↔ IsLockTold (lock_way s o r.file a.kind a.reclaim a.offset last) (lock_ask o r.file a.kind a.reclaim a.offset last) (lock_claim s o r.file a.kind a.offset last) status
+    → (status_of (carried n s l (lock_by_owner l current a r owner seqids seqid last (Some o))).0 ≡ status) ↔ IsLockTold (lock_way s o r.file a.kind a.reclaim a.offset last) (lock_ask o r.file a.kind a.reclaim a.offset last) (lock_claim s o r.file a.kind a.offset last) status
 known_exactly n s l current a r owner seqids seqid last o status =
     let x = ask n all_rooms s (lock_ask o r.file a.kind a.reclaim a.offset last) in
     by_status _ _ status (known_told n x.2 l current r owner seqids seqid a.reclaim x.0) (exactly n s x.2 l o r.file a.kind a.reclaim a.offset last status)
 
-joined_told : (n : ℕ) (t : CoreState) (l : NfsLists) (current : Option ℕ) (b : BothOwners) (o : Opener) (r : StateidRow) (q : Option StateidRow) → status_of (carried n t l current (joined_by t l current b o r q)).0 ≡ statuses.Ok
+joined_told : (n : ℕ) (t : CoreState) (l : NfsLists) (current : Option ℕ) (b : BothOwners) (o : Opener) (r : StateidRow) (q : Option StateidRow) → status_of (carried n t l (joined_by t l current b o r q)).0 ≡ statuses.Ok
 joined_told n t l current b o r None = refl
 joined_told n t l current b o r (Some q) = refl
 
-first_told : (n : ℕ) (t : CoreState) (l : NfsLists) (current : Option ℕ) (b : BothOwners) (o : Opener) (r : StateidRow) (q : Option StateidRow) (reclaim : Bool) (answer : Answer) → status_of (carried n t l current (join_answered l current b o r q reclaim answer t)).0 ≡ status_of (lock_told t l reclaim answer)
+first_told : (n : ℕ) (t : CoreState) (l : NfsLists) (current : Option ℕ) (b : BothOwners) (o : Opener) (r : StateidRow) (q : Option StateidRow) (reclaim : Bool) (answer : Answer) → status_of (carried n t l (join_answered l current b o r q reclaim answer t)).0 ≡ status_of (lock_told t l reclaim answer)
 first_told n t l current b o r q reclaim (answers.Granted c) = joined_told n t l current b o r q
 first_told n t l current b o r q reclaim (answers.Conflict c) = refl
 first_told n t l current b o r q reclaim (answers.Queued id) = refl
@@ -129,12 +129,12 @@ first_told n t l current b o r q reclaim answers.NotHeld = refl
 first_told n t l current b o r q reclaim answers.StoreFailed = refl
 
 pub first_exactly : (n : ℕ) (s : CoreState) (l : NfsLists) (current : Option ℕ) (a : LockArgsItem) (b : BothOwners) (o : Opener) (r : StateidRow) (q : Option StateidRow) (last : ℕ) (status : NfsStatus) → is_room_for o l ≡ true
-    → (status_of (carried n s l current (join_to l current a b o r q (Ok last))).0 ≡ status) ↔ IsLockTold (lock_way s o r.file a.kind a.reclaim a.offset last) (lock_ask o r.file a.kind a.reclaim a.offset last) (lock_claim s o r.file a.kind a.offset last) status
+    → (status_of (carried n s l (join_to l current a b o r q (Ok last))).0 ≡ status) ↔ IsLockTold (lock_way s o r.file a.kind a.reclaim a.offset last) (lock_ask o r.file a.kind a.reclaim a.offset last) (lock_claim s o r.file a.kind a.offset last) status
 first_exactly n s l current a b o r q last status room =
     let x = ask n all_rooms s (lock_ask o r.file a.kind a.reclaim a.offset last) in
     rw room (by_status _ _ status (first_told n x.2 l current b o r q a.reclaim x.0) (exactly n s x.2 l o r.file a.kind a.reclaim a.offset last status))
 
-pub first_full : (n : ℕ) (s : CoreState) (l : NfsLists) (current : Option ℕ) (a : LockArgsItem) (b : BothOwners) (o : Opener) (r : StateidRow) (q : Option StateidRow) (last : ℕ) → is_room_for o l ≡ false → carried n s l current (join_to l current a b o r q (Ok last)) ≡ (Ended statuses.Resource, current, [], l, s)
+pub first_full : (n : ℕ) (s : CoreState) (l : NfsLists) (current : Option ℕ) (a : LockArgsItem) (b : BothOwners) (o : Opener) (r : StateidRow) (q : Option StateidRow) (last : ℕ) → is_room_for o l ≡ false → carried n s l (join_to l current a b o r q (Ok last)) ≡ (Ended statuses.Resource, current, [], l, s)
 first_full n s l current a b o r q last full = rw full refl
 
 -- ---- what DENIED tells
@@ -161,31 +161,31 @@ asked_denied n s l o file kind reclaim first last h good le fails e =
     let x = ask n all_rooms s a in
     told_denied (lock_way s o file kind reclaim first last) x.2 l a (lock_claim s o file kind first last) reclaim x.0 h ((ask_due n all_rooms s a (whats.Range (Bytes first last) (is_exclusive kind)) x.0 refl).0 refl) (refused_stays n s o file kind reclaim first last good le fails) e
 
-known_is : (n : ℕ) (t : CoreState) (l : NfsLists) (current : Option ℕ) (r : StateidRow) (owner : ℕ) (seqids : SeqidState) (seqid : ℕ) (reclaim : Bool) (answer : Answer) (h : HeldLock) → (carried n t l current (lock_answered l current r owner seqids seqid reclaim answer t)).0 ≡ Denied h → (is_granted answer ≡ false) × (lock_told t l reclaim answer ≡ Denied h)
+known_is : (n : ℕ) (t : CoreState) (l : NfsLists) (current : Option ℕ) (r : StateidRow) (owner : ℕ) (seqids : SeqidState) (seqid : ℕ) (reclaim : Bool) (answer : Answer) (h : HeldLock) → (carried n t l (lock_answered l current r owner seqids seqid reclaim answer t)).0 ≡ Denied h → (is_granted answer ≡ false) × (lock_told t l reclaim answer ≡ Denied h)
 known_is n t l current r owner seqids seqid reclaim answer h e =
     elim (cases_Bool (is_granted answer)) [
       | inl grants ↦ (let fails : State _ ≡ Denied h = rw grants at e in absurd cc)
       | inr fails ↦ (fails, rw fails at e)
     ]
 
-pub known_denied : (n : ℕ) (s : CoreState) (l : NfsLists) (current : Option ℕ) (a : LockArgsItem) (r : StateidRow) (owner : ℕ) (seqids : SeqidState) (seqid last : ℕ) (o : Opener) (h : HeldLock) → IsGood s → a.offset ≤ last → (carried n s l current (lock_by_owner l current a r owner seqids seqid last (Some o))).0 ≡ Denied h → IsDenial (lock_way s o r.file a.kind a.reclaim a.offset last) l (lock_claim s o r.file a.kind a.offset last) h
+pub known_denied : (n : ℕ) (s : CoreState) (l : NfsLists) (current : Option ℕ) (a : LockArgsItem) (r : StateidRow) (owner : ℕ) (seqids : SeqidState) (seqid last : ℕ) (o : Opener) (h : HeldLock) → IsGood s → a.offset ≤ last → (carried n s l (lock_by_owner l current a r owner seqids seqid last (Some o))).0 ≡ Denied h → IsDenial (lock_way s o r.file a.kind a.reclaim a.offset last) l (lock_claim s o r.file a.kind a.offset last) h
 known_denied n s l current a r owner seqids seqid last o h good le e =
     let x = ask n all_rooms s (lock_ask o r.file a.kind a.reclaim a.offset last) in
     let is = known_is n x.2 l current r owner seqids seqid a.reclaim x.0 h e in
     asked_denied n s l o r.file a.kind a.reclaim a.offset last h good le is.0 is.1
 
-joined_no : (n : ℕ) (t : CoreState) (l : NfsLists) (current : Option ℕ) (b : BothOwners) (o : Opener) (r : StateidRow) (q : Option StateidRow) (h : HeldLock) → (carried n t l current (joined_by t l current b o r q)).0 ≡ Denied h → ⊥
+joined_no : (n : ℕ) (t : CoreState) (l : NfsLists) (current : Option ℕ) (b : BothOwners) (o : Opener) (r : StateidRow) (q : Option StateidRow) (h : HeldLock) → (carried n t l (joined_by t l current b o r q)).0 ≡ Denied h → ⊥
 joined_no n t l current b o r None h e = cc
 joined_no n t l current b o r (Some q) h e = cc
 
-first_is : (n : ℕ) (t : CoreState) (l : NfsLists) (current : Option ℕ) (b : BothOwners) (o : Opener) (r : StateidRow) (q : Option StateidRow) (reclaim : Bool) (answer : Answer) (h : HeldLock) → (carried n t l current (join_answered l current b o r q reclaim answer t)).0 ≡ Denied h → (is_granted answer ≡ false) × (lock_told t l reclaim answer ≡ Denied h)
+first_is : (n : ℕ) (t : CoreState) (l : NfsLists) (current : Option ℕ) (b : BothOwners) (o : Opener) (r : StateidRow) (q : Option StateidRow) (reclaim : Bool) (answer : Answer) (h : HeldLock) → (carried n t l (join_answered l current b o r q reclaim answer t)).0 ≡ Denied h → (is_granted answer ≡ false) × (lock_told t l reclaim answer ≡ Denied h)
 first_is n t l current b o r q reclaim answer h e =
     elim (cases_Bool (is_granted answer)) [
       | inl grants ↦ absurd (joined_no n t l current b o r q h (rw grants at e))
       | inr fails ↦ (fails, rw fails at e)
     ]
 
-pub first_denied : (n : ℕ) (s : CoreState) (l : NfsLists) (current : Option ℕ) (a : LockArgsItem) (b : BothOwners) (o : Opener) (r : StateidRow) (q : Option StateidRow) (last : ℕ) (h : HeldLock) → IsGood s → a.offset ≤ last → is_room_for o l ≡ true → (carried n s l current (join_to l current a b o r q (Ok last))).0 ≡ Denied h → IsDenial (lock_way s o r.file a.kind a.reclaim a.offset last) l (lock_claim s o r.file a.kind a.offset last) h
+pub first_denied : (n : ℕ) (s : CoreState) (l : NfsLists) (current : Option ℕ) (a : LockArgsItem) (b : BothOwners) (o : Opener) (r : StateidRow) (q : Option StateidRow) (last : ℕ) (h : HeldLock) → IsGood s → a.offset ≤ last → is_room_for o l ≡ true → (carried n s l (join_to l current a b o r q (Ok last))).0 ≡ Denied h → IsDenial (lock_way s o r.file a.kind a.reclaim a.offset last) l (lock_claim s o r.file a.kind a.offset last) h
 first_denied n s l current a b o r q last h good le room e =
     let x = ask n all_rooms s (lock_ask o r.file a.kind a.reclaim a.offset last) in
     let is = first_is n x.2 l current b o r q a.reclaim x.0 h (rw room at e) in
@@ -196,7 +196,7 @@ first_denied n s l current a b o r q last h good le room e =
 test_stays : (n : ℕ) (s : CoreState) (o : Opener) (file : ℕ) (kind : LockType) (first last : ℕ) → (ask n all_rooms s (test_ask o file kind first last)).2 ≡ s
 test_stays n s o file kind first last = test_stands n all_rooms s (test_ask o file kind first last) (Bytes first last) (is_exclusive kind) refl
 
-pub test_changes_nothing : (n : ℕ) (s : CoreState) (l : NfsLists) (current : Option ℕ) (a : LockTestArgsItem) (file : ℕ) (o : Opener) (last : Option ℕ) → ((carried n s l current (test_to l current a file o last)).3 ≡ l) × ((carried n s l current (test_to l current a file o last)).4 ≡ s)
+pub test_changes_nothing : (n : ℕ) (s : CoreState) (l : NfsLists) (current : Option ℕ) (a : LockTestArgsItem) (file : ℕ) (o : Opener) (last : Option ℕ) → ((carried n s l (test_to l current a file o last)).3 ≡ l) × ((carried n s l (test_to l current a file o last)).4 ≡ s)
 test_changes_nothing n s l current a file o None = (refl, refl)
 test_changes_nothing n s l current a file o (Some last) = (refl, test_stays n s o file a.kind a.offset last)
 
@@ -217,7 +217,7 @@ test_back s t l a claim r exact statuses.Ok told = ap (λ (x : Answer). status_o
 test_back s t l a claim r exact statuses.Denied told = ap (λ (x : Answer). status_of (tested_told t l x)) (exact (answers.Conflict told.0) told.1)
 test_back s t l a claim r exact _ told = absurd told
 
-pub test_exactly : (n : ℕ) (s : CoreState) (l : NfsLists) (current : Option ℕ) (a : LockTestArgsItem) (file : ℕ) (o : Opener) (last : ℕ) (status : NfsStatus) → (status_of (carried n s l current (test_to l current a file o (Some last))).0 ≡ status) ↔ IsTestTold s (test_ask o file a.kind a.offset last) (test_claim s o file a.kind a.offset last) status
+pub test_exactly : (n : ℕ) (s : CoreState) (l : NfsLists) (current : Option ℕ) (a : LockTestArgsItem) (file : ℕ) (o : Opener) (last : ℕ) (status : NfsStatus) → (status_of (carried n s l (test_to l current a file o (Some last))).0 ≡ status) ↔ IsTestTold s (test_ask o file a.kind a.offset last) (test_claim s o file a.kind a.offset last) status
 test_exactly n s l current a file o last status =
     let q = test_ask o file a.kind a.offset last in
     let claim = test_claim s o file a.kind a.offset last in
@@ -240,7 +240,7 @@ tested_denied s t l a claim answers.NotRecorded h due stays e = absurd due
 tested_denied s t l a claim answers.NotHeld h due stays e = absurd due
 tested_denied s t l a claim answers.StoreFailed h due stays e = absurd due
 
-pub test_denied : (n : ℕ) (s : CoreState) (l : NfsLists) (current : Option ℕ) (a : LockTestArgsItem) (file : ℕ) (o : Opener) (last : ℕ) (h : HeldLock) → (carried n s l current (test_to l current a file o (Some last))).0 ≡ Denied h → IsTestDenial s l (test_claim s o file a.kind a.offset last) h
+pub test_denied : (n : ℕ) (s : CoreState) (l : NfsLists) (current : Option ℕ) (a : LockTestArgsItem) (file : ℕ) (o : Opener) (last : ℕ) (h : HeldLock) → (carried n s l (test_to l current a file o (Some last))).0 ≡ Denied h → IsTestDenial s l (test_claim s o file a.kind a.offset last) h
 test_denied n s l current a file o last h e =
     let q = test_ask o file a.kind a.offset last in
     let x = ask n all_rooms s q in
@@ -306,22 +306,22 @@ freed n s o file first last good le answers.NotRecorded e ok = absurd (true≢fa
 freed n s o file first last good le (answers.Full limit) e ok = absurd (true≢false (sym ok))
 freed n s o file first last good le answers.StoreFailed e ok = absurd (true≢false (sym ok))
 
-unlocked_ok : (n : ℕ) (t : CoreState) (l : NfsLists) (current : Option ℕ) (a : UnlockArgs) (r : StateidRow) (owner : ℕ) (seqids : SeqidState) (status : NfsStatus) → (is_ok (status_of (carried n t l current (unlocked_as t l current a r owner seqids status)).0) ≡ is_ok status) × ((carried n t l current (unlocked_as t l current a r owner seqids status)).4 ≡ t)
+unlocked_ok : (n : ℕ) (t : CoreState) (l : NfsLists) (current : Option ℕ) (a : UnlockArgs) (r : StateidRow) (owner : ℕ) (seqids : SeqidState) (status : NfsStatus) → (is_ok (status_of (carried n t l (unlocked_as t l current a r owner seqids status)).0) ≡ is_ok status) × ((carried n t l (unlocked_as t l current a r owner seqids status)).4 ≡ t)
 unlocked_ok n t l current a r owner seqids status =
     elim (cases_Bool (is_ok status)) [
       | inl e ↦ rw e (refl, refl)
       | inr e ↦ rw e (e, refl)
     ]
 
-pub unlock_frees : (n : ℕ) (s : CoreState) (l : NfsLists) (current : Option ℕ) (a : UnlockArgs) (r : StateidRow) (owner : ℕ) (seqids : SeqidState) (last : ℕ) (o : Opener) → IsGood s → a.offset ≤ last → is_ok (status_of (carried n s l current (unlock_by_owner l current a r owner seqids last (Some o))).0) ≡ true
-    → AreFree o r.file a.offset last s (carried n s l current (unlock_by_owner l current a r owner seqids last (Some o))).4
+pub unlock_frees : (n : ℕ) (s : CoreState) (l : NfsLists) (current : Option ℕ) (a : UnlockArgs) (r : StateidRow) (owner : ℕ) (seqids : SeqidState) (last : ℕ) (o : Opener) → IsGood s → a.offset ≤ last → is_ok (status_of (carried n s l (unlock_by_owner l current a r owner seqids last (Some o))).0) ≡ true
+    → AreFree o r.file a.offset last s (carried n s l (unlock_by_owner l current a r owner seqids last (Some o))).4
 unlock_frees n s l current a r owner seqids last o good le ok =
     let x = ask n all_rooms s (unlock_ask o r.file a.offset last) in
     let by = unlocked_ok n x.2 l current a r owner seqids (unlock_status x.0) in
     subst (λ (t : CoreState). AreFree o r.file a.offset last s t) (sym by.1) (freed n s o r.file a.offset last good le x.0 refl (sym by.0 ∙ ok))
 
-pub unlock_refused : (n : ℕ) (s : CoreState) (l : NfsLists) (current : Option ℕ) (a : UnlockArgs) (r : StateidRow) (owner : ℕ) (seqids : SeqidState) (last : ℕ) (o : Opener) → IsGood s → a.offset ≤ last → is_ok (status_of (carried n s l current (unlock_by_owner l current a r owner seqids last (Some o))).0) ≡ false
-    → (carried n s l current (unlock_by_owner l current a r owner seqids last (Some o))).4 ≡ s
+pub unlock_refused : (n : ℕ) (s : CoreState) (l : NfsLists) (current : Option ℕ) (a : UnlockArgs) (r : StateidRow) (owner : ℕ) (seqids : SeqidState) (last : ℕ) (o : Opener) → IsGood s → a.offset ≤ last → is_ok (status_of (carried n s l (unlock_by_owner l current a r owner seqids last (Some o))).0) ≡ false
+    → (carried n s l (unlock_by_owner l current a r owner seqids last (Some o))).4 ≡ s
 unlock_refused n s l current a r owner seqids last o good le fails =
     let x = ask n all_rooms s (unlock_ask o r.file a.offset last) in
     let by = unlocked_ok n x.2 l current a r owner seqids (unlock_status x.0) in

@@ -112,22 +112,22 @@ told_no s l reclaim answers.NotHeld fails = refl
 told_no s l reclaim answers.StoreFailed fails = refl
 
 -- how it is answered, by an owner with a stateid
-known_ok : (n : ℕ) (s : CoreState) (l : NfsLists) (current : Option ℕ) (r : StateidRow) (owner : ℕ) (seqids : SeqidState) (seqid : ℕ) (reclaim : Bool) (answer : Answer) → (is_ok (status_of (carried n s l current (lock_answered l current r owner seqids seqid reclaim answer s)).0) ≡ is_granted answer) × ((carried n s l current (lock_answered l current r owner seqids seqid reclaim answer s)).4 ≡ s)
+known_ok : (n : ℕ) (s : CoreState) (l : NfsLists) (current : Option ℕ) (r : StateidRow) (owner : ℕ) (seqids : SeqidState) (seqid : ℕ) (reclaim : Bool) (answer : Answer) → (is_ok (status_of (carried n s l (lock_answered l current r owner seqids seqid reclaim answer s)).0) ≡ is_granted answer) × ((carried n s l (lock_answered l current r owner seqids seqid reclaim answer s)).4 ≡ s)
 known_ok n s l current r owner seqids seqid reclaim answer =
     elim (cases_Bool (is_granted answer)) [
       | inl e ↦ rw e (refl, refl)
       | inr e ↦ rw e (told_no s l reclaim answer e, refl)
     ]
 
-pub known_locked : (n : ℕ) (s : CoreState) (l : NfsLists) (current : Option ℕ) (a : LockArgsItem) (r : StateidRow) (owner : ℕ) (seqids : SeqidState) (seqid last : ℕ) (o : Opener) → IsGood s → a.offset ≤ last → is_ok (status_of (carried n s l current (lock_by_owner l current a r owner seqids seqid last (Some o))).0) ≡ true
-    → AreLocked o r.file a.kind a.offset last s (carried n s l current (lock_by_owner l current a r owner seqids seqid last (Some o))).4
+pub known_locked : (n : ℕ) (s : CoreState) (l : NfsLists) (current : Option ℕ) (a : LockArgsItem) (r : StateidRow) (owner : ℕ) (seqids : SeqidState) (seqid last : ℕ) (o : Opener) → IsGood s → a.offset ≤ last → is_ok (status_of (carried n s l (lock_by_owner l current a r owner seqids seqid last (Some o))).0) ≡ true
+    → AreLocked o r.file a.kind a.offset last s (carried n s l (lock_by_owner l current a r owner seqids seqid last (Some o))).4
 known_locked n s l current a r owner seqids seqid last o good le ok =
     let x = ask n all_rooms s (lock_ask o r.file a.kind a.reclaim a.offset last) in
     let by = known_ok n x.2 l current r owner seqids seqid a.reclaim x.0 in
     subst (λ (t : CoreState). AreLocked o r.file a.kind a.offset last s t) (sym by.1) (asked_locked n s o r.file a.kind a.reclaim a.offset last good le (sym by.0 ∙ ok))
 
-pub known_refused : (n : ℕ) (s : CoreState) (l : NfsLists) (current : Option ℕ) (a : LockArgsItem) (r : StateidRow) (owner : ℕ) (seqids : SeqidState) (seqid last : ℕ) (o : Opener) → IsGood s → a.offset ≤ last → is_ok (status_of (carried n s l current (lock_by_owner l current a r owner seqids seqid last (Some o))).0) ≡ false
-    → (carried n s l current (lock_by_owner l current a r owner seqids seqid last (Some o))).4 ≡ lock_way s o r.file a.kind a.reclaim a.offset last
+pub known_refused : (n : ℕ) (s : CoreState) (l : NfsLists) (current : Option ℕ) (a : LockArgsItem) (r : StateidRow) (owner : ℕ) (seqids : SeqidState) (seqid last : ℕ) (o : Opener) → IsGood s → a.offset ≤ last → is_ok (status_of (carried n s l (lock_by_owner l current a r owner seqids seqid last (Some o))).0) ≡ false
+    → (carried n s l (lock_by_owner l current a r owner seqids seqid last (Some o))).4 ≡ lock_way s o r.file a.kind a.reclaim a.offset last
 known_refused n s l current a r owner seqids seqid last o good le fails =
     let x = ask n all_rooms s (lock_ask o r.file a.kind a.reclaim a.offset last) in
     let by = known_ok n x.2 l current r owner seqids seqid a.reclaim x.0 in
@@ -138,34 +138,34 @@ drawn_bytes : (o : Opener) (file : ℕ) (kind : LockType) (first last : ℕ) (s 
 unfolding drawn
 drawn_bytes o file kind first last s t locked = locked
 
-joined_locked : (n : ℕ) (s t : CoreState) (l : NfsLists) (current : Option ℕ) (b : BothOwners) (o : Opener) (r : StateidRow) (kind : LockType) (first last : ℕ) (q : Option StateidRow) → AreLocked o r.file kind first last s t → AreLocked o r.file kind first last s (carried n t l current (joined_by t l current b o r q)).4
+joined_locked : (n : ℕ) (s t : CoreState) (l : NfsLists) (current : Option ℕ) (b : BothOwners) (o : Opener) (r : StateidRow) (kind : LockType) (first last : ℕ) (q : Option StateidRow) → AreLocked o r.file kind first last s t → AreLocked o r.file kind first last s (carried n t l (joined_by t l current b o r q)).4
 joined_locked n s t l current b o r kind first last None locked = drawn_bytes o r.file kind first last s t locked
 joined_locked n s t l current b o r kind first last (Some q) locked = locked
 
-joined_ok : (n : ℕ) (s : CoreState) (l : NfsLists) (current : Option ℕ) (b : BothOwners) (o : Opener) (r : StateidRow) (q : Option StateidRow) → is_ok (status_of (carried n s l current (joined_by s l current b o r q)).0) ≡ true
+joined_ok : (n : ℕ) (s : CoreState) (l : NfsLists) (current : Option ℕ) (b : BothOwners) (o : Opener) (r : StateidRow) (q : Option StateidRow) → is_ok (status_of (carried n s l (joined_by s l current b o r q)).0) ≡ true
 joined_ok n s l current b o r None = refl
 joined_ok n s l current b o r (Some q) = refl
 
-first_ok : (n : ℕ) (s : CoreState) (l : NfsLists) (current : Option ℕ) (b : BothOwners) (o : Opener) (r : StateidRow) (q : Option StateidRow) (reclaim : Bool) (answer : Answer) → is_ok (status_of (carried n s l current (join_answered l current b o r q reclaim answer s)).0) ≡ is_granted answer
+first_ok : (n : ℕ) (s : CoreState) (l : NfsLists) (current : Option ℕ) (b : BothOwners) (o : Opener) (r : StateidRow) (q : Option StateidRow) (reclaim : Bool) (answer : Answer) → is_ok (status_of (carried n s l (join_answered l current b o r q reclaim answer s)).0) ≡ is_granted answer
 first_ok n s l current b o r q reclaim answer =
     elim (cases_Bool (is_granted answer)) [
       | inl e ↦ rw e (joined_ok n s l current b o r q)
       | inr e ↦ rw e (told_no s l reclaim answer e)
     ]
 
-first_granted : (n : ℕ) (s t : CoreState) (l : NfsLists) (current : Option ℕ) (b : BothOwners) (o : Opener) (r : StateidRow) (kind : LockType) (first last : ℕ) (q : Option StateidRow) (reclaim : Bool) (answer : Answer) → is_granted answer ≡ true → AreLocked o r.file kind first last s t → AreLocked o r.file kind first last s (carried n t l current (join_answered l current b o r q reclaim answer t)).4
+first_granted : (n : ℕ) (s t : CoreState) (l : NfsLists) (current : Option ℕ) (b : BothOwners) (o : Opener) (r : StateidRow) (kind : LockType) (first last : ℕ) (q : Option StateidRow) (reclaim : Bool) (answer : Answer) → is_granted answer ≡ true → AreLocked o r.file kind first last s t → AreLocked o r.file kind first last s (carried n t l (join_answered l current b o r q reclaim answer t)).4
 first_granted n s t l current b o r kind first last q reclaim answer ok locked = rw ok (joined_locked n s t l current b o r kind first last q locked)
 
-pub first_locked : (n : ℕ) (s : CoreState) (l : NfsLists) (current : Option ℕ) (a : LockArgsItem) (b : BothOwners) (o : Opener) (r : StateidRow) (q : Option StateidRow) (last : ℕ) → IsGood s → a.offset ≤ last → is_room_for o l ≡ true → is_ok (status_of (carried n s l current (join_to l current a b o r q (Ok last))).0) ≡ true → AreLocked o r.file a.kind a.offset last s (carried n s l current (join_to l current a b o r q (Ok last))).4
+pub first_locked : (n : ℕ) (s : CoreState) (l : NfsLists) (current : Option ℕ) (a : LockArgsItem) (b : BothOwners) (o : Opener) (r : StateidRow) (q : Option StateidRow) (last : ℕ) → IsGood s → a.offset ≤ last → is_room_for o l ≡ true → is_ok (status_of (carried n s l (join_to l current a b o r q (Ok last))).0) ≡ true → AreLocked o r.file a.kind a.offset last s (carried n s l (join_to l current a b o r q (Ok last))).4
 first_locked n s l current a b o r q last good le room ok =
     let x = ask n all_rooms s (lock_ask o r.file a.kind a.reclaim a.offset last) in
     let granted : is_granted x.0 ≡ true = sym (first_ok n x.2 l current b o r q a.reclaim x.0) ∙ (rw room at ok) in
     rw room (first_granted n s x.2 l current b o r a.kind a.offset last q a.reclaim x.0 granted (asked_locked n s o r.file a.kind a.reclaim a.offset last good le granted))
 
-first_no : (n : ℕ) (t : CoreState) (l : NfsLists) (current : Option ℕ) (b : BothOwners) (o : Opener) (r : StateidRow) (q : Option StateidRow) (reclaim : Bool) (answer : Answer) → is_granted answer ≡ false → (carried n t l current (join_answered l current b o r q reclaim answer t)).4 ≡ t
+first_no : (n : ℕ) (t : CoreState) (l : NfsLists) (current : Option ℕ) (b : BothOwners) (o : Opener) (r : StateidRow) (q : Option StateidRow) (reclaim : Bool) (answer : Answer) → is_granted answer ≡ false → (carried n t l (join_answered l current b o r q reclaim answer t)).4 ≡ t
 first_no n t l current b o r q reclaim answer fails = rw fails refl
 
-pub first_refused : (n : ℕ) (s : CoreState) (l : NfsLists) (current : Option ℕ) (a : LockArgsItem) (b : BothOwners) (o : Opener) (r : StateidRow) (q : Option StateidRow) (last : ℕ) → IsGood s → a.offset ≤ last → is_room_for o l ≡ true → is_ok (status_of (carried n s l current (join_to l current a b o r q (Ok last))).0) ≡ false → (carried n s l current (join_to l current a b o r q (Ok last))).4 ≡ lock_way s o r.file a.kind a.reclaim a.offset last
+pub first_refused : (n : ℕ) (s : CoreState) (l : NfsLists) (current : Option ℕ) (a : LockArgsItem) (b : BothOwners) (o : Opener) (r : StateidRow) (q : Option StateidRow) (last : ℕ) → IsGood s → a.offset ≤ last → is_room_for o l ≡ true → is_ok (status_of (carried n s l (join_to l current a b o r q (Ok last))).0) ≡ false → (carried n s l (join_to l current a b o r q (Ok last))).4 ≡ lock_way s o r.file a.kind a.reclaim a.offset last
 first_refused n s l current a b o r q last good le room fails =
     let x = ask n all_rooms s (lock_ask o r.file a.kind a.reclaim a.offset last) in
     let denied : is_granted x.0 ≡ false = sym (first_ok n x.2 l current b o r q a.reclaim x.0) ∙ (rw room at fails) in

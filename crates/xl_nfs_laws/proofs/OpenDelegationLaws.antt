@@ -49,7 +49,8 @@ use Rattle.xl_nfs_laws.specs.Delegated.{AreSet, AreTied, IsShut, delegation_held
 use Rattle.xl_nfs_opens.specs.Closing.{Returning, cache_of, cache_of_client, deleg_return, return_done, returned}
 use Rattle.xl_core.specs.Ids.{number_in}
 use Rattle.xl_nfs_opens.specs.Opens.{all_rooms, answer_status, answered, cache_by, cache_held, claim_client, client_in, delegated, delegation_in, draws_for, either_bits, entered, freed, given_up, gives, gives_all, granted_by, granted_more, granted_new, granted_wish, has_none, has_room, is_granted, judged, kind_for, open_as, open_at, open_by, open_claimed, open_file, open_held, open_judged, open_of, open_row, open_seqids, opened_file, opener_of, reclaims, refused_lists, repeated, share_ask, share_held, stood, unless_held, wish_of}
-use Rattle.xl_nfs_opens.specs.Plans.{Plan, Behind, carried}
+use Rattle.xl_plan.specs.Plans.{Behind}
+use Rattle.xl_nfs_opens.specs.Plans.{Plan, carried}
 use Rattle.xl_nfs_laws.specs.Orderly.{IsOrderly, are_apart}
 use Rattle.xl_nfs_opens.specs.Renewing.{renewals, renewals_by, renewed_for, renewing, state_client}
 use Rattle.xl_nfs_opens.specs.Seqids.{opener_number, seated}
@@ -61,7 +62,7 @@ use Rattle.xl_nfs_laws.proofs.ToldDelegationLaws.{client_cache_goes, entered_cli
 use Rattle.xl_nfs_laws.proofs.GivenDelegationLaws.{AreGiven, Owes, delegated_given, id_is, named_is, number_is, numbered_is, others_held, refused_held, unwished_quiet}
 use Rattle.xl_nfs_laws.proofs.OpenOrderLaws.{none_in, renewed_orderly}
 use Rattle.xl_nfs_laws.proofs.KnownOpenLaws.{seated_clients}
-use Rattle.xl_nfs_opens.proofs.LeaveLaws.{drawn_number}
+use Rattle.xl_plan.proofs.BudgetLaws.{drawn_number}
 use Rattle.xl_nfs_laws.proofs.OpenNumberLaws.{draws, less_given}
 use Rattle.xl_nfs_opens.proofs.OpenOwn.{all_given, ask_fits, no_range}
 use Rattle.xl_nfs_opens.proofs.OpenerLaws.{opener_there}
@@ -70,9 +71,9 @@ use Rattle.xl_nfs_laws.proofs.StillDelegatedLaws.{AreStill, entered_still, kept_
 
 -- ---- deeds before the rest
 
-behind_tied : (n : ℕ) (s : CoreState) (l : NfsLists) (current : Option ℕ) (deeds : List Deed) (lists : NfsLists) (rest : CoreState → Plan) → IsGood s → AreFit n s deeds → AllByRecursion IsQuietDeed deeds → AreTied s l → AreStill s.counter l lists
-    → ((t : CoreState) → IsGood t → AreTied t lists → (let r = carried n t lists current (rest t) in AreTied r.4 r.3)) → (let r = carried n s l current (Behind deeds lists rest) in AreTied r.4 r.3)
-behind_tied n s l current deeds lists rest good fit calm tied still later =
+behind_tied : (n : ℕ) (s : CoreState) (l : NfsLists) (deeds : List Deed) (lists : NfsLists) (rest : CoreState → Plan) → IsGood s → AreFit n s deeds → AllByRecursion IsQuietDeed deeds → AreTied s l → AreStill s.counter l lists
+    → ((t : CoreState) → IsGood t → AreTied t lists → (let r = carried n t lists (rest t) in AreTied r.4 r.3)) → (let r = carried n s l (Behind deeds lists rest) in AreTied r.4 r.3)
+behind_tied n s l deeds lists rest good fit calm tied still later =
     let quiet = all_quiet n s deeds good fit calm in
     later (all_done n s deeds) quiet.good (tied_by s (all_done n s deeds) s.counter l lists tied quiet quiet.later still)
 
@@ -84,10 +85,10 @@ renews_fit n s l (Some number) = by (find (is_client number true) l.clients)
     by None = tt
     by (Some r) = (tt, tt)
 
-pub renewing_tied : (n : ℕ) (s : CoreState) (l : NfsLists) (current : Option ℕ) (who : Option ℕ) (rest : CoreState → NfsLists → Plan) → IsGood s → AreTied s l
-    → ((t : CoreState) → IsGood t → AreTied t (renewed_for s l who) → (let r = carried n t (renewed_for s l who) current (rest t (renewed_for s l who)) in AreTied r.4 r.3)) → (let r = carried n s l current (renewing s l who rest) in AreTied r.4 r.3)
-renewing_tied n s l current who rest good tied later =
-    behind_tied n s l current (renewals l who) (renewed_for s l who) (λ t. rest t (renewed_for s l who)) good (renews_fit n s l who) (renewals_quiet l who) tied (renewed_still s.counter s l who tied.set) later
+pub renewing_tied : (n : ℕ) (s : CoreState) (l : NfsLists) (who : Option ℕ) (rest : CoreState → NfsLists → Plan) → IsGood s → AreTied s l
+    → ((t : CoreState) → IsGood t → AreTied t (renewed_for s l who) → (let r = carried n t (renewed_for s l who) (rest t (renewed_for s l who)) in AreTied r.4 r.3)) → (let r = carried n s l (renewing s l who rest) in AreTied r.4 r.3)
+renewing_tied n s l who rest good tied later =
+    behind_tied n s l (renewals l who) (renewed_for s l who) (λ t. rest t (renewed_for s l who)) good (renews_fit n s l who) (renewals_quiet l who) tied (renewed_still s.counter s l who tied.set) later
 
 -- nothing is done to the core
 still_tied : (s : CoreState) (l m : NfsLists) → IsGood s → AreTied s l → AreStill s.counter l m → AreTied s m
@@ -116,7 +117,7 @@ given_tied t v last m k given quiet le still =
       delegated = λ id file. quiet.held id file ∙ given.delegated id file ∙ sym (still_kept last m k is id file);
     }
 
-new_tied : (n : ℕ) (t : CoreState) (l : NfsLists) (current : Option ℕ) (o : Opener) (a : OpenArgsItem) (file : ℕ) (confirmed : Bool) (write : Option Bool) → IsGood t → AreSet t.counter l → Owes t l o file write → (let r = carried n t l current (granted_new t l o a file confirmed write) in AreTied r.4 r.3)
+new_tied : (n : ℕ) (t : CoreState) (l : NfsLists) (current : Option ℕ) (o : Opener) (a : OpenArgsItem) (file : ℕ) (confirmed : Bool) (write : Option Bool) → IsGood t → AreSet t.counter l → Owes t l o file write → (let r = carried n t l (granted_new t l o a file confirmed write) in AreTied r.4 r.3)
 new_tied n t l current o a file confirmed write good set owes =
     let u = drawn t in
     let row = open_row (t.counter + 1) o (opener_number o l) file a in
@@ -130,7 +131,7 @@ new_tied n t l current o a file confirmed write good set owes =
     given_tied t (all_done n t (Draws ∷ draws_for write)) (u.counter + draws (draws_for write)) (delegated u o file write m) _ given quiet (draws_rise n u write)
     (λ after. kept_still (u.counter + draws (draws_for write)) (opener_number o l) _ (delegated u o file write m) after)
 
-more_tied : (n : ℕ) (t : CoreState) (l : NfsLists) (current : Option ℕ) (o : Opener) (a : OpenArgsItem) (file : ℕ) (confirmed : Bool) (write : Option Bool) (r : StateidRow) → IsGood t → AreSet t.counter l → Owes t l o file write → (let d = carried n t l current (granted_more t l o a file confirmed write r) in AreTied d.4 d.3)
+more_tied : (n : ℕ) (t : CoreState) (l : NfsLists) (current : Option ℕ) (o : Opener) (a : OpenArgsItem) (file : ℕ) (confirmed : Bool) (write : Option Bool) (r : StateidRow) → IsGood t → AreSet t.counter l → Owes t l o file write → (let d = carried n t l (granted_more t l o a file confirmed write r) in AreTied d.4 d.3)
 more_tied n t l current o a file confirmed write r good set owes =
     let after : NfsLists = stood r.number r (either_bits r.standing.access a.access) (either_bits r.standing.deny a.deny) false l in
     let m : NfsLists = seated o (open_seqids a confirmed) after in
@@ -141,7 +142,7 @@ more_tied n t l current o a file confirmed write r good set owes =
     given_tied t (all_done n t (draws_for write)) (t.counter + draws (draws_for write)) (delegated t o file write m) _ given quiet (draws_rise n t write)
     (λ set. kept_still (t.counter + draws (draws_for write)) (opener_number o l) _ (delegated t o file write m) set)
 
-granted_tied : (n : ℕ) (t : CoreState) (l : NfsLists) (current : Option ℕ) (o : Opener) (a : OpenArgsItem) (file : ℕ) (confirmed : Bool) (write : Option Bool) (x : Option StateidRow) → IsGood t → AreSet t.counter l → Owes t l o file write → (let d = carried n t l current (granted_by t l o a file confirmed write x) in AreTied d.4 d.3)
+granted_tied : (n : ℕ) (t : CoreState) (l : NfsLists) (current : Option ℕ) (o : Opener) (a : OpenArgsItem) (file : ℕ) (confirmed : Bool) (write : Option Bool) (x : Option StateidRow) → IsGood t → AreSet t.counter l → Owes t l o file write → (let d = carried n t l (granted_by t l o a file confirmed write x) in AreTied d.4 d.3)
 granted_tied n t l current o a file confirmed write None good set owes = new_tied n t l current o a file confirmed write good set owes
 granted_tied n t l current o a file confirmed write (Some r) good set owes = more_tied n t l current o a file confirmed write r good set owes
 
@@ -201,7 +202,7 @@ owed n s l o a file None free good opener tied = owes_none n s l o a file good o
 owed n s l o a file (Some w) free good opener tied = owes_some n s l o a file (Some w) (free w refl) good opener tied
 
 asked_tied : (n : ℕ) (s : CoreState) (l : NfsLists) (current : Option ℕ) (o : Opener) (a : OpenArgsItem) (confirmed : Bool) (file : ℕ) (wish : Option Bool) → ((w : Bool) → wish ≡ Some w → has_none s l o file ≡ true) → IsGood s → IsOpener l o → AreTied s l
-    → (let r = ask n all_rooms s (share_ask wish o a file) in let d = carried n r.2 l current (answered l current o a file confirmed wish r.0 r.2) in AreTied d.4 d.3)
+    → (let r = ask n all_rooms s (share_ask wish o a file) in let d = carried n r.2 l (answered l current o a file confirmed wish r.0 r.2) in AreTied d.4 d.3)
 asked_tied n s l current o a confirmed file wish free good opener tied =
     let r = ask n all_rooms s (share_ask wish o a file) in
     let frame = ask_frame n all_rooms s (share_ask wish o a file) good (ask_fits wish o a file).party in
@@ -214,7 +215,7 @@ asked_tied n s l current o a confirmed file wish free good opener tied =
 
 -- ---- OPEN
 
-by_tied : (n others : ℕ) (s : CoreState) (l : NfsLists) (current : Option ℕ) (o : Opener) (a : OpenArgsItem) (confirmed : Bool) (x : Result ℕ NfsStatus) → IsGood s → IsOpener l o → AreTied s l → (let d = carried n s l current (open_by others s l current o a confirmed x) in AreTied d.4 d.3)
+by_tied : (n others : ℕ) (s : CoreState) (l : NfsLists) (current : Option ℕ) (o : Opener) (a : OpenArgsItem) (confirmed : Bool) (x : Result ℕ NfsStatus) → IsGood s → IsOpener l o → AreTied s l → (let d = carried n s l (open_by others s l current o a confirmed x) in AreTied d.4 d.3)
 by_tied n others s l current o a confirmed (Err status) good opener tied = still_tied s l (refused_lists o a confirmed status l) good tied (refused_still s.counter o a confirmed status l tied.set)
 by_tied n others s l current o a confirmed (Ok file) good opener tied =
     elim (cases_Bool (has_room others l o file)) [
@@ -222,7 +223,7 @@ by_tied n others s l current o a confirmed (Ok file) good opener tied =
       | inr e ↦ rw e tied
     ]
 
-as_tied : (n : ℕ) (files : List (List ℕ)) (others : ℕ) (s : CoreState) (l : NfsLists) (current : Option ℕ) (at : ℕ) (o : Opener) (a : OpenArgsItem) (confirmed : Bool) → IsGood s → IsOpener l o → AreTied s l → (let d = carried n s l current (open_as files others s l current at o a confirmed) in AreTied d.4 d.3)
+as_tied : (n : ℕ) (files : List (List ℕ)) (others : ℕ) (s : CoreState) (l : NfsLists) (current : Option ℕ) (at : ℕ) (o : Opener) (a : OpenArgsItem) (confirmed : Bool) → IsGood s → IsOpener l o → AreTied s l → (let d = carried n s l (open_as files others s l current at o a confirmed) in AreTied d.4 d.3)
 unfolding open_as
 as_tied n files others s l current at o a confirmed good opener tied = by_tied n others s l current o a confirmed (opened_file files s l o.client at a) good opener tied
 
@@ -230,16 +231,16 @@ gives_all_quiet : (s : CoreState) (o : Opener) (rows : List StateidRow) → AllB
 gives_all_quiet s o [] = tt
 gives_all_quiet s o (r ∷ rs) = all_append IsQuietDeed (gives (share_held s o r.file)) (gives_all (given_up s (share_held s o r.file)) o rs) (gives_quiet s o r.file (share_held s o r.file) refl) (gives_all_quiet (given_up s (share_held s o r.file)) o rs)
 
-repeat_tied : (n : ℕ) (s : CoreState) (l : NfsLists) (current : Option ℕ) (k : Option KeptRow) → AreTied s l → (let d = carried n s l current (repeated s l current k) in AreTied d.4 d.3)
+repeat_tied : (n : ℕ) (s : CoreState) (l : NfsLists) (current : Option ℕ) (k : Option KeptRow) → AreTied s l → (let d = carried n s l (repeated s l current k) in AreTied d.4 d.3)
 repeat_tied n s l current None tied = tied
 repeat_tied n s l current (Some k) tied = tied
 
-judged_tied : (n : ℕ) (files : List (List ℕ)) (others : ℕ) (s : CoreState) (l : NfsLists) (current : Option ℕ) (at : ℕ) (o : Opener) (a : OpenArgsItem) (j : Judged) → IsGood s → IsOpener l o → AreTied s l → (let d = carried n s l current (open_judged files others s l current at o a j) in AreTied d.4 d.3)
+judged_tied : (n : ℕ) (files : List (List ℕ)) (others : ℕ) (s : CoreState) (l : NfsLists) (current : Option ℕ) (at : ℕ) (o : Opener) (a : OpenArgsItem) (j : Judged) → IsGood s → IsOpener l o → AreTied s l → (let d = carried n s l (open_judged files others s l current at o a j) in AreTied d.4 d.3)
 judged_tied n files others s l current at o a judgements.Bad good opener tied = tied
 judged_tied n files others s l current at o a (judgements.Repeats number) good opener tied = repeat_tied n s l current (find (is_kept number) l.kept) tied
 judged_tied n files others s l current at o a (judgements.Anew number) good opener tied =
     let rows = filter (is_whose (whose.Owner number)) l.stateids in
-    behind_tied n s l current (gives_all s o rows) (without_owner number l) (λ t. open_as files others t (without_owner number l) current at o a false) good (all_given n s (λ _. Unit {0}) o rows good tt).0 (gives_all_quiet s o rows) tied (owner_still s.counter number l tied.set)
+    behind_tied n s l (gives_all s o rows) (without_owner number l) (λ t. open_as files others t (without_owner number l) current at o a false) good (all_given n s (λ _. Unit {0}) o rows good tt).0 (gives_all_quiet s o rows) tied (owner_still s.counter number l tied.set)
     (λ t well is. as_tied n files others t (without_owner number l) current at o a false well (record { there = opener.there; named = opener.named; only = opener.only }) is)
 judged_tied n files others s l current at o a judgements.New good opener tied = as_tied n files others s l current at o a false good opener tied
 judged_tied n files others s l current at o a judgements.Next good opener tied = as_tied n files others s l current at o a true good opener tied
@@ -256,19 +257,19 @@ opener_is s l a c set e = by (number_in s a.owner.clientid) e
       only = λ id is. id_is l.clients number c id set.clients.apart f is;
     }
 
-at_tied : (n : ℕ) (files : List (List ℕ)) (others : ℕ) (s : CoreState) (l : NfsLists) (a : OpenArgsItem) (current : Option ℕ) → IsGood s → AreTied s l → (let d = carried n s l current (open_at files others s l a current) in AreTied d.4 d.3)
+at_tied : (n : ℕ) (files : List (List ℕ)) (others : ℕ) (s : CoreState) (l : NfsLists) (a : OpenArgsItem) (current : Option ℕ) → IsGood s → AreTied s l → (let d = carried n s l (open_at files others s l a current) in AreTied d.4 d.3)
 at_tied n files others s l a None good tied = tied
 at_tied n files others s l a (Some at) good tied = of (client_in s l a.owner.clientid) refl
   where
-    of : (c : Option ClientRow) → client_in s l a.owner.clientid ≡ c → (let d = carried n s l (Some at) (open_of files others s l (Some at) at a c) in AreTied d.4 d.3)
+    of : (c : Option ClientRow) → client_in s l a.owner.clientid ≡ c → (let d = carried n s l (open_of files others s l (Some at) at a c) in AreTied d.4 d.3)
     of None e = tied
     of (Some c) e = judged_tied n files others s l (Some at) at (opener_of c a) a (judged l (opener_of c a) a.seqid) good (opener_is s l a c tied.set e) tied
 
-pub open_tied : (n : ℕ) (files : List (List ℕ)) (others : ℕ) (s : CoreState) (l : NfsLists) (current : Option ℕ) (a : OpenArgsItem) → IsGood s → AreTied s l → (let d = carried n s l current (open_file files others s l current a) in AreTied d.4 d.3)
+pub open_tied : (n : ℕ) (files : List (List ℕ)) (others : ℕ) (s : CoreState) (l : NfsLists) (current : Option ℕ) (a : OpenArgsItem) → IsGood s → AreTied s l → (let d = carried n s l (open_file files others s l current a) in AreTied d.4 d.3)
 unfolding open_file open_claimed
 open_tied n files others s l current a good tied =
-    renewing_tied n s l current (number_in s a.owner.clientid) (λ t m. open_claimed files others t m current a) good tied (λ t well is.
-    renewing_tied n t (renewed_for s l (number_in s a.owner.clientid)) current (claim_client t (renewed_for s l (number_in s a.owner.clientid)) a.claim) (λ u m. open_at files others u m a current) well is (λ u sound ties. at_tied n files others u _ a current sound ties))
+    renewing_tied n s l (number_in s a.owner.clientid) (λ t m. open_claimed files others t m current a) good tied (λ t well is.
+    renewing_tied n t (renewed_for s l (number_in s a.owner.clientid)) (claim_client t (renewed_for s l (number_in s a.owner.clientid)) a.claim) (λ u m. open_at files others u m a current) well is (λ u sound ties. at_tied n files others u _ a current sound ties))
 
 -- ---- DELEGRETURN
 
@@ -461,14 +462,14 @@ returned_row s l (Some at) stateid r e =
     let is = (return_exactly s l at stateid r).0 e in
     record { write = is.write; there = (found_in (is_stateid is.number) l.stateids r is.found).0; holds = is.holder }
 
-return_by_tied : (n : ℕ) (s : CoreState) (l : NfsLists) (current : Option ℕ) (stateid : Stateid) (x : Returning) → returned s l current stateid ≡ x → IsGood s → IsOrderly l → AreTied s l → (let d = carried n s l current (return_done s l current x) in AreTied d.4 d.3)
+return_by_tied : (n : ℕ) (s : CoreState) (l : NfsLists) (current : Option ℕ) (stateid : Stateid) (x : Returning) → returned s l current stateid ≡ x → IsGood s → IsOrderly l → AreTied s l → (let d = carried n s l (return_done s l current x) in AreTied d.4 d.3)
 return_by_tied n s l current stateid (Err status) e good orderly tied = tied
 return_by_tied n s l current stateid (Ok r) e good orderly tied =
     let is = returned_row s l current stateid r e in
     return_done_tied n s l r is.write good orderly is.there is.holds tied
 
-pub return_tied : (n : ℕ) (s : CoreState) (l : NfsLists) (current : Option ℕ) (stateid : Stateid) → IsGood s → IsOrderly l → AreTied s l → (let d = carried n s l current (deleg_return s l current stateid) in AreTied d.4 d.3)
+pub return_tied : (n : ℕ) (s : CoreState) (l : NfsLists) (current : Option ℕ) (stateid : Stateid) → IsGood s → IsOrderly l → AreTied s l → (let d = carried n s l (deleg_return s l current stateid) in AreTied d.4 d.3)
 unfolding deleg_return
 return_tied n s l current stateid good orderly tied =
     let m : NfsLists = renewed_for s l (state_client s l stateid) in
-    renewing_tied n s l current (state_client s l stateid) (λ t k. return_done t k current (returned t k current stateid)) good tied (λ t well is. return_by_tied n t m current stateid (returned t m current stateid) refl well (renewed_orderly s l (state_client s l stateid) orderly) is)
+    renewing_tied n s l (state_client s l stateid) (λ t k. return_done t k current (returned t k current stateid)) good tied (λ t well is. return_by_tied n t m current stateid (returned t m current stateid) refl well (renewed_orderly s l (state_client s l stateid) orderly) is)

@@ -39,20 +39,20 @@ use Rattle.xl_nfs_opens.specs.declared.opener.Opener.{Opener}
 
 -- ---- repeats
 
-pub repeat_kept : (n : ℕ) (s : CoreState) (l : NfsLists) (current : Option ℕ) (o : Option KeptRow) (k : KeptRow) → o ≡ Some k → IsRepeated k.result l s (carried n s l current (repeated s l current o))
+pub repeat_kept : (n : ℕ) (s : CoreState) (l : NfsLists) (current : Option ℕ) (o : Option KeptRow) (k : KeptRow) → o ≡ Some k → IsRepeated k.result l s (carried n s l (repeated s l current o))
 repeat_kept n s l current None k e = absurd (true≢false (ap is_some (sym e)))
-repeat_kept n s l current (Some x) k e = subst (λ (y : KeptRow). IsRepeated y.result l s (carried n s l current (repeated s l current (Some x)))) (same_Some x k e) (refl, refl, refl)
+repeat_kept n s l current (Some x) k e = subst (λ (y : KeptRow). IsRepeated y.result l s (carried n s l (repeated s l current (Some x)))) (same_Some x k e) (refl, refl, refl)
 
-pub open_repeated : (n : ℕ) (files : List (List ℕ)) (others : ℕ) (s : CoreState) (l : NfsLists) (current : Option ℕ) (at : ℕ) (o : Opener) (a : OpenArgsItem) (number : ℕ) (k : KeptRow) → find (is_kept number) l.kept ≡ Some k → IsRepeated k.result l s (carried n s l current (open_judged files others s l current at o a (judgements.Repeats number)))
+pub open_repeated : (n : ℕ) (files : List (List ℕ)) (others : ℕ) (s : CoreState) (l : NfsLists) (current : Option ℕ) (at : ℕ) (o : Opener) (a : OpenArgsItem) (number : ℕ) (k : KeptRow) → find (is_kept number) l.kept ≡ Some k → IsRepeated k.result l s (carried n s l (open_judged files others s l current at o a (judgements.Repeats number)))
 open_repeated n files others s l current at o a number k e = repeat_kept n s l current (find (is_kept number) l.kept) k e
 
-pub confirm_repeated : (n : ℕ) (s : CoreState) (l : NfsLists) (current : Option ℕ) (a : OpenConfirmArgs) (number : ℕ) (k : KeptRow) → find (is_kept number) l.kept ≡ Some k → IsRepeated k.result l s (carried n s l current (confirm_by s l current a (Repeated number)))
+pub confirm_repeated : (n : ℕ) (s : CoreState) (l : NfsLists) (current : Option ℕ) (a : OpenConfirmArgs) (number : ℕ) (k : KeptRow) → find (is_kept number) l.kept ≡ Some k → IsRepeated k.result l s (carried n s l (confirm_by s l current a (Repeated number)))
 confirm_repeated n s l current a number k e = repeat_kept n s l current (find (is_kept number) l.kept) k e
 
-pub downgrade_repeated : (n : ℕ) (s : CoreState) (l : NfsLists) (current : Option ℕ) (a : OpenDowngradeArgs) (number : ℕ) (k : KeptRow) → find (is_kept number) l.kept ≡ Some k → IsRepeated k.result l s (carried n s l current (downgrade_by s l current a (Repeated number)))
+pub downgrade_repeated : (n : ℕ) (s : CoreState) (l : NfsLists) (current : Option ℕ) (a : OpenDowngradeArgs) (number : ℕ) (k : KeptRow) → find (is_kept number) l.kept ≡ Some k → IsRepeated k.result l s (carried n s l (downgrade_by s l current a (Repeated number)))
 downgrade_repeated n s l current a number k e = repeat_kept n s l current (find (is_kept number) l.kept) k e
 
-pub close_repeated : (n : ℕ) (s : CoreState) (l : NfsLists) (current : Option ℕ) (a : CloseArgs) (number : ℕ) (k : KeptRow) → find (is_kept number) l.kept ≡ Some k → IsRepeated k.result l s (carried n s l current (close_by s l current a (Repeated number)))
+pub close_repeated : (n : ℕ) (s : CoreState) (l : NfsLists) (current : Option ℕ) (a : CloseArgs) (number : ℕ) (k : KeptRow) → find (is_kept number) l.kept ≡ Some k → IsRepeated k.result l s (carried n s l (close_by s l current a (Repeated number)))
 close_repeated n s l current a number k e = repeat_kept n s l current (find (is_kept number) l.kept) k e
 
 next_differs : (m : ℕ) → m < 2 ^ 32 → (m == next_seqid m) ≡ false

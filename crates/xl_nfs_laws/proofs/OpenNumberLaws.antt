@@ -35,7 +35,8 @@ use Rattle.xl_core.specs.Ids.{number_in}
 use Rattle.xl_nfs_laws.specs.StateidNumbers.{AreGivenOut, StayGivenOut}
 use Rattle.xl_nfs_opens.specs.Opens.{freed, answer_status, answered, can_enter, can_stand, claim_client, client_in, delegated, delegated_in, delegation_row, delegation_told, drawn_for, draws_for, either_bits, entered, gives, granted_by, granted_new, granted_wish, has_room, is_granted, judged, open_as, open_at, open_by, open_claimed, open_file, open_held, open_judged, open_of, open_row, open_seqids, opened_file, opened_told, opener_of, reclaims, refused, refused_lists, repeated, rights_of, stood, wish_of}
 use Rattle.xl_nfs_opens.specs.Owners.{IsBy, AreBy}
-use Rattle.xl_nfs_opens.specs.Plans.{Plan, Fails, Does, Behind, Asking, carried, deeds_of}
+use Rattle.xl_plan.specs.Plans.{Tells, Does, Behind, Asking, deeds_of}
+use Rattle.xl_nfs_opens.specs.Plans.{Plan, carried}
 use Rattle.xl_nfs_opens.specs.Renewing.{renewed_for, renewed_if, state_client}
 use Rattle.xl_nfs_opens.specs.Results.{spelled}
 use Rattle.xl_nfs_opens.specs.Seqids.{advances, closed_gone, counted, is_opener, is_room_for, kept_for, opener_number, remembered, seated, seated_by, seated_new, seqid_set}
@@ -47,7 +48,7 @@ use Rattle.xl_nfs_opens.specs.declared.opener.Opener.{Opener}
 use Rattle.xl_nfs_opens.specs.declared.told.Told.TheVariants.{Ended}
 use Rattle.xl_nfs_laws.proofs.CloseOwn.{close_own}
 use Rattle.xl_nfs_laws.proofs.EnteredOpenLaws.{kept_stateids}
-use Rattle.xl_nfs_opens.proofs.LeaveLaws.{drawn_number}
+use Rattle.xl_plan.proofs.BudgetLaws.{drawn_number}
 use Rattle.xl_nfs_opens.proofs.OpenOwn.{Owned, confirm_own, downgrade_own, open_own, return_own}
 
 -- ---- lists
@@ -179,31 +180,31 @@ parts_own n s Client (d ∷ ds) es fit own =
 
 -- whatever it comes to in a state in which this number was given out last, stateids have numbers that were given out
 abbrev pub AreFew : ℕ → Plan → Type 0
-AreFew last (Fails status) = Unit {0}
-AreFew last (Does deeds lists current told) = AreGivenOut (last + draws deeds) lists
+AreFew last (Tells told) = Unit {0}
+AreFew last (Does deeds lists told) = AreGivenOut (last + draws deeds) lists
 AreFew last (Behind deeds lists rest) = AreGivenOut last lists × ((t : CoreState) → last ≤ t.counter → AreFew t.counter (rest t))
 AreFew last (Asking left a rest) = (answer : Answer) (t : CoreState) → last ≤ t.counter → AreFew t.counter (rest answer t)
 
 pub does_few : (last : ℕ) (deeds : List Deed) (lists : NfsLists) → AreGivenOut last lists → AreGivenOut (last + draws deeds) lists
 does_few last deeds lists given = later_on last (last + draws deeds) lists (omega arith) given
 
-pub carried_few : (n : ℕ) (s : CoreState) (l : NfsLists) (current : Option ℕ) (plan : Plan) (Client : List ℕ → Type 0) → IsGood s → Owned n s Client plan → AreGivenOut s.counter l → AreFew s.counter plan → StayGivenOut s (carried n s l current plan)
-carried_few n s l current (Fails status) Client good own given few = (omega arith, given)
-carried_few n s l current (Does deeds lists handle told) Client good own given few =
+pub carried_few : (n : ℕ) (s : CoreState) (l : NfsLists) (plan : Plan) (Client : List ℕ → Type 0) → IsGood s → Owned n s Client plan → AreGivenOut s.counter l → AreFew s.counter plan → StayGivenOut s (carried n s l plan)
+carried_few n s l (Tells told) Client good own given few = (omega arith, given)
+carried_few n s l (Does deeds lists told) Client good own given few =
     let up = deeds_rise n s Client deeds good own.0 own.1 in
     (omega (arith, up), later_on (s.counter + draws deeds) (all_done n s deeds).counter lists up few)
-carried_few n s l current (Behind deeds lists rest) Client good own given few =
+carried_few n s l (Behind deeds lists rest) Client good own given few =
     let t = all_done n s deeds in
     let parts = parts_own n s Client deeds (deeds_of n t (rest t)) own.0 own.1 in
     let up = deeds_rise n s Client deeds good parts.0.0 parts.0.1 in
     let le : s.counter ≤ t.counter = omega (arith, up) in
-    let more = carried_few n t lists current (rest t) Client (deeds_good n s deeds good parts.0.0) parts.1 (later_on s.counter t.counter lists le few.0) (few.1 t le) in
+    let more = carried_few n t lists (rest t) Client (deeds_good n s deeds good parts.0.0) parts.1 (later_on s.counter t.counter lists le few.0) (few.1 t le) in
     (omega (arith, le, more.0), more.1)
-carried_few n s l current (Asking left a rest) Client good own given few =
+carried_few n s l (Asking left a rest) Client good own given few =
     let r = ask n left s a in
     let up = deed_rises n s Client (Asks left a) good own.0.0 own.1.0 in
     let le : s.counter ≤ r.2.counter = omega (arith, up) in
-    let more = carried_few n r.2 l current (rest r.0 r.2) Client (deeds_good n s (Asks left a ∷ []) good (own.0.0, tt)) (own.0.1, own.1.1) (later_on s.counter r.2.counter l le given) (few r.0 r.2 le) in
+    let more = carried_few n r.2 l (rest r.0 r.2) Client (deeds_good n s (Asks left a ∷ []) good (own.0.0, tt)) (own.0.1, own.1.1) (later_on s.counter r.2.counter l le given) (few r.0 r.2 le) in
     (omega (arith, le, more.0), more.1)
 
 -- ---- OPEN
@@ -363,20 +364,20 @@ return_few s l current stateid given =
 pub start_given : (last : ℕ) → AreGivenOut last no_lists
 start_given last = tt
 
-pub open_given : (n : ℕ) (files : List (List ℕ)) (others : ℕ) (s : CoreState) (l : NfsLists) (current : Option ℕ) (a : OpenArgsItem) → IsGood s → AreGivenOut s.counter l → StayGivenOut s (carried n s l current (open_file files others s l current a))
-open_given n files others s l current a good given = carried_few n s l current (open_file files others s l current a) _ good (open_own n files others s l current a good) given (open_few files others s l current a given)
+pub open_given : (n : ℕ) (files : List (List ℕ)) (others : ℕ) (s : CoreState) (l : NfsLists) (current : Option ℕ) (a : OpenArgsItem) → IsGood s → AreGivenOut s.counter l → StayGivenOut s (carried n s l (open_file files others s l current a))
+open_given n files others s l current a good given = carried_few n s l (open_file files others s l current a) _ good (open_own n files others s l current a good) given (open_few files others s l current a given)
 
-pub confirm_given : (n : ℕ) (s : CoreState) (l : NfsLists) (current : Option ℕ) (a : OpenConfirmArgs) → IsGood s → AreGivenOut s.counter l → StayGivenOut s (carried n s l current (open_confirm s l current a))
-confirm_given n s l current a good given = carried_few n s l current (open_confirm s l current a) _ good (confirm_own n s l current a good) given (confirm_few s l current a given)
+pub confirm_given : (n : ℕ) (s : CoreState) (l : NfsLists) (current : Option ℕ) (a : OpenConfirmArgs) → IsGood s → AreGivenOut s.counter l → StayGivenOut s (carried n s l (open_confirm s l current a))
+confirm_given n s l current a good given = carried_few n s l (open_confirm s l current a) _ good (confirm_own n s l current a good) given (confirm_few s l current a given)
 
-pub downgrade_given : (n : ℕ) (s : CoreState) (l : NfsLists) (current : Option ℕ) (a : OpenDowngradeArgs) → IsGood s → AreGivenOut s.counter l → StayGivenOut s (carried n s l current (open_downgrade s l current a))
-downgrade_given n s l current a good given = carried_few n s l current (open_downgrade s l current a) _ good (downgrade_own n s l current a good) given (downgrade_few s l current a given)
+pub downgrade_given : (n : ℕ) (s : CoreState) (l : NfsLists) (current : Option ℕ) (a : OpenDowngradeArgs) → IsGood s → AreGivenOut s.counter l → StayGivenOut s (carried n s l (open_downgrade s l current a))
+downgrade_given n s l current a good given = carried_few n s l (open_downgrade s l current a) _ good (downgrade_own n s l current a good) given (downgrade_few s l current a given)
 
-pub close_given : (n : ℕ) (s : CoreState) (l : NfsLists) (current : Option ℕ) (a : CloseArgs) → IsGood s → AreGivenOut s.counter l → StayGivenOut s (carried n s l current (close s l current a))
-close_given n s l current a good given = carried_few n s l current (close s l current a) _ good (close_own n s l current a good) given (close_few s l current a given)
+pub close_given : (n : ℕ) (s : CoreState) (l : NfsLists) (current : Option ℕ) (a : CloseArgs) → IsGood s → AreGivenOut s.counter l → StayGivenOut s (carried n s l (close s l current a))
+close_given n s l current a good given = carried_few n s l (close s l current a) _ good (close_own n s l current a good) given (close_few s l current a given)
 
-pub return_given : (n : ℕ) (s : CoreState) (l : NfsLists) (current : Option ℕ) (stateid : Stateid) → IsGood s → AreGivenOut s.counter l → StayGivenOut s (carried n s l current (deleg_return s l current stateid))
-return_given n s l current stateid good given = carried_few n s l current (deleg_return s l current stateid) _ good (return_own n s l current stateid good) given (return_few s l current stateid given)
+pub return_given : (n : ℕ) (s : CoreState) (l : NfsLists) (current : Option ℕ) (stateid : Stateid) → IsGood s → AreGivenOut s.counter l → StayGivenOut s (carried n s l (deleg_return s l current stateid))
+return_given n s l current stateid good given = carried_few n s l (deleg_return s l current stateid) _ good (return_own n s l current stateid good) given (return_few s l current stateid given)
 
 -- ---- the next number
 
@@ -415,7 +416,7 @@ delegated_alone s o file (Some write) l P each all =
       | inr e ↦ rw e all
     ]
 
-pub new_alone : (n : ℕ) (s : CoreState) (l : NfsLists) (current : Option ℕ) (o : Opener) (a : OpenArgsItem) (file : ℕ) (confirmed : Bool) (write : Option Bool) (r : StateidRow) → AreGivenOut s.counter l → IsIn r (carried n s l current (granted_new s l o a file confirmed write)).3.stateids → r.number ≡ s.counter + 1 → r ≡ open_row (s.counter + 1) o (opener_number o l) file a
+pub new_alone : (n : ℕ) (s : CoreState) (l : NfsLists) (current : Option ℕ) (o : Opener) (a : OpenArgsItem) (file : ℕ) (confirmed : Bool) (write : Option Bool) (r : StateidRow) → AreGivenOut s.counter l → IsIn r (carried n s l (granted_new s l o a file confirmed write)).3.stateids → r.number ≡ s.counter + 1 → r ≡ open_row (s.counter + 1) o (opener_number o l) file a
 new_alone n s l current o a file confirmed write r given here same =
     let there : NfsLists = seated o (open_seqids a confirmed) l in
     let row : StateidRow = open_row (s.counter + 1) o (opener_number o l) file a in

@@ -33,7 +33,6 @@ use Rattle.xl_nfs_state.specs.declared.stateid.Standing.{Standing}
 use Rattle.xl_nfs_state.specs.declared.stateid.StateidRow.{StateidRow}
 use Rattle.xl_nfs_state.specs.declared.stateid.Whose.TheVariants as whose
 use Rattle.xl_core.specs.Deeds.{all_done}
-use Rattle.xl_core.specs.Decide.{ask}
 use Rattle.xl_core.specs.State.{CoreState, drawn}
 use Rattle.xl_core.specs.declared.ask.Answer.{Answer}
 use Rattle.xl_nfs_opens.specs.Closing.{checked, close, close_by, close_done, confirm_by, confirm_done, Returning, returned, return_done, deleg_return, done_lists, failed_lists, next_seqids, open_confirm, standing_fault, state_told}
@@ -41,7 +40,8 @@ use Rattle.xl_nfs_opens.specs.Downgrades.{downgrade_by, downgrade_done, downgrad
 use Rattle.xl_nfs_opens.specs.Opens.{answer_status, answered, can_enter, can_stand, delegated, delegated_in, delegation_row, delegation_told, drawn_for, granted_wish, wish_of, either_bits, entered, granted_by, has_room, is_granted, judged, live, open_as, open_at, open_by, open_claimed, open_file, open_held, open_judged, open_of, open_row, open_seqids, opened_file, opened_told, opener_of, claim_client, client_in, reclaims, refused_lists, repeated, stood}
 use Rattle.xl_nfs_laws.specs.Orderly.{are_apart, closes, IsHeldBy, IsOrderly, IsOwnedBy}
 use Rattle.xl_core.specs.Ids.{number_in}
-use Rattle.xl_nfs_opens.specs.Plans.{Plan, Fails, Does, Behind, Asking, carried}
+use Rattle.xl_plan.specs.Plans.{AllKept}
+use Rattle.xl_nfs_opens.specs.Plans.{Plan}
 use Rattle.xl_nfs_opens.specs.Renewing.{renewed_for, renewed_if, state_client}
 use Rattle.xl_nfs_opens.specs.Results.{spelled}
 use Rattle.xl_nfs_opens.specs.Seqids.{advances, closed_gone, counted, is_opener, is_room_for, kept_for, new_owner, number_by, opener_number, remembered, seated, seated_by, seated_new, seqid_set}
@@ -327,16 +327,7 @@ owned_new s o a file confirmed l kind rising room =
 
 -- whatever it comes to, owners and stateids are orderly
 abbrev pub Keeps : Plan → Type 0
-Keeps (Fails status) = Unit {0}
-Keeps (Does deeds lists current told) = IsOrderly lists
-Keeps (Behind deeds lists rest) = IsOrderly lists × ((t : CoreState) → Keeps (rest t))
-Keeps (Asking left a rest) = (answer : Answer) (t : CoreState) → Keeps (rest answer t)
-
-pub carried_orderly : (n : ℕ) (s : CoreState) (l : NfsLists) (current : Option ℕ) (plan : Plan) → IsOrderly l → Keeps plan → IsOrderly (carried n s l current plan).3
-carried_orderly n s l current (Fails status) orderly keeps = orderly
-carried_orderly n s l current (Does deeds lists handle told) orderly keeps = keeps
-carried_orderly n s l current (Behind deeds lists rest) orderly keeps = carried_orderly n (all_done n s deeds) lists current (rest (all_done n s deeds)) keeps.0 (keeps.1 (all_done n s deeds))
-carried_orderly n s l current (Asking left a rest) orderly keeps = (let r = ask n left s a in carried_orderly n r.2 l current (rest r.0 r.2) orderly (keeps r.0 r.2))
+Keeps plan = AllKept IsOrderly plan
 
 -- a delegation comes: nothing else stands in its place or has its number
 delegated_orderly : (s : CoreState) (o : Opener) (file : ℕ) (write : Option Bool) (l : NfsLists) → IsOrderly l → IsOrderly (delegated s o file write l)

@@ -113,13 +113,13 @@ done_advanced s l r owner o seqids op seqid confirmed closing access deny closed
     advanced_with owner o next (spelled op (state_told s r)) l m new new refl refl refl refl (counted_advanced owner o seqids.closed next (spelled op (state_told s r)) m found)
 
 -- it failed
-pub failed_counts : (n : ℕ) (s : CoreState) (l : NfsLists) (current : Option ℕ) (owner : ℕ) (o : OwnerRow) (seqids : SeqidState) (op seqid : ℕ) (status : NfsStatus) → find (is_owner owner) l.owners ≡ Some o → CountsFor owner o (next_seqids op seqid seqids.confirmed None) op l (carried n s l current (failed l current owner seqids op seqid status))
+pub failed_counts : (n : ℕ) (s : CoreState) (l : NfsLists) (current : Option ℕ) (owner : ℕ) (o : OwnerRow) (seqids : SeqidState) (op seqid : ℕ) (status : NfsStatus) → find (is_owner owner) l.owners ≡ Some o → CountsFor owner o (next_seqids op seqid seqids.confirmed None) op l (carried n s l (failed l current owner seqids op seqid status))
 failed_counts n s l current owner o seqids op seqid status found = λ counts. rw counts (counted_advanced owner o seqids.closed (next_seqids op seqid seqids.confirmed None) (spelled op (Ended status)) l found)
 
-pub failed_alone : (n : ℕ) (s : CoreState) (l : NfsLists) (current : Option ℕ) (owner : ℕ) (seqids : SeqidState) (op seqid : ℕ) (status : NfsStatus) → advances status ≡ false → IsAlone l s (carried n s l current (failed l current owner seqids op seqid status))
+pub failed_alone : (n : ℕ) (s : CoreState) (l : NfsLists) (current : Option ℕ) (owner : ℕ) (seqids : SeqidState) (op seqid : ℕ) (status : NfsStatus) → advances status ≡ false → IsAlone l s (carried n s l (failed l current owner seqids op seqid status))
 failed_alone n s l current owner seqids op seqid status not = (left_alone l owner seqids op seqid status not, refl)
 
-pub repeated_alone : (n : ℕ) (s : CoreState) (l : NfsLists) (current : Option ℕ) (k : Option KeptRow) → IsAlone l s (carried n s l current (repeated s l current k))
+pub repeated_alone : (n : ℕ) (s : CoreState) (l : NfsLists) (current : Option ℕ) (k : Option KeptRow) → IsAlone l s (carried n s l (repeated s l current k))
 repeated_alone n s l current None = (refl, refl)
 repeated_alone n s l current (Some k) = (refl, refl)
 
@@ -191,64 +191,64 @@ refused_not s l current op seqid stateid status e = subst (λ (c : Checked). IfR
 -- ---- OPEN_CONFIRM
 
 confirm_done_counts : (n : ℕ) (s : CoreState) (l : NfsLists) (current : Option ℕ) (a : OpenConfirmArgs) (r : StateidRow) (owner : ℕ) (seqids : SeqidState) (o : OwnerRow) (fault : Option NfsStatus) → IfFault fault → find (is_owner owner) l.owners ≡ Some o
-    → CountsFor owner o (next_seqids 20 a.seqid (confirmed_by (status_of (carried n s l current (confirm_done s l current a r owner seqids fault)).0) seqids.confirmed) None) 20 l (carried n s l current (confirm_done s l current a r owner seqids fault))
+    → CountsFor owner o (next_seqids 20 a.seqid (confirmed_by (status_of (carried n s l (confirm_done s l current a r owner seqids fault)).0) seqids.confirmed) None) 20 l (carried n s l (confirm_done s l current a r owner seqids fault))
 confirm_done_counts n s l current a r owner seqids o None fails found = λ counts. done_advanced s l r owner o seqids 20 a.seqid true None r.standing.access r.standing.deny false found
 confirm_done_counts n s l current a r owner seqids o (Some status) fails found = rw fails.ok (failed_counts n s l current owner o seqids 20 a.seqid status found)
 
 pub confirm_counts : (n : ℕ) (s : CoreState) (l : NfsLists) (current : Option ℕ) (a : OpenConfirmArgs) (r : StateidRow) (owner : ℕ) (seqids : SeqidState) (o : OwnerRow) → checked s l current 20 a.seqid a.stateid ≡ Passed r owner seqids → find (is_owner owner) l.owners ≡ Some o
-    → CountsFor owner o (seqids_after o 20 (confirmed_by (status_of (carried n s l current (confirm_by s l current a (checked s l current 20 a.seqid a.stateid))).0) o.seqids.confirmed) None) 20 l (carried n s l current (confirm_by s l current a (checked s l current 20 a.seqid a.stateid)))
+    → CountsFor owner o (seqids_after o 20 (confirmed_by (status_of (carried n s l (confirm_by s l current a (checked s l current 20 a.seqid a.stateid))).0) o.seqids.confirmed) None) 20 l (carried n s l (confirm_by s l current a (checked s l current 20 a.seqid a.stateid)))
 confirm_counts n s l current a r owner seqids o e found =
     let next : IsNext owner o seqids a.seqid = passed_is_next s l current 20 a.seqid a.stateid r owner seqids o e found in
     let fault = standing_fault r seqids a.stateid.seqid false in
-    let status : NfsStatus = status_of (carried n s l current (confirm_done s l current a r owner seqids fault)).0 in
+    let status : NfsStatus = status_of (carried n s l (confirm_done s l current a r owner seqids fault)).0 in
     let come : next_seqids 20 a.seqid (confirmed_by status seqids.confirmed) None ≡ seqids_after o 20 (confirmed_by status o.seqids.confirmed) None = (λ i. next_seqids 20 (next.seqid_is i) (confirmed_by status (next.seqids_is i).confirmed) None) in
-    subst (λ (c : Checked). CountsFor owner o (seqids_after o 20 (confirmed_by (status_of (carried n s l current (confirm_by s l current a c)).0) o.seqids.confirmed) None) 20 l (carried n s l current (confirm_by s l current a c))) (sym e)
-    (subst (λ (t : SeqidState). CountsFor owner o t 20 l (carried n s l current (confirm_done s l current a r owner seqids fault))) come (confirm_done_counts n s l current a r owner seqids o fault (standing_is_fault r seqids a.stateid.seqid false) found))
+    subst (λ (c : Checked). CountsFor owner o (seqids_after o 20 (confirmed_by (status_of (carried n s l (confirm_by s l current a c)).0) o.seqids.confirmed) None) 20 l (carried n s l (confirm_by s l current a c))) (sym e)
+    (subst (λ (t : SeqidState). CountsFor owner o t 20 l (carried n s l (confirm_done s l current a r owner seqids fault))) come (confirm_done_counts n s l current a r owner seqids o fault (standing_is_fault r seqids a.stateid.seqid false) found))
 
-confirm_done_alone : (n : ℕ) (s : CoreState) (l : NfsLists) (current : Option ℕ) (a : OpenConfirmArgs) (r : StateidRow) (owner : ℕ) (seqids : SeqidState) (fault : Option NfsStatus) → advances (status_of (carried n s l current (confirm_done s l current a r owner seqids fault)).0) ≡ false → IsAlone l s (carried n s l current (confirm_done s l current a r owner seqids fault))
+confirm_done_alone : (n : ℕ) (s : CoreState) (l : NfsLists) (current : Option ℕ) (a : OpenConfirmArgs) (r : StateidRow) (owner : ℕ) (seqids : SeqidState) (fault : Option NfsStatus) → advances (status_of (carried n s l (confirm_done s l current a r owner seqids fault)).0) ≡ false → IsAlone l s (carried n s l (confirm_done s l current a r owner seqids fault))
 confirm_done_alone n s l current a r owner seqids None not = absurd (true≢false not)
 confirm_done_alone n s l current a r owner seqids (Some status) not = failed_alone n s l current owner seqids 20 a.seqid status not
 
-confirm_by_alone : (n : ℕ) (s : CoreState) (l : NfsLists) (current : Option ℕ) (a : OpenConfirmArgs) (c : Checked) → advances (status_of (carried n s l current (confirm_by s l current a c)).0) ≡ false → IsAlone l s (carried n s l current (confirm_by s l current a c))
+confirm_by_alone : (n : ℕ) (s : CoreState) (l : NfsLists) (current : Option ℕ) (a : OpenConfirmArgs) (c : Checked) → advances (status_of (carried n s l (confirm_by s l current a c)).0) ≡ false → IsAlone l s (carried n s l (confirm_by s l current a c))
 confirm_by_alone n s l current a (Refused status) not = (refl, refl)
 confirm_by_alone n s l current a (Repeated owner) not = repeated_alone n s l current (find (is_kept owner) l.kept)
 confirm_by_alone n s l current a (Passed r owner seqids) not = confirm_done_alone n s l current a r owner seqids (standing_fault r seqids a.stateid.seqid false) not
 
-pub confirm_alone : (n : ℕ) (s : CoreState) (l : NfsLists) (current : Option ℕ) (a : OpenConfirmArgs) → advances (status_of (carried n s l current (confirm_by s l current a (checked s l current 20 a.seqid a.stateid))).0) ≡ false → IsAlone l s (carried n s l current (confirm_by s l current a (checked s l current 20 a.seqid a.stateid)))
+pub confirm_alone : (n : ℕ) (s : CoreState) (l : NfsLists) (current : Option ℕ) (a : OpenConfirmArgs) → advances (status_of (carried n s l (confirm_by s l current a (checked s l current 20 a.seqid a.stateid))).0) ≡ false → IsAlone l s (carried n s l (confirm_by s l current a (checked s l current 20 a.seqid a.stateid)))
 confirm_alone n s l current a not = confirm_by_alone n s l current a (checked s l current 20 a.seqid a.stateid) not
 
 -- ---- OPEN_DOWNGRADE
 
 downgrade_done_counts : (n : ℕ) (s : CoreState) (l : NfsLists) (current : Option ℕ) (a : OpenDowngradeArgs) (r : StateidRow) (owner : ℕ) (seqids : SeqidState) (o : OwnerRow) (fault : Option NfsStatus) → find (is_owner owner) l.owners ≡ Some o
-    → CountsFor owner o (next_seqids 21 a.seqid seqids.confirmed None) 21 l (carried n s l current (downgrade_done s l current a r owner seqids fault))
+    → CountsFor owner o (next_seqids 21 a.seqid seqids.confirmed None) 21 l (carried n s l (downgrade_done s l current a r owner seqids fault))
 downgrade_done_counts n s l current a r owner seqids o None found = λ counts. done_advanced s l r owner o seqids 21 a.seqid seqids.confirmed None a.access a.deny false found
 downgrade_done_counts n s l current a r owner seqids o (Some status) found = failed_counts n s l current owner o seqids 21 a.seqid status found
 
 pub downgrade_counts : (n : ℕ) (s : CoreState) (l : NfsLists) (current : Option ℕ) (a : OpenDowngradeArgs) (r : StateidRow) (owner : ℕ) (seqids : SeqidState) (o : OwnerRow) → checked s l current 21 a.seqid a.stateid ≡ Passed r owner seqids → find (is_owner owner) l.owners ≡ Some o
-    → CountsFor owner o (seqids_after o 21 o.seqids.confirmed None) 21 l (carried n s l current (downgrade_by s l current a (checked s l current 21 a.seqid a.stateid)))
+    → CountsFor owner o (seqids_after o 21 o.seqids.confirmed None) 21 l (carried n s l (downgrade_by s l current a (checked s l current 21 a.seqid a.stateid)))
 downgrade_counts n s l current a r owner seqids o e found =
     let next : IsNext owner o seqids a.seqid = passed_is_next s l current 21 a.seqid a.stateid r owner seqids o e found in
     let fault = downgrade_fault r seqids a in
     let come : next_seqids 21 a.seqid seqids.confirmed None ≡ seqids_after o 21 o.seqids.confirmed None = (λ i. next_seqids 21 (next.seqid_is i) (next.seqids_is i).confirmed None) in
-    subst (λ (c : Checked). CountsFor owner o (seqids_after o 21 o.seqids.confirmed None) 21 l (carried n s l current (downgrade_by s l current a c))) (sym e)
-    (subst (λ (t : SeqidState). CountsFor owner o t 21 l (carried n s l current (downgrade_done s l current a r owner seqids fault))) come (downgrade_done_counts n s l current a r owner seqids o fault found))
+    subst (λ (c : Checked). CountsFor owner o (seqids_after o 21 o.seqids.confirmed None) 21 l (carried n s l (downgrade_by s l current a c))) (sym e)
+    (subst (λ (t : SeqidState). CountsFor owner o t 21 l (carried n s l (downgrade_done s l current a r owner seqids fault))) come (downgrade_done_counts n s l current a r owner seqids o fault found))
 
-downgrade_done_alone : (n : ℕ) (s : CoreState) (l : NfsLists) (current : Option ℕ) (a : OpenDowngradeArgs) (r : StateidRow) (owner : ℕ) (seqids : SeqidState) (fault : Option NfsStatus) → advances (status_of (carried n s l current (downgrade_done s l current a r owner seqids fault)).0) ≡ false → IsAlone l s (carried n s l current (downgrade_done s l current a r owner seqids fault))
+downgrade_done_alone : (n : ℕ) (s : CoreState) (l : NfsLists) (current : Option ℕ) (a : OpenDowngradeArgs) (r : StateidRow) (owner : ℕ) (seqids : SeqidState) (fault : Option NfsStatus) → advances (status_of (carried n s l (downgrade_done s l current a r owner seqids fault)).0) ≡ false → IsAlone l s (carried n s l (downgrade_done s l current a r owner seqids fault))
 downgrade_done_alone n s l current a r owner seqids None not = absurd (true≢false not)
 downgrade_done_alone n s l current a r owner seqids (Some status) not = failed_alone n s l current owner seqids 21 a.seqid status not
 
-downgrade_by_alone : (n : ℕ) (s : CoreState) (l : NfsLists) (current : Option ℕ) (a : OpenDowngradeArgs) (c : Checked) → advances (status_of (carried n s l current (downgrade_by s l current a c)).0) ≡ false → IsAlone l s (carried n s l current (downgrade_by s l current a c))
+downgrade_by_alone : (n : ℕ) (s : CoreState) (l : NfsLists) (current : Option ℕ) (a : OpenDowngradeArgs) (c : Checked) → advances (status_of (carried n s l (downgrade_by s l current a c)).0) ≡ false → IsAlone l s (carried n s l (downgrade_by s l current a c))
 downgrade_by_alone n s l current a (Refused status) not = (refl, refl)
 downgrade_by_alone n s l current a (Repeated owner) not = repeated_alone n s l current (find (is_kept owner) l.kept)
 downgrade_by_alone n s l current a (Passed r owner seqids) not = downgrade_done_alone n s l current a r owner seqids (downgrade_fault r seqids a) not
 
-pub downgrade_alone : (n : ℕ) (s : CoreState) (l : NfsLists) (current : Option ℕ) (a : OpenDowngradeArgs) → advances (status_of (carried n s l current (downgrade_by s l current a (checked s l current 21 a.seqid a.stateid))).0) ≡ false → IsAlone l s (carried n s l current (downgrade_by s l current a (checked s l current 21 a.seqid a.stateid)))
+pub downgrade_alone : (n : ℕ) (s : CoreState) (l : NfsLists) (current : Option ℕ) (a : OpenDowngradeArgs) → advances (status_of (carried n s l (downgrade_by s l current a (checked s l current 21 a.seqid a.stateid))).0) ≡ false → IsAlone l s (carried n s l (downgrade_by s l current a (checked s l current 21 a.seqid a.stateid)))
 downgrade_alone n s l current a not = downgrade_by_alone n s l current a (checked s l current 21 a.seqid a.stateid) not
 
 -- ---- CLOSE
 
 close_done_counts : (n : ℕ) (s : CoreState) (l : NfsLists) (current : Option ℕ) (a : CloseArgs) (r : StateidRow) (owner : ℕ) (seqids : SeqidState) (o : OwnerRow) (fault : Option NfsStatus) → IfFault fault → find (is_owner owner) l.owners ≡ Some o
-    → CountsFor owner o (next_seqids 4 a.seqid seqids.confirmed (closed_by (status_of (carried n s l current (close_done s l current a r owner seqids fault)).0) r.number)) 4 l (carried n s l current (close_done s l current a r owner seqids fault))
+    → CountsFor owner o (next_seqids 4 a.seqid seqids.confirmed (closed_by (status_of (carried n s l (close_done s l current a r owner seqids fault)).0) r.number)) 4 l (carried n s l (close_done s l current a r owner seqids fault))
 close_done_counts n s l current a r owner seqids o None fails found = λ counts.
     (let t = all_done n s (ends_locks l r (locks_under l r.number)) in
     let new : NfsLists = done_lists t l r owner seqids 4 a.seqid seqids.confirmed (Some r.number) r.standing.access r.standing.deny true in
@@ -256,23 +256,23 @@ close_done_counts n s l current a r owner seqids o None fails found = λ counts.
 close_done_counts n s l current a r owner seqids o (Some status) fails found = rw fails.ok (failed_counts n s l current owner o seqids 4 a.seqid status found)
 
 pub close_counts : (n : ℕ) (s : CoreState) (l : NfsLists) (current : Option ℕ) (a : CloseArgs) (r : StateidRow) (owner : ℕ) (seqids : SeqidState) (o : OwnerRow) → checked s l current 4 a.seqid a.stateid ≡ Passed r owner seqids → find (is_owner owner) l.owners ≡ Some o
-    → CountsFor owner o (seqids_after o 4 o.seqids.confirmed (closed_by (status_of (carried n s l current (close_by s l current a (checked s l current 4 a.seqid a.stateid))).0) r.number)) 4 l (carried n s l current (close_by s l current a (checked s l current 4 a.seqid a.stateid)))
+    → CountsFor owner o (seqids_after o 4 o.seqids.confirmed (closed_by (status_of (carried n s l (close_by s l current a (checked s l current 4 a.seqid a.stateid))).0) r.number)) 4 l (carried n s l (close_by s l current a (checked s l current 4 a.seqid a.stateid)))
 close_counts n s l current a r owner seqids o e found =
     let next : IsNext owner o seqids a.seqid = passed_is_next s l current 4 a.seqid a.stateid r owner seqids o e found in
     let fault = standing_fault r seqids a.stateid.seqid true in
-    let status : NfsStatus = status_of (carried n s l current (close_done s l current a r owner seqids fault)).0 in
+    let status : NfsStatus = status_of (carried n s l (close_done s l current a r owner seqids fault)).0 in
     let come : next_seqids 4 a.seqid seqids.confirmed (closed_by status r.number) ≡ seqids_after o 4 o.seqids.confirmed (closed_by status r.number) = (λ i. next_seqids 4 (next.seqid_is i) (next.seqids_is i).confirmed (closed_by status r.number)) in
-    subst (λ (c : Checked). CountsFor owner o (seqids_after o 4 o.seqids.confirmed (closed_by (status_of (carried n s l current (close_by s l current a c)).0) r.number)) 4 l (carried n s l current (close_by s l current a c))) (sym e)
-    (subst (λ (t : SeqidState). CountsFor owner o t 4 l (carried n s l current (close_done s l current a r owner seqids fault))) come (close_done_counts n s l current a r owner seqids o fault (standing_is_fault r seqids a.stateid.seqid true) found))
+    subst (λ (c : Checked). CountsFor owner o (seqids_after o 4 o.seqids.confirmed (closed_by (status_of (carried n s l (close_by s l current a c)).0) r.number)) 4 l (carried n s l (close_by s l current a c))) (sym e)
+    (subst (λ (t : SeqidState). CountsFor owner o t 4 l (carried n s l (close_done s l current a r owner seqids fault))) come (close_done_counts n s l current a r owner seqids o fault (standing_is_fault r seqids a.stateid.seqid true) found))
 
-close_done_alone : (n : ℕ) (s : CoreState) (l : NfsLists) (current : Option ℕ) (a : CloseArgs) (r : StateidRow) (owner : ℕ) (seqids : SeqidState) (fault : Option NfsStatus) → advances (status_of (carried n s l current (close_done s l current a r owner seqids fault)).0) ≡ false → IsAlone l s (carried n s l current (close_done s l current a r owner seqids fault))
+close_done_alone : (n : ℕ) (s : CoreState) (l : NfsLists) (current : Option ℕ) (a : CloseArgs) (r : StateidRow) (owner : ℕ) (seqids : SeqidState) (fault : Option NfsStatus) → advances (status_of (carried n s l (close_done s l current a r owner seqids fault)).0) ≡ false → IsAlone l s (carried n s l (close_done s l current a r owner seqids fault))
 close_done_alone n s l current a r owner seqids None not = absurd (true≢false not)
 close_done_alone n s l current a r owner seqids (Some status) not = failed_alone n s l current owner seqids 4 a.seqid status not
 
-close_by_alone : (n : ℕ) (s : CoreState) (l : NfsLists) (current : Option ℕ) (a : CloseArgs) (c : Checked) → advances (status_of (carried n s l current (close_by s l current a c)).0) ≡ false → IsAlone l s (carried n s l current (close_by s l current a c))
+close_by_alone : (n : ℕ) (s : CoreState) (l : NfsLists) (current : Option ℕ) (a : CloseArgs) (c : Checked) → advances (status_of (carried n s l (close_by s l current a c)).0) ≡ false → IsAlone l s (carried n s l (close_by s l current a c))
 close_by_alone n s l current a (Refused status) not = (refl, refl)
 close_by_alone n s l current a (Repeated owner) not = repeated_alone n s l current (find (is_kept owner) l.kept)
 close_by_alone n s l current a (Passed r owner seqids) not = close_done_alone n s l current a r owner seqids (standing_fault r seqids a.stateid.seqid true) not
 
-pub close_alone : (n : ℕ) (s : CoreState) (l : NfsLists) (current : Option ℕ) (a : CloseArgs) → advances (status_of (carried n s l current (close_by s l current a (checked s l current 4 a.seqid a.stateid))).0) ≡ false → IsAlone l s (carried n s l current (close_by s l current a (checked s l current 4 a.seqid a.stateid)))
+pub close_alone : (n : ℕ) (s : CoreState) (l : NfsLists) (current : Option ℕ) (a : CloseArgs) → advances (status_of (carried n s l (close_by s l current a (checked s l current 4 a.seqid a.stateid))).0) ≡ false → IsAlone l s (carried n s l (close_by s l current a (checked s l current 4 a.seqid a.stateid)))
 close_alone n s l current a not = close_by_alone n s l current a (checked s l current 4 a.seqid a.stateid) not

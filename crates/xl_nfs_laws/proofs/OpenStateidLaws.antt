@@ -94,7 +94,7 @@ stands_exactly r seqids seqid confirmed = (stands_forth r seqids seqid confirmed
 
 -- ---- an owner is confirmed
 
-pub confirm_confirms : (n : ℕ) (s : CoreState) (l : NfsLists) (current : Option ℕ) (a : OpenConfirmArgs) (r : StateidRow) (owner : ℕ) (seqids : SeqidState) (o : OwnerRow) → find (is_owner owner) l.owners ≡ Some o → find (is_owner owner) (carried n s l current (confirm_done s l current a r owner seqids None)).3.owners ≡ Some (with_seqids (record { seqid = a.seqid; op = 20; confirmed = true; closed = None }) o)
+pub confirm_confirms : (n : ℕ) (s : CoreState) (l : NfsLists) (current : Option ℕ) (a : OpenConfirmArgs) (r : StateidRow) (owner : ℕ) (seqids : SeqidState) (o : OwnerRow) → find (is_owner owner) l.owners ≡ Some o → find (is_owner owner) (carried n s l (confirm_done s l current a r owner seqids None)).3.owners ≡ Some (with_seqids (record { seqid = a.seqid; op = 20; confirmed = true; closed = None }) o)
 confirm_confirms n s l current a r owner seqids o found =
     let come : SeqidState = next_seqids 20 a.seqid true None in
     counted_seqids owner owner seqids.closed come (spelled 20 (state_told s r)) (stood r.number r r.standing.access r.standing.deny false l)

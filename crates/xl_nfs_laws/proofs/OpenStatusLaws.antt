@@ -75,11 +75,11 @@ share_exactly n s wish o a file status =
       λ told. claim_back t request claim answer (λ x due. (ask_due n all_rooms s request (whats.Share (rights_of a.access) (rights_of a.deny)) x refl).1 due) status told,
     )
 
-granted_status : (n : ℕ) (t : CoreState) (l : NfsLists) (current : Option ℕ) (o : Opener) (a : OpenArgsItem) (file : ℕ) (confirmed : Bool) (write : Option Bool) (had : Option StateidRow) → status_of (carried n t l current (granted_by t l o a file confirmed write had)).0 ≡ statuses.Ok
+granted_status : (n : ℕ) (t : CoreState) (l : NfsLists) (current : Option ℕ) (o : Opener) (a : OpenArgsItem) (file : ℕ) (confirmed : Bool) (write : Option Bool) (had : Option StateidRow) → status_of (carried n t l (granted_by t l o a file confirmed write had)).0 ≡ statuses.Ok
 granted_status n t l current o a file confirmed write None = refl
 granted_status n t l current o a file confirmed write (Some r) = refl
 
-answered_status : (n : ℕ) (t : CoreState) (l : NfsLists) (current : Option ℕ) (o : Opener) (a : OpenArgsItem) (file : ℕ) (confirmed : Bool) (wish : Option Bool) (answer : Answer) → status_of (carried n t l current (answered l current o a file confirmed wish answer t)).0 ≡ answer_status (reclaims a.claim) answer
+answered_status : (n : ℕ) (t : CoreState) (l : NfsLists) (current : Option ℕ) (o : Opener) (a : OpenArgsItem) (file : ℕ) (confirmed : Bool) (wish : Option Bool) (answer : Answer) → status_of (carried n t l (answered l current o a file confirmed wish answer t)).0 ≡ answer_status (reclaims a.claim) answer
 answered_status n t l current o a file confirmed wish (answers.Granted c) = granted_status n t l current o a file _ (granted_wish t o file wish) (open_held l o file)
 answered_status n t l current o a file confirmed wish (answers.Conflict c) = refl
 answered_status n t l current o a file confirmed wish (answers.Queued number) = refl
@@ -91,16 +91,16 @@ answered_status n t l current o a file confirmed wish (answers.Full limit) = ref
 answered_status n t l current o a file confirmed wish answers.NotHeld = refl
 answered_status n t l current o a file confirmed wish answers.StoreFailed = refl
 
-on_status : (n others : ℕ) (s : CoreState) (l : NfsLists) (current : Option ℕ) (o : Opener) (a : OpenArgsItem) (confirmed : Bool) (file : ℕ) → has_room others l o file ≡ true → status_of (carried n s l current (open_on others s l current o a confirmed file)).0 ≡ answer_status (reclaims a.claim) (ask n all_rooms s (share_ask (wish_of s l o a confirmed file) o a file)).0
+on_status : (n others : ℕ) (s : CoreState) (l : NfsLists) (current : Option ℕ) (o : Opener) (a : OpenArgsItem) (confirmed : Bool) (file : ℕ) → has_room others l o file ≡ true → status_of (carried n s l (open_on others s l current o a confirmed file)).0 ≡ answer_status (reclaims a.claim) (ask n all_rooms s (share_ask (wish_of s l o a confirmed file) o a file)).0
 on_status n others s l current o a confirmed file room =
     let wish = wish_of s l o a confirmed file in
     let r = ask n all_rooms s (share_ask wish o a file) in
     rw room (answered_status n r.2 l current o a file confirmed wish r.0)
 
-as_status : (n : ℕ) (files : List (List ℕ)) (others : ℕ) (s : CoreState) (l : NfsLists) (current : Option ℕ) (at : ℕ) (o : Opener) (a : OpenArgsItem) (confirmed : Bool) (file : ℕ) → opened_file files s l o.client at a ≡ Ok file → has_room others l o file ≡ true → status_of (carried n s l current (open_as files others s l current at o a confirmed)).0 ≡ answer_status (reclaims a.claim) (ask n all_rooms s (share_ask (wish_of s l o a confirmed file) o a file)).0
+as_status : (n : ℕ) (files : List (List ℕ)) (others : ℕ) (s : CoreState) (l : NfsLists) (current : Option ℕ) (at : ℕ) (o : Opener) (a : OpenArgsItem) (confirmed : Bool) (file : ℕ) → opened_file files s l o.client at a ≡ Ok file → has_room others l o file ≡ true → status_of (carried n s l (open_as files others s l current at o a confirmed)).0 ≡ answer_status (reclaims a.claim) (ask n all_rooms s (share_ask (wish_of s l o a confirmed file) o a file)).0
 unfolding open_as
 as_status n files others s l current at o a confirmed file found room =
-    ap (λ (x : Result ℕ NfsStatus). status_of (carried n s l current (open_by others s l current o a confirmed x)).0) found
+    ap (λ (x : Result ℕ NfsStatus). status_of (carried n s l (open_by others s l current o a confirmed x)).0) found
     ∙ on_status n others s l current o a confirmed file room
 
 exactly_by : {X : Type 0} (told is status : NfsStatus) → told ≡ is → ((is ≡ status) ↔ X) → ((told ≡ status) ↔ X)
@@ -108,43 +108,43 @@ exactly_by told is status e exactly = (λ d. exactly.0 (sym e ∙ d), λ x. e �
 
 -- ---- an OPEN that is judged further
 
-further : (n : ℕ) (files : List (List ℕ)) (others : ℕ) (s : CoreState) (l : NfsLists) (current : Option ℕ) (at : ℕ) (o : Opener) (a : OpenArgsItem) (j : Judged) (confirmed : Bool) → goes_on j ≡ Some confirmed → carried n s l current (open_judged files others s l current at o a j) ≡ carried n s l current (open_as files others s l current at o a confirmed)
-further n files others s l current at o a judgements.Next confirmed e = ap (λ (b : Bool). carried n s l current (open_as files others s l current at o a b)) (same_Some true confirmed e)
-further n files others s l current at o a judgements.New confirmed e = ap (λ (b : Bool). carried n s l current (open_as files others s l current at o a b)) (same_Some false confirmed e)
+further : (n : ℕ) (files : List (List ℕ)) (others : ℕ) (s : CoreState) (l : NfsLists) (current : Option ℕ) (at : ℕ) (o : Opener) (a : OpenArgsItem) (j : Judged) (confirmed : Bool) → goes_on j ≡ Some confirmed → carried n s l (open_judged files others s l current at o a j) ≡ carried n s l (open_as files others s l current at o a confirmed)
+further n files others s l current at o a judgements.Next confirmed e = ap (λ (b : Bool). carried n s l (open_as files others s l current at o a b)) (same_Some true confirmed e)
+further n files others s l current at o a judgements.New confirmed e = ap (λ (b : Bool). carried n s l (open_as files others s l current at o a b)) (same_Some false confirmed e)
 further n files others s l current at o a judgements.Bad confirmed e = absurd (true≢false (ap is_some (sym e)))
 further n files others s l current at o a (judgements.Repeats number) confirmed e = absurd (true≢false (ap is_some (sym e)))
 further n files others s l current at o a (judgements.Anew number) confirmed e = absurd (true≢false (ap is_some (sym e)))
 
-pub further_told : (n : ℕ) (files : List (List ℕ)) (others : ℕ) (s : CoreState) (l : NfsLists) (current : Option ℕ) (at : ℕ) (o : Opener) (a : OpenArgsItem) (confirmed : Bool) (file : ℕ) (status : NfsStatus) → goes_on (judged l o a.seqid) ≡ Some confirmed → opened_file files s l o.client at a ≡ Ok file → has_room others l o file ≡ true → (status_of (carried n s l current (open_judged files others s l current at o a (judged l o a.seqid))).0 ≡ status) ↔ IsOpenTold (share_way s (wish_of s l o a confirmed file) o a file) (share_ask (wish_of s l o a confirmed file) o a file) (share_claim s o a file) status
+pub further_told : (n : ℕ) (files : List (List ℕ)) (others : ℕ) (s : CoreState) (l : NfsLists) (current : Option ℕ) (at : ℕ) (o : Opener) (a : OpenArgsItem) (confirmed : Bool) (file : ℕ) (status : NfsStatus) → goes_on (judged l o a.seqid) ≡ Some confirmed → opened_file files s l o.client at a ≡ Ok file → has_room others l o file ≡ true → (status_of (carried n s l (open_judged files others s l current at o a (judged l o a.seqid))).0 ≡ status) ↔ IsOpenTold (share_way s (wish_of s l o a confirmed file) o a file) (share_ask (wish_of s l o a confirmed file) o a file) (share_claim s o a file) status
 further_told n files others s l current at o a confirmed file status goes found room =
     exactly_by _ _ status (ap (λ (r : Outcome). status_of r.0) (further n files others s l current at o a (judged l o a.seqid) confirmed goes) ∙ as_status n files others s l current at o a confirmed file found room) (share_exactly n s (wish_of s l o a confirmed file) o a file status)
 
 -- one that was never confirmed is judged further once what it had is gone
 pub anew_told : (n : ℕ) (files : List (List ℕ)) (others : ℕ) (s t : CoreState) (l : NfsLists) (current : Option ℕ) (at : ℕ) (o : Opener) (a : OpenArgsItem) (number file : ℕ) (status : NfsStatus) → judged l o a.seqid ≡ judgements.Anew number → t ≡ all_done n s (gives_all s o (filter (is_whose (whose.Owner number)) l.stateids)) → opened_file files t (without_owner number l) o.client at a ≡ Ok file → has_room others (without_owner number l) o file ≡ true
-    → (status_of (carried n s l current (open_judged files others s l current at o a (judged l o a.seqid))).0 ≡ status) ↔ IsOpenTold (share_way t (wish_of t (without_owner number l) o a false file) o a file) (share_ask (wish_of t (without_owner number l) o a false file) o a file) (share_claim t o a file) status
+    → (status_of (carried n s l (open_judged files others s l current at o a (judged l o a.seqid))).0 ≡ status) ↔ IsOpenTold (share_way t (wish_of t (without_owner number l) o a false file) o a file) (share_ask (wish_of t (without_owner number l) o a false file) o a file) (share_claim t o a file) status
 anew_told n files others s t l current at o a number file status anew after found room =
     exactly_by _ _ status (
-    ap (λ (j : Judged). status_of (carried n s l current (open_judged files others s l current at o a j)).0) anew
-    ∙ ap (λ (u : CoreState). status_of (carried n u (without_owner number l) current (open_as files others u (without_owner number l) current at o a false)).0) (sym after)
+    ap (λ (j : Judged). status_of (carried n s l (open_judged files others s l current at o a j)).0) anew
+    ∙ ap (λ (u : CoreState). status_of (carried n u (without_owner number l) (open_as files others u (without_owner number l) current at o a false)).0) (sym after)
     ∙ as_status n files others t (without_owner number l) current at o a false file found room
     ) (share_exactly n t (wish_of t (without_owner number l) o a false file) o a file status)
 
-pub further_fails : (n : ℕ) (files : List (List ℕ)) (others : ℕ) (s : CoreState) (l : NfsLists) (current : Option ℕ) (at : ℕ) (o : Opener) (a : OpenArgsItem) (confirmed : Bool) (status : NfsStatus) → goes_on (judged l o a.seqid) ≡ Some confirmed → opened_file files s l o.client at a ≡ Err status → carried n s l current (open_judged files others s l current at o a (judged l o a.seqid)) ≡ (Ended status, current, [], refused_lists o a confirmed status l, s)
+pub further_fails : (n : ℕ) (files : List (List ℕ)) (others : ℕ) (s : CoreState) (l : NfsLists) (current : Option ℕ) (at : ℕ) (o : Opener) (a : OpenArgsItem) (confirmed : Bool) (status : NfsStatus) → goes_on (judged l o a.seqid) ≡ Some confirmed → opened_file files s l o.client at a ≡ Err status → carried n s l (open_judged files others s l current at o a (judged l o a.seqid)) ≡ (Ended status, current, [], refused_lists o a confirmed status l, s)
 unfolding open_as
 further_fails n files others s l current at o a confirmed status goes found =
     further n files others s l current at o a (judged l o a.seqid) confirmed goes
-    ∙ ap (λ (x : Result ℕ NfsStatus). carried n s l current (open_by others s l current o a confirmed x)) found
+    ∙ ap (λ (x : Result ℕ NfsStatus). carried n s l (open_by others s l current o a confirmed x)) found
 
-pub further_full : (n : ℕ) (files : List (List ℕ)) (others : ℕ) (s : CoreState) (l : NfsLists) (current : Option ℕ) (at : ℕ) (o : Opener) (a : OpenArgsItem) (confirmed : Bool) (file : ℕ) → goes_on (judged l o a.seqid) ≡ Some confirmed → opened_file files s l o.client at a ≡ Ok file → has_room others l o file ≡ false → carried n s l current (open_judged files others s l current at o a (judged l o a.seqid)) ≡ (Ended statuses.Resource, current, [], l, s)
+pub further_full : (n : ℕ) (files : List (List ℕ)) (others : ℕ) (s : CoreState) (l : NfsLists) (current : Option ℕ) (at : ℕ) (o : Opener) (a : OpenArgsItem) (confirmed : Bool) (file : ℕ) → goes_on (judged l o a.seqid) ≡ Some confirmed → opened_file files s l o.client at a ≡ Ok file → has_room others l o file ≡ false → carried n s l (open_judged files others s l current at o a (judged l o a.seqid)) ≡ (Ended statuses.Resource, current, [], l, s)
 unfolding open_as
 further_full n files others s l current at o a confirmed file goes found full =
     further n files others s l current at o a (judged l o a.seqid) confirmed goes
-    ∙ ap (λ (x : Result ℕ NfsStatus). carried n s l current (open_by others s l current o a confirmed x)) found
+    ∙ ap (λ (x : Result ℕ NfsStatus). carried n s l (open_by others s l current o a confirmed x)) found
     ∙ rw full refl
 
 -- ---- what an OPEN that is OK leaves its owner with
 
-granted_claims : (n : ℕ) (t : CoreState) (l : NfsLists) (current : Option ℕ) (o : Opener) (a : OpenArgsItem) (file : ℕ) (confirmed : Bool) (write : Option Bool) (had : Option StateidRow) → (carried n t l current (granted_by t l o a file confirmed write had)).4.claims ≡ t.claims
+granted_claims : (n : ℕ) (t : CoreState) (l : NfsLists) (current : Option ℕ) (o : Opener) (a : OpenArgsItem) (file : ℕ) (confirmed : Bool) (write : Option Bool) (had : Option StateidRow) → (carried n t l (granted_by t l o a file confirmed write had)).4.claims ≡ t.claims
 unfolding drawn
 granted_claims n t l current o a file confirmed None None = refl
 granted_claims n t l current o a file confirmed None (Some r) = refl
@@ -152,7 +152,7 @@ granted_claims n t l current o a file confirmed (Some write) None = refl
 granted_claims n t l current o a file confirmed (Some write) (Some r) = refl
 
 -- the claims that are left by an answer that grants
-answered_claims : (n : ℕ) (t : CoreState) (l : NfsLists) (current : Option ℕ) (o : Opener) (a : OpenArgsItem) (file : ℕ) (confirmed : Bool) (wish : Option Bool) (answer : Answer) → answer_status (reclaims a.claim) answer ≡ statuses.Ok → ((c : Claim) × (answer ≡ answers.Granted c)) × ((carried n t l current (answered l current o a file confirmed wish answer t)).4.claims ≡ t.claims)
+answered_claims : (n : ℕ) (t : CoreState) (l : NfsLists) (current : Option ℕ) (o : Opener) (a : OpenArgsItem) (file : ℕ) (confirmed : Bool) (wish : Option Bool) (answer : Answer) → answer_status (reclaims a.claim) answer ≡ statuses.Ok → ((c : Claim) × (answer ≡ answers.Granted c)) × ((carried n t l (answered l current o a file confirmed wish answer t)).4.claims ≡ t.claims)
 answered_claims n t l current o a file confirmed wish (answers.Granted c) ok = ((c, refl), granted_claims n t l current o a file (confirmed || reclaims a.claim) (granted_wish t o file wish) (open_held l o file))
 answered_claims n t l current o a file confirmed wish (answers.Conflict c) ok = absurd (by (reclaims a.claim) ok) where
   by : (late : Bool) → (if late then statuses.ReclaimConflict else statuses.ShareDenied) ≡ statuses.Ok → ⊥
@@ -173,22 +173,22 @@ unfolding share_ask
 share_granted n s wish o a file c good granted = ask_shares n all_rooms s (share_ask wish o a file) (rights_of a.access) (rights_of a.deny) c good (ask_fits wish o a file).party refl granted
 
 on_share : (n others : ℕ) (s : CoreState) (l : NfsLists) (current : Option ℕ) (o : Opener) (a : OpenArgsItem) (confirmed : Bool) (file : ℕ) → IsGood s → has_room others l o file ≡ true → answer_status (reclaims a.claim) (ask n all_rooms s (share_ask (wish_of s l o a confirmed file) o a file)).0 ≡ statuses.Ok
-    → shares_of file (asker (share_ask None o a file) s.names) (carried n s l current (open_on others s l current o a confirmed file)).4.claims ≡ with_share (united_by (asker (share_ask None o a file) s.names) (whats.Share (rights_of a.access) (rights_of a.deny)) (old_shares file (asker (share_ask None o a file) s.names) s.claims)) []
+    → shares_of file (asker (share_ask None o a file) s.names) (carried n s l (open_on others s l current o a confirmed file)).4.claims ≡ with_share (united_by (asker (share_ask None o a file) s.names) (whats.Share (rights_of a.access) (rights_of a.deny)) (old_shares file (asker (share_ask None o a file) s.names) s.claims)) []
 on_share n others s l current o a confirmed file good room ok =
     let wish = wish_of s l o a confirmed file in
     let r = ask n all_rooms s (share_ask wish o a file) in
     let left = answered_claims n r.2 l current o a file confirmed wish r.0 ok in
     rw room (ap (λ (cs : List Claim). shares_of file (asker (share_ask None o a file) s.names) cs) left.1 ∙ share_granted n s wish o a file left.0.0 good left.0.1)
 
-as_share : (n : ℕ) (files : List (List ℕ)) (others : ℕ) (s : CoreState) (l : NfsLists) (current : Option ℕ) (at : ℕ) (o : Opener) (a : OpenArgsItem) (confirmed : Bool) (file : ℕ) → IsGood s → opened_file files s l o.client at a ≡ Ok file → has_room others l o file ≡ true → status_of (carried n s l current (open_as files others s l current at o a confirmed)).0 ≡ statuses.Ok
-    → shares_of file (asker (share_ask None o a file) s.names) (carried n s l current (open_as files others s l current at o a confirmed)).4.claims ≡ with_share (united_by (asker (share_ask None o a file) s.names) (whats.Share (rights_of a.access) (rights_of a.deny)) (old_shares file (asker (share_ask None o a file) s.names) s.claims)) []
+as_share : (n : ℕ) (files : List (List ℕ)) (others : ℕ) (s : CoreState) (l : NfsLists) (current : Option ℕ) (at : ℕ) (o : Opener) (a : OpenArgsItem) (confirmed : Bool) (file : ℕ) → IsGood s → opened_file files s l o.client at a ≡ Ok file → has_room others l o file ≡ true → status_of (carried n s l (open_as files others s l current at o a confirmed)).0 ≡ statuses.Ok
+    → shares_of file (asker (share_ask None o a file) s.names) (carried n s l (open_as files others s l current at o a confirmed)).4.claims ≡ with_share (united_by (asker (share_ask None o a file) s.names) (whats.Share (rights_of a.access) (rights_of a.deny)) (old_shares file (asker (share_ask None o a file) s.names) s.claims)) []
 unfolding open_as
 as_share n files others s l current at o a confirmed file good found room ok =
-    ap (λ (x : Result ℕ NfsStatus). shares_of file (asker (share_ask None o a file) s.names) (carried n s l current (open_by others s l current o a confirmed x)).4.claims) found
+    ap (λ (x : Result ℕ NfsStatus). shares_of file (asker (share_ask None o a file) s.names) (carried n s l (open_by others s l current o a confirmed x)).4.claims) found
     ∙ on_share n others s l current o a confirmed file good room (sym (as_status n files others s l current at o a confirmed file found room) ∙ ok)
 
-pub ok_share : (n : ℕ) (files : List (List ℕ)) (others : ℕ) (s : CoreState) (l : NfsLists) (current : Option ℕ) (at : ℕ) (o : Opener) (a : OpenArgsItem) (confirmed : Bool) (file : ℕ) → IsGood s → goes_on (judged l o a.seqid) ≡ Some confirmed → opened_file files s l o.client at a ≡ Ok file → has_room others l o file ≡ true → status_of (carried n s l current (open_judged files others s l current at o a (judged l o a.seqid))).0 ≡ statuses.Ok
-    → shares_of file (asker (share_ask None o a file) s.names) (carried n s l current (open_judged files others s l current at o a (judged l o a.seqid))).4.claims ≡ with_share (united_by (asker (share_ask None o a file) s.names) (whats.Share (rights_of a.access) (rights_of a.deny)) (old_shares file (asker (share_ask None o a file) s.names) s.claims)) []
+pub ok_share : (n : ℕ) (files : List (List ℕ)) (others : ℕ) (s : CoreState) (l : NfsLists) (current : Option ℕ) (at : ℕ) (o : Opener) (a : OpenArgsItem) (confirmed : Bool) (file : ℕ) → IsGood s → goes_on (judged l o a.seqid) ≡ Some confirmed → opened_file files s l o.client at a ≡ Ok file → has_room others l o file ≡ true → status_of (carried n s l (open_judged files others s l current at o a (judged l o a.seqid))).0 ≡ statuses.Ok
+    → shares_of file (asker (share_ask None o a file) s.names) (carried n s l (open_judged files others s l current at o a (judged l o a.seqid))).4.claims ≡ with_share (united_by (asker (share_ask None o a file) s.names) (whats.Share (rights_of a.access) (rights_of a.deny)) (old_shares file (asker (share_ask None o a file) s.names) s.claims)) []
 ok_share n files others s l current at o a confirmed file good goes found room ok =
     let same = further n files others s l current at o a (judged l o a.seqid) confirmed goes in
     ap (λ (r : Outcome). shares_of file (asker (share_ask None o a file) s.names) r.4.claims) same
@@ -231,19 +231,19 @@ joined_has access deny owner cs =
       | inr e ↦ rw e (within_self access, within_self deny)
     ]
 
-pub ok_has_asked : (n : ℕ) (files : List (List ℕ)) (others : ℕ) (s : CoreState) (l : NfsLists) (current : Option ℕ) (at : ℕ) (o : Opener) (a : OpenArgsItem) (confirmed : Bool) (file : ℕ) → IsGood s → goes_on (judged l o a.seqid) ≡ Some confirmed → opened_file files s l o.client at a ≡ Ok file → has_room others l o file ≡ true → status_of (carried n s l current (open_judged files others s l current at o a (judged l o a.seqid))).0 ≡ statuses.Ok
-    → IsShared (rights_of a.access) (rights_of a.deny) (shares_of file (asker (share_ask None o a file) s.names) (carried n s l current (open_judged files others s l current at o a (judged l o a.seqid))).4.claims)
+pub ok_has_asked : (n : ℕ) (files : List (List ℕ)) (others : ℕ) (s : CoreState) (l : NfsLists) (current : Option ℕ) (at : ℕ) (o : Opener) (a : OpenArgsItem) (confirmed : Bool) (file : ℕ) → IsGood s → goes_on (judged l o a.seqid) ≡ Some confirmed → opened_file files s l o.client at a ≡ Ok file → has_room others l o file ≡ true → status_of (carried n s l (open_judged files others s l current at o a (judged l o a.seqid))).0 ≡ statuses.Ok
+    → IsShared (rights_of a.access) (rights_of a.deny) (shares_of file (asker (share_ask None o a file) s.names) (carried n s l (open_judged files others s l current at o a (judged l o a.seqid))).4.claims)
 ok_has_asked n files others s l current at o a confirmed file good goes found room ok =
     subst (λ (shares : List (Rwd × Rwd)). IsShared (rights_of a.access) (rights_of a.deny) shares) (sym (ok_share n files others s l current at o a confirmed file good goes found room ok)) (joined_has (rights_of a.access) (rights_of a.deny) (asker (share_ask None o a file) s.names) (old_shares file (asker (share_ask None o a file) s.names) s.claims))
 
 -- so does one of an owner that was never confirmed, once what it had is gone
-pub anew_has_asked : (n : ℕ) (files : List (List ℕ)) (others : ℕ) (s t : CoreState) (l : NfsLists) (current : Option ℕ) (at : ℕ) (o : Opener) (a : OpenArgsItem) (number file : ℕ) → IsGood s → judged l o a.seqid ≡ judgements.Anew number → t ≡ all_done n s (gives_all s o (filter (is_whose (whose.Owner number)) l.stateids)) → opened_file files t (without_owner number l) o.client at a ≡ Ok file → has_room others (without_owner number l) o file ≡ true → status_of (carried n s l current (open_judged files others s l current at o a (judged l o a.seqid))).0 ≡ statuses.Ok
-    → IsShared (rights_of a.access) (rights_of a.deny) (shares_of file (asker (share_ask None o a file) t.names) (carried n s l current (open_judged files others s l current at o a (judged l o a.seqid))).4.claims)
+pub anew_has_asked : (n : ℕ) (files : List (List ℕ)) (others : ℕ) (s t : CoreState) (l : NfsLists) (current : Option ℕ) (at : ℕ) (o : Opener) (a : OpenArgsItem) (number file : ℕ) → IsGood s → judged l o a.seqid ≡ judgements.Anew number → t ≡ all_done n s (gives_all s o (filter (is_whose (whose.Owner number)) l.stateids)) → opened_file files t (without_owner number l) o.client at a ≡ Ok file → has_room others (without_owner number l) o file ≡ true → status_of (carried n s l (open_judged files others s l current at o a (judged l o a.seqid))).0 ≡ statuses.Ok
+    → IsShared (rights_of a.access) (rights_of a.deny) (shares_of file (asker (share_ask None o a file) t.names) (carried n s l (open_judged files others s l current at o a (judged l o a.seqid))).4.claims)
 anew_has_asked n files others s t l current at o a number file good anew after found room ok =
     let m = without_owner number l in
     let rows = filter (is_whose (whose.Owner number)) l.stateids in
     let well : IsGood t = subst IsGood (sym after) (deeds_good n s (gives_all s o rows) good (all_given n s (λ _. Unit {0}) o rows good tt).0) in
-    let told = ap (λ (j : Judged). status_of (carried n s l current (open_judged files others s l current at o a j)).0) anew ∙ ap (λ (u : CoreState). status_of (carried n u m current (open_as files others u m current at o a false)).0) (sym after) in
-    let claims = ap (λ (j : Judged). (carried n s l current (open_judged files others s l current at o a j)).4.claims) anew ∙ ap (λ (u : CoreState). (carried n u m current (open_as files others u m current at o a false)).4.claims) (sym after) in
+    let told = ap (λ (j : Judged). status_of (carried n s l (open_judged files others s l current at o a j)).0) anew ∙ ap (λ (u : CoreState). status_of (carried n u m (open_as files others u m current at o a false)).0) (sym after) in
+    let claims = ap (λ (j : Judged). (carried n s l (open_judged files others s l current at o a j)).4.claims) anew ∙ ap (λ (u : CoreState). (carried n u m (open_as files others u m current at o a false)).4.claims) (sym after) in
     let shares = ap (λ (cs : List Claim). shares_of file (asker (share_ask None o a file) t.names) cs) claims ∙ as_share n files others t m current at o a false file well found room (sym told ∙ ok) in
     subst (λ (shares : List (Rwd × Rwd)). IsShared (rights_of a.access) (rights_of a.deny) shares) (sym shares) (joined_has (rights_of a.access) (rights_of a.deny) (asker (share_ask None o a file) t.names) (old_shares file (asker (share_ask None o a file) t.names) t.claims))

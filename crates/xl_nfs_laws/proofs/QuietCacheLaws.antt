@@ -51,7 +51,7 @@ use Rattle.xl_wait.specs.Waiting.{waits_on}
 use Rattle.xl_wait.specs.declared.waiter.Rooms.{Rooms}
 use Rattle.xl_cache.specs.Wishing.{best_join_of, best_of, granted_beside, granted_kind, is_its_cache, raised_by, wished_claim}
 use Rattle.xl_cache.specs.declared.wish.Wish.{Wish}
-use Rattle.xl_nfs_opens.proofs.LeaveLaws.{drawn_number}
+use Rattle.xl_plan.proofs.BudgetLaws.{drawn_number}
 use Rattle.xl_core.specs.Good.{IsGood, IsHeld, IsHeldBy, agree, are_kept, caches_of}
 use Rattle.xl_core.specs.Leases.{moment_after}
 use Rattle.xl_core.specs.Places.{is_cache_on}

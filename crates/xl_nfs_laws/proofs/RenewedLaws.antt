@@ -35,7 +35,7 @@ use Rattle.xl_core.specs.Ids.{number_in}
 use Rattle.xl_nfs_opens.specs.Leases.{lease_end}
 use Rattle.xl_nfs_opens.specs.Opens.{claim_client, open_claimed, open_file}
 use Rattle.xl_nfs_opens.specs.Owners.{is_named, is_holder, is_claimant, is_locker, Names}
-use Rattle.xl_nfs_opens.specs.Plans.{deeds_of}
+use Rattle.xl_plan.specs.Plans.{deeds_of}
 use Rattle.xl_nfs_opens.specs.Renewing.{number_of, state_numbered, state_client, renewals_by, renewals, renewed_if, renewed_for}
 
 -- ---- behind a renewal

@@ -35,7 +35,6 @@ use Rattle.xl_programs.specs.Programs.{RequestItem}
 use Rattle.xl_core.specs.Askers.{party_named}
 use Rattle.xl_core.specs.Deeds.{AreFit, Deed, Draws, Ends, Expires, Lapses, Renews, all_done, caches_without, caches_without_party, done}
 use Rattle.xl_core.specs.Good.{IsGood, caches_of}
-use Rattle.xl_core.specs.Rows.{Ran, all_ran, go_on}
 use Rattle.xl_core.specs.State.{CoreState, drawn, started}
 use Rattle.xl_core.specs.declared.ask.Effect.TheVariants.{Expired}
 use Rattle.xl_nfs_laws.proofs.CalmLockLaws.{lock_tied, release_tied, test_tied, unlock_tied}
@@ -43,7 +42,7 @@ use Rattle.xl_nfs_laws.proofs.CalmOpenLaws.{close_tied, confirm_tied, downgrade_
 use Rattle.xl_nfs_laws.proofs.GivenDelegationLaws.{find_behind, find_last as last_found, itself_named, named_found, named_is, numbered_is, one_client}
 use Rattle.xl_nfs_laws.proofs.OpenDelegationLaws.{open_tied, return_tied}
 use Rattle.xl_nfs_laws.proofs.OpenOrderLaws.{none_in}
-use Rattle.xl_nfs_opens.proofs.LeaveLaws.{drawn_number}
+use Rattle.xl_plan.proofs.BudgetLaws.{drawn_number}
 use Rattle.xl_nfs_laws.proofs.QuietCacheLaws.{IsLeft, IsQuiet, all_quiet, deed_leaves, find_gone_in, find_kept, named_held}
 use Rattle.xl_nfs_laws.proofs.StillDelegatedLaws.{AreStill, details_still, later_set, still_kept, still_self, still_then, time_still}
 use Rattle.xl_nfs_laws.specs.Delegated.{AreDelegated, AreSet, AreTied, AreTiedBut, IsShut, clients_apart, delegation_held, delegation_kept, delegation_numbered, is_one_client, is_open_still, number_confirmed, written_by}
@@ -52,12 +51,13 @@ use Rattle.xl_core.specs.Ids.{number_in}
 use Rattle.xl_nfs_opens.specs.Leases.{lease_end}
 use Rattle.xl_nfs_laws.specs.Orderly.{IsOrderly}
 use Rattle.xl_nfs_opens.specs.Plans.{Plan, carried}
-use Rattle.xl_nfs_laws.proofs.RequestOrderLaws.{step_orderly}
+use Rattle.xl_nfs_laws.proofs.RequestOrderLaws.{item_orderly}
 use Rattle.xl_front_nfs.specs.Clients.{come, come_again, confirm_found, confirm_held, confirm_number, confirm_over, confirmed_by, confirmed_row, draws, ends, has_room, number_kept, numbers, renew, renew_found, renew_number, row_of, set_by, set_client_id, set_client_id_confirm, set_under, with_row, without_found, without_named, without_number}
 use Rattle.xl_front_nfs.specs.FrontNfs.{Called, Compound, Garbage, Null, Refused, call_in, nfs_step, replied}
 use Rattle.xl_front_nfs.specs.Handles.{found_file, get_fh, look_up, put_fh, put_file, put_root_fh}
 use Rattle.xl_front_nfs.specs.State.{FrontNfs, empty_nfs_front, forgotten, nfs_shown, nfs_tick}
-use Rattle.xl_front_nfs.specs.Steps.{Course, Cut, Garbled, Runs, Step, begun, planned, ran}
+use Rattle.xl_front_nfs.specs.Steps.{planned}
+use Rattle.xl_nfs_laws.proofs.RequestDeedLaws.{compound_keeps}
 use Rattle.xl_base.specs.Stable.{Stable}
 use Rattle.xl_matrix.specs.Blocks.{is_cache}
 use Rattle.xl_matrix.specs.declared.claim.CacheKind.{CacheKind}
@@ -75,8 +75,8 @@ use Rattle.xl_front_nfs.specs.Recalls.{IsRecalledOnce, client_by, recall_out, re
 
 -- ---- where nothing is done to the core
 
-abbrev Ties : ℕ → CoreState → NfsLists → Option ℕ → Plan → Type 0
-Ties n s l current plan = AreTied (carried n s l current plan).4 (carried n s l current plan).3
+abbrev Ties : ℕ → CoreState → NfsLists → Plan → Type 0
+Ties n s l plan = AreTied (carried n s l plan).4 (carried n s l plan).3
 
 stays_quiet : (s : CoreState) → IsGood s → IsQuiet s s
 stays_quiet s good = record { good = good; later = omega arith; held = λ id file. refl }
@@ -86,20 +86,20 @@ lists_tied s l m good tied still = tied_by s s s.counter l m tied (stays_quiet s
 
 -- ---- operations on handles
 
-put_tied : (n : ℕ) (s : CoreState) (count : ℕ) (l : NfsLists) (current o : Option ℕ) → AreTied s l → Ties n s l current (put_file count l o)
+put_tied : (n : ℕ) (s : CoreState) (count : ℕ) (l : NfsLists) (current o : Option ℕ) → AreTied s l → Ties n s l (put_file count l current o)
 put_tied n s count l current None tied = tied
 put_tied n s count l current (Some file) tied = elim (cases_Bool (nat_le file count)) [ inl e ↦ rw e tied | inr e ↦ rw e tied ]
 
-get_tied : (n : ℕ) (s : CoreState) (l : NfsLists) (current : Option ℕ) → AreTied s l → Ties n s l current (get_fh l current)
+get_tied : (n : ℕ) (s : CoreState) (l : NfsLists) (current : Option ℕ) → AreTied s l → Ties n s l (get_fh l current)
 unfolding get_fh
 get_tied n s l None tied = tied
 get_tied n s l (Some file) tied = tied
 
-found_tied : (n : ℕ) (s : CoreState) (l : NfsLists) (current o : Option ℕ) → AreTied s l → Ties n s l current (found_file l o)
+found_tied : (n : ℕ) (s : CoreState) (l : NfsLists) (current o : Option ℕ) → AreTied s l → Ties n s l (found_file l current o)
 found_tied n s l current None tied = tied
 found_tied n s l current (Some file) tied = tied
 
-look_tied : (n : ℕ) (s : CoreState) (files : List (List ℕ)) (l : NfsLists) (current : Option ℕ) (name : List ℕ) → AreTied s l → Ties n s l current (look_up files l current name)
+look_tied : (n : ℕ) (s : CoreState) (files : List (List ℕ)) (l : NfsLists) (current : Option ℕ) (name : List ℕ) → AreTied s l → Ties n s l (look_up files l current name)
 unfolding look_up
 look_tied n s files l None name tied = tied
 look_tied n s files l (Some file) name tied =
@@ -195,11 +195,11 @@ renews_tied n s l m id good tied still =
     let quiet = all_quiet n s (Renews id ∷ []) good (tt, tt) (tt, tt) in
     tied_by s (all_done n s (Renews id ∷ [])) s.counter l m tied quiet quiet.later still
 
-renew_tied : (n : ℕ) (s : CoreState) (l : NfsLists) (current x : Option ℕ) → IsGood s → AreTied s l → Ties n s l current (renew_number s l current x)
+renew_tied : (n : ℕ) (s : CoreState) (l : NfsLists) (current x : Option ℕ) → IsGood s → AreTied s l → Ties n s l (renew_number s l current x)
 renew_tied n s l current None good tied = tied
 renew_tied n s l current (Some number) good tied = by (find (is_client number true) l.clients)
   where
-    by : (o : Option ClientRow) → Ties n s l current (renew_found s l current number o)
+    by : (o : Option ClientRow) → Ties n s l (renew_found s l current number o)
     by None = tied
     by (Some r) = renews_tied n s l _ r.id good tied (time_still s.counter (lease_end s) number l tied.set)
 
@@ -210,7 +210,7 @@ above_one last number r row le above =
       | inr e ↦ rw e refl
     ]
 
-set_tied : (n : ℕ) (s : CoreState) (k l : NfsLists) (current : Option ℕ) (a : SetClientIdArgsItem) (x : Option ClientRow) → find (is_client_named a.id true) l.clients ≡ x → IsGood s → AreTied s l → Ties n s k current (set_by s l current a (number_kept a.verifier x))
+set_tied : (n : ℕ) (s : CoreState) (k l : NfsLists) (current : Option ℕ) (a : SetClientIdArgsItem) (x : Option ClientRow) → find (is_client_named a.id true) l.clients ≡ x → IsGood s → AreTied s l → Ties n s k (set_by s l current a (number_kept a.verifier x))
 set_tied n s k l current a x e good tied =
     elim (cases_Bool (has_room l)) [
       | inr full ↦ rw full tied
@@ -463,7 +463,7 @@ record IsRecord (l : NfsLists) (number : ℕ) (r : ClientRow) : Type 0 where
   here : IsIn r l.clients
   is : number ≡ r.number
 
-over_tied : (n : ℕ) (s : CoreState) (l : NfsLists) (current : Option ℕ) (number : ℕ) (r : ClientRow) (x : Option ClientRow) → IsRecord l number r → find (is_client_named r.id true) (without_number number l).clients ≡ x → IsGood s → AreTied s l → Ties n s l current (confirm_over s (without_number number l) current number r x)
+over_tied : (n : ℕ) (s : CoreState) (l : NfsLists) (current : Option ℕ) (number : ℕ) (r : ClientRow) (x : Option ClientRow) → IsRecord l number r → find (is_client_named r.id true) (without_number number l).clients ≡ x → IsGood s → AreTied s l → Ties n s l (confirm_over s (without_number number l) current number r x)
 over_tied n s l current number r x found e good tied = by x e
   where
     m : NfsLists
@@ -568,7 +568,7 @@ over_tied n s l current number r x found e good tied = by x e
                   ∙ sym (other_kept s.counter k row refl unnamed unnumbered id file apart)
             ]
 
-    by : (y : Option ClientRow) → find (is_client_named r.id true) m.clients ≡ y → Ties n s l current (confirm_over s m current number r y)
+    by : (y : Option ClientRow) → find (is_client_named r.id true) m.clients ≡ y → Ties n s l (confirm_over s m current number r y)
     by None f = new f
     by (Some o) f =
         elim (cases_Bool (o.number == number)) [
@@ -584,15 +584,15 @@ confirmed_is verifier (Some q) r e = by (bytes_eq q.details.confirm verifier) e
     by true f = f
     by false f = absurd (true≢false (ap is_some (sym f)))
 
-confirm_tied_by : (n : ℕ) (s : CoreState) (l : NfsLists) (current : Option ℕ) (verifier : List ℕ) (x : Option ℕ) → IsGood s → AreTied s l → Ties n s l current (confirm_number s l current verifier x)
+confirm_tied_by : (n : ℕ) (s : CoreState) (l : NfsLists) (current : Option ℕ) (verifier : List ℕ) (x : Option ℕ) → IsGood s → AreTied s l → Ties n s l (confirm_number s l current verifier x)
 confirm_tied_by n s l current verifier None good tied = tied
 confirm_tied_by n s l current verifier (Some number) good tied = by (confirmed_by verifier (find (is_client number false) l.clients)) refl
   where
-    held : (o : Option ClientRow) → Ties n s l current (confirm_held s l current number verifier o)
+    held : (o : Option ClientRow) → Ties n s l (confirm_held s l current number verifier o)
     held None = tied
     held (Some r) = renews_tied n s l _ r.id good tied (time_still s.counter (lease_end s) number l tied.set)
 
-    by : (y : Option ClientRow) → confirmed_by verifier (find (is_client number false) l.clients) ≡ y → Ties n s l current (confirm_found s l current number verifier y)
+    by : (y : Option ClientRow) → confirmed_by verifier (find (is_client number false) l.clients) ≡ y → Ties n s l (confirm_found s l current number verifier y)
     by None e = held (find (is_client number true) l.clients)
     by (Some r) e =
         let found = found_in (is_client number false) l.clients r (confirmed_is verifier (find (is_client number false) l.clients) r e) in
@@ -600,7 +600,7 @@ confirm_tied_by n s l current verifier (Some number) good tied = by (confirmed_b
 
 -- ---- an operation
 
-pub item_tied : (n : ℕ) (files : List (List ℕ)) (others : ℕ) (s : CoreState) (l : NfsLists) (current : Option ℕ) (item : OpItem) → IsGood s → IsOrderly l → AreTied s l → Ties n s l current (planned files others s l current item)
+pub item_tied : (n : ℕ) (files : List (List ℕ)) (others : ℕ) (s : CoreState) (l : NfsLists) (current : Option ℕ) (item : OpItem) → IsGood s → IsOrderly l → AreTied s l → Ties n s l (planned files others s l current item)
 unfolding planned put_root_fh put_fh renew set_client_id set_client_id_confirm
 item_tied n files others s l current PutRootFh good orderly tied = tied
 item_tied n files others s l current (PutFh fh) good orderly tied = put_tied n s (length files) l current (file_at fh) tied
@@ -624,32 +624,20 @@ item_tied n files others s l current (NotSupported number) good orderly tied = t
 -- ---- a request
 
 -- the state is good, owners and stateids are orderly, and each client has just the delegations that its caches are
-record IsTied (c : Course) (s : CoreState) : Type 0 where
+record IsTied (s : CoreState) (l : NfsLists) : Type 0 where
   good : IsGood s
-  orderly : IsOrderly c.lists
-  tied : AreTied s c.lists
+  orderly : IsOrderly l
+  tied : AreTied s l
 
-step_tied : (n : ℕ) (files : List (List ℕ)) (others : ℕ) (c : Course) (s : CoreState) (step : Step) → IsTied c s → IsTied (ran files others n c s step).1 (ran files others n c s step).2
-unfolding ran
-step_tied n files others c s (Runs op) is = record {
-  good = item_good n files others s c.lists c.current op is.good;
-  orderly = step_orderly n files others c s (Runs op) is.orderly;
-  tied = item_tied n files others s c.lists c.current op is.good is.orderly is.tied;
+item_is_tied : (n : ℕ) (files : List (List ℕ)) (others : ℕ) (s : CoreState) (l : NfsLists) (current : Option ℕ) (item : OpItem) → IsTied s l → (let r = carried n s l (planned files others s l current item) in IsTied r.4 r.3)
+item_is_tied n files others s l current item is = record {
+  good = item_good n files others s l current item is.good;
+  orderly = item_orderly n files others s l current item is.orderly;
+  tied = item_tied n files others s l current item is.good is.orderly is.tied;
 }
-step_tied n files others c s (Garbled number) is = record { good = is.good; orderly = is.orderly; tied = is.tied }
-step_tied n files others c s Cut is = record { good = is.good; orderly = is.orderly; tied = is.tied }
-
-on_tied : (r : Ran Course) (rest : Course → CoreState → Ran Course) → IsTied r.1 r.2 → ((c : Course) (s : CoreState) → IsTied c s → IsTied (rest c s).1 (rest c s).2) → IsTied (go_on r rest).1 (go_on r rest).2
-on_tied (true, c, s) rest is later = later c s is
-on_tied (false, c, s) rest is later = is
-
-row_tied : (n : ℕ) (files : List (List ℕ)) (others : ℕ) (c : Course) (s : CoreState) (steps : List Step) → IsTied c s → IsTied (all_ran (ran files others) n c s steps).1 (all_ran (ran files others) n c s steps).2
-row_tied n files others c s [] is = is
-row_tied n files others c s (step ∷ steps) is =
-    on_tied (ran files others n c s step) (λ d t. all_ran (ran files others) n d t steps) (step_tied n files others c s step is) (λ d t next. row_tied n files others d t steps next)
 
 call_tied : (n : ℕ) (files : List (List ℕ)) (others : ℕ) (f : FrontNfs) (s : CoreState) (xid : ℕ) (called : Called) → IsGood s → IsOrderly f.state → AreTied s f.state → AreTied (replied n files others f s xid called).3 (replied n files others f s xid called).2.state
-call_tied n files others f s xid (Compound tag steps) good orderly tied = (row_tied n files others (begun f) s steps (record { good = good; orderly = orderly; tied = tied })).tied
+call_tied n files others f s xid (Compound tag steps) good orderly tied = (compound_keeps IsTied n files others s f.state steps (λ t m current op is. item_is_tied n files others t m current op is) (record { good = good; orderly = orderly; tied = tied })).tied
 call_tied n files others f s xid Garbage good orderly tied = tied
 call_tied n files others f s xid Null good orderly tied = tied
 call_tied n files others f s xid (Refused tag status) good orderly tied = tied

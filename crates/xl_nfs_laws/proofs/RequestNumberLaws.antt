@@ -1,5 +1,5 @@
 -- Each stateid has a number that was given out, whatever is asked, expires or goes.
-use Rattle.std.proofs.Common.{ℕ, true, false, length, List, [], ◌∷◌, ◌++◌, Option, Some, None, sym, subst, inl, inr}
+use Rattle.std.proofs.Common.{ℕ, true, false, length, List, [], ◌∷◌, ◌++◌, Option, Some, None, inl, inr}
 use Rattle.std.proofs.lemmas.Bool.{cases_Bool}
 use Rattle.std.specs.Bool.{◌==◌}
 use Rattle.std.specs.List.{find}
@@ -13,11 +13,9 @@ use Rattle.xl_nfs_state.specs.State.{NfsLists, is_client, is_client_named, witho
 use Rattle.xl_nfs_state.specs.declared.client.ClientRow.{ClientRow}
 use Rattle.xl_names.specs.declared.name.Name.TheVariants.{NfsParty}
 use Rattle.xl_programs.specs.Programs.{RequestItem}
-use Rattle.xl_core.proofs.DeedLists.{deeds_good}
 use Rattle.xl_core.specs.Askers.{party_named}
 use Rattle.xl_core.specs.Deeds.{Renews}
 use Rattle.xl_core.specs.Good.{IsGood}
-use Rattle.xl_core.specs.Rows.{Ran, go_on, all_ran}
 use Rattle.xl_core.specs.State.{CoreState}
 use Rattle.xl_core.specs.declared.ask.Effect.{Effect}
 use Rattle.xl_core.specs.declared.ask.Effect.TheVariants.{Expired}
@@ -27,29 +25,31 @@ use Rattle.xl_nfs_opens.specs.Files.{file_named}
 use Rattle.xl_core.specs.Ids.{number_in}
 use Rattle.xl_nfs_opens.specs.Leases.{lease_end}
 use Rattle.xl_nfs_laws.specs.StateidNumbers.{AreGivenOut, StayGivenOut}
-use Rattle.xl_nfs_opens.specs.Plans.{Plan, carried, deeds_of}
+use Rattle.xl_plan.specs.Plans.{deeds_of}
+use Rattle.xl_nfs_opens.specs.Plans.{Plan, carried}
 use Rattle.xl_front_nfs.specs.Clients.{come, confirm_found, confirm_held, confirm_number, confirm_over, confirmed_by, draws, ends, has_room, number_kept, renew, renew_found, renew_number, set_by, set_client_id, set_client_id_confirm, without_found, without_named, without_number}
 use Rattle.xl_front_nfs.specs.FrontNfs.{Called, Garbage, Null, Refused, Compound, call_in, nfs_step, replied}
 use Rattle.xl_front_nfs.specs.Handles.{found_file, get_fh, look_up, put_fh, put_file, put_root_fh}
 use Rattle.xl_front_nfs.specs.State.{FrontNfs, empty_nfs_front, forgotten, lists_shown, nfs_shown, nfs_tick}
-use Rattle.xl_front_nfs.specs.Steps.{Course, Step, Runs, Garbled, Cut, begun, planned, ran}
-use Rattle.xl_nfs_laws.proofs.RequestDeedLaws.{plan_does}
+use Rattle.xl_front_nfs.specs.Steps.{planned}
+use Rattle.xl_plan.proofs.PlanLaws.{fit_at, plan_good}
+use Rattle.xl_nfs_laws.proofs.RequestDeedLaws.{compound_keeps}
 use Rattle.xl_nfs_laws.proofs.RequestOwn.{plan_own}
 
 -- ---- operations on handles
 
-put_few : (last count : ℕ) (l : NfsLists) (o : Option ℕ) → AreGivenOut last l → AreFew last (put_file count l o)
-put_few last count l None given = tt
-put_few last count l (Some file) given = elim (cases_Bool (nat_le file count)) [ inl e ↦ rw e (does_few last [] l given) | inr e ↦ rw e tt ]
+put_few : (last count : ℕ) (l : NfsLists) (current o : Option ℕ) → AreGivenOut last l → AreFew last (put_file count l current o)
+put_few last count l current None given = tt
+put_few last count l current (Some file) given = elim (cases_Bool (nat_le file count)) [ inl e ↦ rw e (does_few last [] l given) | inr e ↦ rw e tt ]
 
 get_few : (last : ℕ) (l : NfsLists) (current : Option ℕ) → AreGivenOut last l → AreFew last (get_fh l current)
 unfolding get_fh
 get_few last l None given = tt
 get_few last l (Some file) given = does_few last [] l given
 
-found_few : (last : ℕ) (l : NfsLists) (o : Option ℕ) → AreGivenOut last l → AreFew last (found_file l o)
-found_few last l None given = tt
-found_few last l (Some file) given = does_few last [] l given
+found_few : (last : ℕ) (l : NfsLists) (current o : Option ℕ) → AreGivenOut last l → AreFew last (found_file l current o)
+found_few last l current None given = tt
+found_few last l current (Some file) given = does_few last [] l given
 
 look_few : (last : ℕ) (files : List (List ℕ)) (l : NfsLists) (current : Option ℕ) (name : List ℕ) → AreGivenOut last l → AreFew last (look_up files l current name)
 unfolding look_up
@@ -59,7 +59,7 @@ look_few last files l (Some file) name given =
       | inr e ↦ rw e tt
       | inl e ↦ rw e (elim (cases_Bool (length name == 0)) [
         | inl d ↦ rw d tt
-        | inr d ↦ rw d (found_few last l (file_named files name) given)
+        | inr d ↦ rw d (found_few last l (Some file) (file_named files name) given)
       ])
     ]
 
@@ -114,7 +114,7 @@ number_few last s l current verifier (Some number) given = found_number_few last
 item_few : (files : List (List ℕ)) (others : ℕ) (s : CoreState) (l : NfsLists) (current : Option ℕ) (item : OpItem) → AreGivenOut s.counter l → AreFew s.counter (planned files others s l current item)
 unfolding planned put_root_fh put_fh renew set_client_id set_client_id_confirm
 item_few files others s l current PutRootFh given = does_few s.counter [] l given
-item_few files others s l current (PutFh fh) given = put_few s.counter (length files) l (file_at fh) given
+item_few files others s l current (PutFh fh) given = put_few s.counter (length files) l current (file_at fh) given
 item_few files others s l current GetFh given = get_few s.counter l current given
 item_few files others s l current (Lookup name) given = look_few s.counter files l current name given
 item_few files others s l current (SetClientId a) given = (let m = without_named a.id l in set_few s.counter s m current a (number_kept a.verifier (find (is_client_named a.id true) m.clients)) (found_given s.counter l (find (is_client_named a.id false) l.clients) given))
@@ -132,37 +132,22 @@ item_few files others s l current (ReleaseLockOwner a) given = release_few s l c
 item_few files others s l current (Illegal number) given = tt
 item_few files others s l current (NotSupported number) given = tt
 
-pub item_given : (n : ℕ) (files : List (List ℕ)) (others : ℕ) (s : CoreState) (l : NfsLists) (current : Option ℕ) (item : OpItem) → IsGood s → AreGivenOut s.counter l → StayGivenOut s (carried n s l current (planned files others s l current item))
-item_given n files others s l current item good given = carried_few n s l current (planned files others s l current item) _ good (plan_own n files others s l current item good) given (item_few files others s l current item given)
+pub item_given : (n : ℕ) (files : List (List ℕ)) (others : ℕ) (s : CoreState) (l : NfsLists) (current : Option ℕ) (item : OpItem) → IsGood s → AreGivenOut s.counter l → StayGivenOut s (carried n s l (planned files others s l current item))
+item_given n files others s l current item good given = carried_few n s l (planned files others s l current item) _ good (plan_own n files others s l current item good) given (item_few files others s l current item given)
 
-pub item_good : (n : ℕ) (files : List (List ℕ)) (others : ℕ) (s : CoreState) (l : NfsLists) (current : Option ℕ) (item : OpItem) → IsGood s → IsGood (carried n s l current (planned files others s l current item)).4
+pub item_good : (n : ℕ) (files : List (List ℕ)) (others : ℕ) (s : CoreState) (l : NfsLists) (current : Option ℕ) (item : OpItem) → IsGood s → IsGood (carried n s l (planned files others s l current item)).4
 item_good n files others s l current item good =
     let plan : Plan = planned files others s l current item in
-    subst IsGood (sym (plan_does n s l current plan)) (deeds_good n s (deeds_of n s plan) good (plan_own n files others s l current item good).0)
+    plan_good n s l plan good (fit_at n s (deeds_of n s plan) (plan_own n files others s l current item good).0)
 
 -- ---- a request
 
 -- the state is good, and stateids have numbers that were given out
-abbrev IsNumbered : Course × CoreState → Type 0
-IsNumbered r = IsGood r.1 × AreGivenOut r.1.counter r.0.lists
-
-step_given : (n : ℕ) (files : List (List ℕ)) (others : ℕ) (c : Course) (s : CoreState) (step : Step) → IsNumbered (c, s) → IsNumbered ((ran files others n c s step).1, (ran files others n c s step).2)
-unfolding ran
-step_given n files others c s (Runs op) is = (item_good n files others s c.lists c.current op is.0, (item_given n files others s c.lists c.current op is.0 is.1).1)
-step_given n files others c s (Garbled number) is = is
-step_given n files others c s Cut is = is
-
-on_given : (r : Ran Course) (rest : Course → CoreState → Ran Course) → IsNumbered (r.1, r.2) → ((c : Course) (s : CoreState) → IsNumbered (c, s) → IsNumbered ((rest c s).1, (rest c s).2)) → IsNumbered ((go_on r rest).1, (go_on r rest).2)
-on_given (true, c, s) rest is later = later c s is
-on_given (false, c, s) rest is later = is
-
-row_given : (n : ℕ) (files : List (List ℕ)) (others : ℕ) (c : Course) (s : CoreState) (steps : List Step) → IsNumbered (c, s) → IsNumbered ((all_ran (ran files others) n c s steps).1, (all_ran (ran files others) n c s steps).2)
-row_given n files others c s [] is = is
-row_given n files others c s (step ∷ steps) is =
-    on_given (ran files others n c s step) (λ d t. all_ran (ran files others) n d t steps) (step_given n files others c s step is) (λ d t next. row_given n files others d t steps next)
+abbrev IsNumbered : CoreState → NfsLists → Type 0
+IsNumbered s l = IsGood s × AreGivenOut s.counter l
 
 call_given : (n : ℕ) (files : List (List ℕ)) (others : ℕ) (f : FrontNfs) (s : CoreState) (xid : ℕ) (called : Called) → IsGood s → AreGivenOut s.counter f.state → AreGivenOut (replied n files others f s xid called).3.counter (replied n files others f s xid called).2.state
-call_given n files others f s xid (Compound tag steps) good given = (row_given n files others (begun f) s steps (good, given)).1
+call_given n files others f s xid (Compound tag steps) good given = (compound_keeps IsNumbered n files others s f.state steps (λ t m current op is. (item_good n files others t m current op is.0, (item_given n files others t m current op is.0 is.1).1)) (good, given)).1
 call_given n files others f s xid Garbage good given = given
 call_given n files others f s xid Null good given = given
 call_given n files others f s xid (Refused tag status) good given = given

@@ -19,11 +19,11 @@ use Rattle.xl_nfs_state.specs.declared.owner.OwnerKind.TheVariants as kinds
 use Rattle.xl_nfs_state.specs.declared.owner.OwnerRow.{OwnerRow}
 use Rattle.xl_programs.specs.Programs.{RequestItem}
 use Rattle.xl_core.specs.Deeds.{all_done}
-use Rattle.xl_core.specs.Rows.{Ran, go_on, all_ran}
 use Rattle.xl_core.specs.State.{CoreState}
 use Rattle.xl_core.specs.declared.ask.Effect.{Effect}
 use Rattle.xl_core.specs.declared.ask.Effect.TheVariants.{Expired}
-use Rattle.xl_nfs_laws.proofs.OpenOrderLaws.{Keeps, carried_orderly, close_keeps, confirm_keeps, downgrade_keeps, open_keeps, return_keeps, same_orderly}
+use Rattle.xl_plan.proofs.PlanLaws.{kept_so}
+use Rattle.xl_nfs_laws.proofs.OpenOrderLaws.{Keeps, close_keeps, confirm_keeps, downgrade_keeps, open_keeps, return_keeps, same_orderly}
 use Rattle.xl_nfs_laws.proofs.ListOrderLaws.{client_goes}
 use Rattle.xl_nfs_laws.proofs.LockOrderLaws.{lock_keeps, release_keeps, test_keeps, unlock_keeps}
 use Rattle.xl_nfs_locks.specs.Ranges.{last_byte}
@@ -42,22 +42,23 @@ use Rattle.xl_front_nfs.specs.FrontNfs.{Called, Garbage, Null, Refused, Compound
 use Rattle.xl_front_nfs.specs.Handles.{found_file, get_fh, look_up, put_fh, put_file, put_root_fh}
 use Rattle.xl_nfs_laws.specs.OwnerRequests.{has_seqid}
 use Rattle.xl_front_nfs.specs.State.{FrontNfs, forgotten, lists_shown, nfs_shown, nfs_tick}
-use Rattle.xl_front_nfs.specs.Steps.{Course, Step, Runs, Garbled, Cut, begun, planned, ran}
+use Rattle.xl_front_nfs.specs.Steps.{planned}
+use Rattle.xl_nfs_laws.proofs.RequestDeedLaws.{compound_keeps}
 
 -- ---- operations on handles
 
-put_keeps : (count : ℕ) (l : NfsLists) (o : Option ℕ) → IsOrderly l → Keeps (put_file count l o)
-put_keeps count l None orderly = tt
-put_keeps count l (Some file) orderly = elim (cases_Bool (nat_le file count)) [ inl e ↦ rw e orderly | inr e ↦ rw e tt ]
+put_keeps : (count : ℕ) (l : NfsLists) (current o : Option ℕ) → IsOrderly l → Keeps (put_file count l current o)
+put_keeps count l current None orderly = tt
+put_keeps count l current (Some file) orderly = elim (cases_Bool (nat_le file count)) [ inl e ↦ rw e orderly | inr e ↦ rw e tt ]
 
 get_keeps : (l : NfsLists) (current : Option ℕ) → IsOrderly l → Keeps (get_fh l current)
 unfolding get_fh
 get_keeps l None orderly = tt
 get_keeps l (Some file) orderly = orderly
 
-found_keeps : (l : NfsLists) (o : Option ℕ) → IsOrderly l → Keeps (found_file l o)
-found_keeps l None orderly = tt
-found_keeps l (Some file) orderly = orderly
+found_keeps : (l : NfsLists) (current o : Option ℕ) → IsOrderly l → Keeps (found_file l current o)
+found_keeps l current None orderly = tt
+found_keeps l current (Some file) orderly = orderly
 
 look_keeps : (files : List (List ℕ)) (l : NfsLists) (current : Option ℕ) (name : List ℕ) → IsOrderly l → Keeps (look_up files l current name)
 unfolding look_up
@@ -67,7 +68,7 @@ look_keeps files l (Some file) name orderly =
       | inr e ↦ rw e tt
       | inl e ↦ rw e (elim (cases_Bool (length name == 0)) [
         | inl d ↦ rw d tt
-        | inr d ↦ rw d (found_keeps l (file_named files name) orderly)
+        | inr d ↦ rw d (found_keeps l (Some file) (file_named files name) orderly)
       ])
     ]
 
@@ -119,10 +120,10 @@ number_keeps s l current verifier (Some number) orderly = found_number_keeps s l
 
 -- ---- an operation
 
-pub item_keeps : (files : List (List ℕ)) (others : ℕ) (s : CoreState) (l : NfsLists) (current : Option ℕ) (item : OpItem) → IsOrderly l → Keeps (planned files others s l current item)
+item_keeps : (files : List (List ℕ)) (others : ℕ) (s : CoreState) (l : NfsLists) (current : Option ℕ) (item : OpItem) → IsOrderly l → Keeps (planned files others s l current item)
 unfolding planned put_root_fh put_fh renew set_client_id set_client_id_confirm
 item_keeps files others s l current PutRootFh orderly = orderly
-item_keeps files others s l current (PutFh fh) orderly = put_keeps (length files) l (file_at fh) orderly
+item_keeps files others s l current (PutFh fh) orderly = put_keeps (length files) l current (file_at fh) orderly
 item_keeps files others s l current GetFh orderly = get_keeps l current orderly
 item_keeps files others s l current (Lookup name) orderly = look_keeps files l current name orderly
 item_keeps files others s l current (SetClientId a) orderly = (let m = without_named a.id l in set_keeps s m current a (number_kept a.verifier (find (is_client_named a.id true) m.clients)) (without_orderly l (find (is_client_named a.id false) l.clients) orderly))
@@ -142,23 +143,11 @@ item_keeps files others s l current (NotSupported number) orderly = tt
 
 -- ---- a request
 
-pub step_orderly : (n : ℕ) (files : List (List ℕ)) (others : ℕ) (c : Course) (s : CoreState) (step : Step) → IsOrderly c.lists → IsOrderly (ran files others n c s step).1.lists
-unfolding ran
-step_orderly n files others c s (Runs op) orderly = carried_orderly n s c.lists c.current (planned files others s c.lists c.current op) orderly (item_keeps files others s c.lists c.current op orderly)
-step_orderly n files others c s (Garbled number) orderly = orderly
-step_orderly n files others c s Cut orderly = orderly
-
-on_orderly : (r : Ran Course) (rest : Course → CoreState → Ran Course) → IsOrderly r.1.lists → ((c : Course) (s : CoreState) → IsOrderly c.lists → IsOrderly (rest c s).1.lists) → IsOrderly (go_on r rest).1.lists
-on_orderly (true, c, s) rest orderly then = then c s orderly
-on_orderly (false, c, s) rest orderly then = orderly
-
-row_orderly : (n : ℕ) (files : List (List ℕ)) (others : ℕ) (c : Course) (s : CoreState) (steps : List Step) → IsOrderly c.lists → IsOrderly (all_ran (ran files others) n c s steps).1.lists
-row_orderly n files others c s [] orderly = orderly
-row_orderly n files others c s (step ∷ steps) orderly =
-    on_orderly (ran files others n c s step) (λ d t. all_ran (ran files others) n d t steps) (step_orderly n files others c s step orderly) (λ d t is. row_orderly n files others d t steps is)
+pub item_orderly : (n : ℕ) (files : List (List ℕ)) (others : ℕ) (s : CoreState) (l : NfsLists) (current : Option ℕ) (item : OpItem) → IsOrderly l → IsOrderly (carried n s l (planned files others s l current item)).3
+item_orderly n files others s l current item orderly = kept_so IsOrderly n s l (planned files others s l current item) orderly (item_keeps files others s l current item orderly)
 
 call_orderly : (n : ℕ) (files : List (List ℕ)) (others : ℕ) (f : FrontNfs) (s : CoreState) (xid : ℕ) (called : Called) → IsOrderly f.state → IsOrderly (replied n files others f s xid called).2.state
-call_orderly n files others f s xid (Compound tag steps) orderly = row_orderly n files others (begun f) s steps orderly
+call_orderly n files others f s xid (Compound tag steps) orderly = compound_keeps (λ t m. IsOrderly m) n files others s f.state steps (λ t m current op is. item_orderly n files others t m current op is) orderly
 call_orderly n files others f s xid Garbage orderly = orderly
 call_orderly n files others f s xid Null orderly = orderly
 call_orderly n files others f s xid (Refused tag status) orderly = orderly
@@ -194,7 +183,7 @@ Stood l m = (o : OwnerRow) → IsIn o m.owners → IsIn o l.owners
 come_stood : (time : Moment) (l : NfsLists) (number : ℕ) (r : ClientRow) → Stood l (come time l number r)
 come_stood time l number r o here = (in_filter_from (λ x. not (number == x.name.client)) o l.owners here).0
 
-over_stood : (n : ℕ) (s : CoreState) (l m : NfsLists) (current : Option ℕ) (number : ℕ) (r : ClientRow) (x : Option ClientRow) → Stood l m → Stood l (carried n s l current (confirm_over s m current number r x)).3
+over_stood : (n : ℕ) (s : CoreState) (l m : NfsLists) (current : Option ℕ) (number : ℕ) (r : ClientRow) (x : Option ClientRow) → Stood l m → Stood l (carried n s l (confirm_over s m current number r x)).3
 over_stood n s l m current number r None stood = λ o here. stood o (come_stood (lease_end s) m number r o here)
 over_stood n s l m current number r (Some x) stood =
     elim (cases_Bool (x.number == number)) [
@@ -202,28 +191,28 @@ over_stood n s l m current number r (Some x) stood =
       | inr e ↦ rw e (λ o here. stood o (in_filter_from (λ y. not (x.number == y.name.client)) o m.owners (come_stood (lease_end s) (without_client x.number m) number r o here)).0)
     ]
 
-held_stood : (n : ℕ) (s : CoreState) (l : NfsLists) (current : Option ℕ) (number : ℕ) (verifier : List ℕ) (x : Option ClientRow) → Stood l (carried n s l current (confirm_held s l current number verifier x)).3
+held_stood : (n : ℕ) (s : CoreState) (l : NfsLists) (current : Option ℕ) (number : ℕ) (verifier : List ℕ) (x : Option ClientRow) → Stood l (carried n s l (confirm_held s l current number verifier x)).3
 held_stood n s l current number verifier None = λ o here. here
 held_stood n s l current number verifier (Some r) = λ o here. here
 
-number_stood : (n : ℕ) (s : CoreState) (l : NfsLists) (current : Option ℕ) (verifier : List ℕ) (x : Option ℕ) → Stood l (carried n s l current (confirm_number s l current verifier x)).3
+number_stood : (n : ℕ) (s : CoreState) (l : NfsLists) (current : Option ℕ) (verifier : List ℕ) (x : Option ℕ) → Stood l (carried n s l (confirm_number s l current verifier x)).3
 number_stood n s l current verifier None = λ o here. here
 number_stood n s l current verifier (Some number) = by (confirmed_by verifier (find (is_client number false) l.clients))
   where
-    by : (x : Option ClientRow) → Stood l (carried n s l current (confirm_found s l current number verifier x)).3
+    by : (x : Option ClientRow) → Stood l (carried n s l (confirm_found s l current number verifier x)).3
     by None = held_stood n s l current number verifier (find (is_client number true) l.clients)
     by (Some r) = (let m = without_number number l in over_stood n s l m current number r (find (is_client_named r.id true) m.clients) (λ o here. here))
 
-put_stood : (n : ℕ) (s : CoreState) (count : ℕ) (l : NfsLists) (current : Option ℕ) (x : Option ℕ) → Stood l (carried n s l current (put_file count l x)).3
+put_stood : (n : ℕ) (s : CoreState) (count : ℕ) (l : NfsLists) (current : Option ℕ) (x : Option ℕ) → Stood l (carried n s l (put_file count l current x)).3
 put_stood n s count l current None = λ o here. here
 put_stood n s count l current (Some file) = elim (cases_Bool (nat_le file count)) [ inl e ↦ rw e (λ o here. here) | inr e ↦ rw e (λ o here. here) ]
 
-get_stood : (n : ℕ) (s : CoreState) (l : NfsLists) (current : Option ℕ) → Stood l (carried n s l current (get_fh l current)).3
+get_stood : (n : ℕ) (s : CoreState) (l : NfsLists) (current : Option ℕ) → Stood l (carried n s l (get_fh l current)).3
 unfolding get_fh
 get_stood n s l None = λ o here. here
 get_stood n s l (Some file) = λ o here. here
 
-look_stood : (n : ℕ) (s : CoreState) (files : List (List ℕ)) (l : NfsLists) (current : Option ℕ) (name : List ℕ) → Stood l (carried n s l current (look_up files l current name)).3
+look_stood : (n : ℕ) (s : CoreState) (files : List (List ℕ)) (l : NfsLists) (current : Option ℕ) (name : List ℕ) → Stood l (carried n s l (look_up files l current name)).3
 unfolding look_up
 look_stood n s files l None name = λ o here. here
 look_stood n s files l (Some file) name =
@@ -235,11 +224,11 @@ look_stood n s files l (Some file) name =
       ])
     ]
   where
-    by : (x : Option ℕ) → Stood l (carried n s l (Some file) (found_file l x)).3
+    by : (x : Option ℕ) → Stood l (carried n s l (found_file l (Some file) x)).3
     by None = λ o here. here
     by (Some found) = λ o here. here
 
-set_stood : (n : ℕ) (s : CoreState) (l m : NfsLists) (current : Option ℕ) (a : SetClientIdArgsItem) (kept : Option ℕ) → Stood l m → Stood l (carried n s l current (set_by s m current a kept)).3
+set_stood : (n : ℕ) (s : CoreState) (l m : NfsLists) (current : Option ℕ) (a : SetClientIdArgsItem) (kept : Option ℕ) → Stood l m → Stood l (carried n s l (set_by s m current a kept)).3
 set_stood n s l m current a kept stood =
     elim (cases_Bool (has_room m)) [
       | inl e ↦ rw e stood
@@ -250,11 +239,11 @@ without_stood : (l : NfsLists) (x : Option ClientRow) → Stood l (without_found
 without_stood l None = λ o here. here
 without_stood l (Some r) = λ o here. here
 
-renew_stood : (n : ℕ) (s : CoreState) (l : NfsLists) (current : Option ℕ) (x : Option ℕ) → Stood l (carried n s l current (renew_number s l current x)).3
+renew_stood : (n : ℕ) (s : CoreState) (l : NfsLists) (current : Option ℕ) (x : Option ℕ) → Stood l (carried n s l (renew_number s l current x)).3
 renew_stood n s l current None = λ o here. here
 renew_stood n s l current (Some number) = by (find (is_client number true) l.clients)
   where
-    by : (x : Option ClientRow) → Stood l (carried n s l current (renew_found s l current number x)).3
+    by : (x : Option ClientRow) → Stood l (carried n s l (renew_found s l current number x)).3
     by None = λ o here. here
     by (Some r) = λ o here. here
 
@@ -266,7 +255,7 @@ renewed_stood s l (Some number) = by (find (is_client number true) l.clients)
     by None = λ o here. here
     by (Some r) = λ o here. here
 
-test_stood : (n : ℕ) (s : CoreState) (l : NfsLists) (current : Option ℕ) (a : LockTestArgsItem) → Stood l (carried n s l current (lock_test s l current a)).3
+test_stood : (n : ℕ) (s : CoreState) (l : NfsLists) (current : Option ℕ) (a : LockTestArgsItem) → Stood l (carried n s l (lock_test s l current a)).3
 unfolding lock_test
 test_stood n s l current a = λ o here. renewed_stood s l (number_in s a.owner.clientid) o (looked o current here)
   where
@@ -276,19 +265,19 @@ test_stood n s l current a = λ o here. renewed_stood s l (number_in s a.owner.c
     t : CoreState
     t = all_done n s (renewals l (number_in s a.owner.clientid))
 
-    to : (at : ℕ) (c : ClientRow) (last : Option ℕ) → Stood m (carried n t m (Some at) (test_to m (Some at) a at (locker_of c a.owner.owner) last)).3
+    to : (at : ℕ) (c : ClientRow) (last : Option ℕ) → Stood m (carried n t m (test_to m (Some at) a at (locker_of c a.owner.owner) last)).3
     to at c None = λ o here. here
     to at c (Some last) = λ o here. here
 
-    of : (at : ℕ) (c : Option ClientRow) → Stood m (carried n t m (Some at) (test_of m (Some at) a at c)).3
+    of : (at : ℕ) (c : Option ClientRow) → Stood m (carried n t m (test_of m (Some at) a at c)).3
     of at None = λ o here. here
     of at (Some c) = to at c (last_byte a.offset a.len)
 
-    looked : (o : OwnerRow) (current : Option ℕ) → IsIn o (carried n t m current (test_at t m a current)).3.owners → IsIn o m.owners
+    looked : (o : OwnerRow) (current : Option ℕ) → IsIn o (carried n t m (test_at t m a current)).3.owners → IsIn o m.owners
     looked o None here = here
     looked o (Some number) here = elim (cases_Bool (number == 0)) [ inl e ↦ (rw e at here) | inr e ↦ of number (client_in t m a.owner.clientid) o (rw e at here) ]
 
-release_stood : (n : ℕ) (s : CoreState) (l : NfsLists) (current : Option ℕ) (a : OwnerItem) → Stood l (carried n s l current (release s l current a)).3
+release_stood : (n : ℕ) (s : CoreState) (l : NfsLists) (current : Option ℕ) (a : OwnerItem) → Stood l (carried n s l (release s l current a)).3
 unfolding release released
 release_stood n s l current a = λ o here. renewed_stood s l (number_in s a.clientid) o (by (client_in t m a.clientid) o here)
   where
@@ -302,7 +291,7 @@ release_stood n s l current a = λ o here. renewed_stood s l (number_in s a.clie
     gone None = λ o here. here
     gone (Some r) = λ o here. (in_filter_from (λ y. not (is_owner r.number y)) o m.owners here).0
 
-    by : (c : Option ClientRow) → Stood m (carried n t m current (release_of t m current a.owner c)).3
+    by : (c : Option ClientRow) → Stood m (carried n t m (release_of t m current a.owner c)).3
     by None = λ o here. here
     by (Some c) =
         elim (cases_Bool (holds_any t c.id a.owner)) [
@@ -310,11 +299,11 @@ release_stood n s l current a = λ o here. renewed_stood s l (number_in s a.clie
           | inr e ↦ rw e (gone (find (is_owner_named c.number kinds.Lock a.owner) m.owners))
         ]
 
-return_stood : (n : ℕ) (s : CoreState) (l : NfsLists) (current : Option ℕ) (x : Returning) → Stood l (carried n s l current (return_done s l current x)).3
+return_stood : (n : ℕ) (s : CoreState) (l : NfsLists) (current : Option ℕ) (x : Returning) → Stood l (carried n s l (return_done s l current x)).3
 return_stood n s l current (Err status) = λ o here. here
 return_stood n s l current (Ok r) = λ o here. here
 
-pub others_stood : (n : ℕ) (files : List (List ℕ)) (others : ℕ) (s : CoreState) (l : NfsLists) (current : Option ℕ) (item : OpItem) (o : OwnerRow) → has_seqid item ≡ false → IsIn o (carried n s l current (planned files others s l current item)).3.owners → IsIn o l.owners
+pub others_stood : (n : ℕ) (files : List (List ℕ)) (others : ℕ) (s : CoreState) (l : NfsLists) (current : Option ℕ) (item : OpItem) (o : OwnerRow) → has_seqid item ≡ false → IsIn o (carried n s l (planned files others s l current item)).3.owners → IsIn o l.owners
 unfolding planned put_root_fh put_fh renew set_client_id set_client_id_confirm deleg_return
 others_stood n files others s l current PutRootFh o none here = here
 others_stood n files others s l current (PutFh fh) o none here = put_stood n s (length files) l current (file_at fh) o here

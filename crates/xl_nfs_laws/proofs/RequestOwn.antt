@@ -10,35 +10,36 @@ use Rattle.xl_base.specs.declared.journal.Exports.{Exports}
 use Rattle.xl_base.specs.declared.name.Party.{Party}
 use Rattle.xl_names.specs.declared.name.Name.TheVariants.{NfsParty}
 use Rattle.xl_nfs.specs.Clients.{SetClientIdArgsItem}
-use Rattle.xl_nfs.specs.Ops.{OpItem, Close, DelegReturn, GetFh, Lock, LockT, LockU, Lookup, Open, OpenConfirm, OpenDowngrade, PutFh, PutRootFh, Renew, SetClientId, SetClientIdConfirm, ReleaseLockOwner, NotSupported, Illegal}
+use Rattle.xl_nfs.specs.Ops.{OpItem, Close, DelegReturn, GetFh, Lock, LockT, LockU, Lookup, Open, OpenConfirm, OpenDowngrade, PutFh, PutRootFh, Renew, SetClientId, SetClientIdConfirm, ReleaseLockOwner, NotSupported, Illegal, op_number}
 use Rattle.xl_nfs.specs.declared.clients.ClientConfirm.{ClientConfirm}
+use Rattle.xl_base.specs.Lists.{IsIn}
 use Rattle.xl_nfs_state.specs.State.{NfsLists, is_client, is_client_named}
 use Rattle.xl_nfs_state.specs.declared.client.ClientRow.{ClientRow}
 use Rattle.xl_programs.specs.Programs.{RequestItem}
-use Rattle.xl_core.proofs.DeedLists.{deeds_good}
-use Rattle.xl_core.proofs.DeedRows.{row_takes}
 use Rattle.xl_core.specs.Clients.{IsOf}
 use Rattle.xl_core.specs.Good.{IsGood}
-use Rattle.xl_nfs_opens.proofs.OpenOwn.{Owned, by_append, open_own, confirm_own, downgrade_own, return_own}
+use Rattle.xl_nfs_opens.proofs.OpenOwn.{Owned, open_own, confirm_own, downgrade_own, return_own}
 use Rattle.xl_nfs_laws.proofs.CloseOwn.{close_own}
 use Rattle.xl_nfs_laws.proofs.LockOwn.{lock_own, test_own, unlock_own, release_own}
 use Rattle.std.proofs.Common.{sym}
 use Rattle.xl_core.specs.Askers.{party_named}
-use Rattle.xl_core.specs.Deeds.{Deed, Asks, GivesBack, Weakens, Draws, Ends, Renews, done, AreFit}
-use Rattle.xl_core.specs.Rows.{Ran, more_deeds, all_deeds}
+use Rattle.xl_core.specs.Deeds.{Deed, Asks, GivesBack, Weakens, Draws, Ends, Renews, done, IsFitDeed, AreFit}
 use Rattle.xl_core.specs.State.{CoreState}
 use Rattle.xl_front_nfs.specs.Clients.{renew_found, renew_number, renew, draws, ends, has_room, set_by, set_client_id, number_kept, without_named, without_number, confirm_over, confirm_held, confirmed_by, confirm_found, confirm_number, set_client_id_confirm}
 use Rattle.xl_core.specs.Ids.{number_in}
 use Rattle.xl_front_nfs.specs.FrontNfs.{Called, Garbage, Null, Refused, Compound, call_in, call_deeds, nfs_deeds}
 use Rattle.xl_front_nfs.specs.Handles.{put_root_fh, put_file, put_fh, get_fh, found_file, look_up}
 use Rattle.xl_nfs_opens.specs.Files.{file_named}
-use Rattle.xl_nfs_opens.specs.Owners.{is_named, Names, AreBy}
-use Rattle.xl_nfs_opens.specs.Plans.{Plan, deeds_of}
+use Rattle.xl_nfs_opens.specs.Owners.{is_named, Names, IsBy, AreBy}
+use Rattle.xl_plan.specs.Plans.{deeds_of, carried}
+use Rattle.xl_plan.proofs.BindLaws.{within_does}
+use Rattle.xl_plan.proofs.PlanLaws.{at_fit, fit_at, plan_good}
+use Rattle.xl_plan.proofs.RowLaws.{row_all}
+use Rattle.xl_nfs_opens.specs.Plans.{Plan}
 use Rattle.xl_front_nfs.specs.State.{FrontNfs}
-use Rattle.xl_nfs_laws.specs.RequestOwners.{IsTheirs, IfMore, AreAllTheirs, AreTheirsBy, AreTheirs}
-use Rattle.xl_nfs_laws.proofs.RequestDeedLaws.{step_does}
+use Rattle.xl_nfs_laws.specs.RequestOwners.{IsToRenew, IsTheirs, IfMore, AreAllTheirs, AreTheirsBy, AreTheirs}
 use Rattle.xl_nfs_laws.proofs.RenewedLaws.{plan_renews}
-use Rattle.xl_front_nfs.specs.Steps.{planned, Step, Runs, Garbled, Cut, Course, begun, ran, step_deeds}
+use Rattle.xl_front_nfs.specs.Steps.{planned, Step, Runs, Garbled, Cut, Course, CoursePlan, begun, noted, step_plan, goes_on, compound}
 
 -- it draws a number, or it ends as a party, or renews, a client for which this holds
 abbrev IsPlain : CoreState → (List ℕ → Type 0) → Deed → Type 0
@@ -133,9 +134,9 @@ confirm_by n s l current a = by (number_in s a.clientid) refl
 
 -- ---- without deeds
 
-put_by : (n count : ℕ) (s : CoreState) (l : NfsLists) (o : Option ℕ) (Client : List ℕ → Type 0) → By n s Client (put_file count l o)
-put_by n count s l None Client = tt
-put_by n count s l (Some file) Client =
+put_by : (n count : ℕ) (s : CoreState) (l : NfsLists) (current o : Option ℕ) (Client : List ℕ → Type 0) → By n s Client (put_file count l current o)
+put_by n count s l current None Client = tt
+put_by n count s l current (Some file) Client =
     elim (cases_Bool (nat_le file count)) [
       | inl e ↦ rw e tt
       | inr e ↦ rw e tt
@@ -146,9 +147,9 @@ unfolding get_fh
 get_by n s l None Client = tt
 get_by n s l (Some file) Client = tt
 
-found_by : (n : ℕ) (s : CoreState) (l : NfsLists) (o : Option ℕ) (Client : List ℕ → Type 0) → By n s Client (found_file l o)
-found_by n s l None Client = tt
-found_by n s l (Some file) Client = tt
+found_by : (n : ℕ) (s : CoreState) (l : NfsLists) (current o : Option ℕ) (Client : List ℕ → Type 0) → By n s Client (found_file l current o)
+found_by n s l current None Client = tt
+found_by n s l current (Some file) Client = tt
 
 look_by : (n : ℕ) (files : List (List ℕ)) (s : CoreState) (l : NfsLists) (current : Option ℕ) (name : List ℕ) (Client : List ℕ → Type 0) → By n s Client (look_up files l current name)
 unfolding look_up
@@ -158,7 +159,7 @@ look_by n files s l (Some file) name Client =
       | inr e ↦ rw e tt
       | inl e ↦ rw e (elim (cases_Bool (length name == 0)) [
         | inl d ↦ rw d tt
-        | inr d ↦ rw d (found_by n s l (file_named files name) Client)
+        | inr d ↦ rw d (found_by n s l (Some file) (file_named files name) Client)
       ])
     ]
 
@@ -171,7 +172,7 @@ plain n s l item plan by = plain_own n s (Names s l item) (deeds_of n s plan) by
 pub plan_own : (n : ℕ) (files : List (List ℕ)) (others : ℕ) (s : CoreState) (l : NfsLists) (current : Option ℕ) (item : OpItem) → IsGood s → Owned n s (Names s l item) (planned files others s l current item)
 unfolding planned put_root_fh put_fh set_client_id
 plan_own n files others s l current PutRootFh good = (tt, tt)
-plan_own n files others s l current (PutFh fh) good = plain n s l (PutFh fh) (put_file (length files) l (file_at fh)) (put_by n (length files) s l (file_at fh) (Names s l (PutFh fh)))
+plan_own n files others s l current (PutFh fh) good = plain n s l (PutFh fh) (put_file (length files) l current (file_at fh)) (put_by n (length files) s l current (file_at fh) (Names s l (PutFh fh)))
 plan_own n files others s l current GetFh good = plain n s l GetFh (get_fh l current) (get_by n s l current (Names s l GetFh))
 plan_own n files others s l current (Lookup name) good = plain n s l (Lookup name) (look_up files l current name) (look_by n files s l current name (Names s l (Lookup name)))
 plan_own n files others s l current (SetClientId a) good =
@@ -207,34 +208,38 @@ weaker n s Client (d ∷ ds) by = absurd by.0
 abbrev Taken : ℕ → CoreState → List Deed → Type 0
 Taken n s ds = AreFit n s ds × AreBy n s (λ _. Unit {0}) ds
 
-step_own : (n : ℕ) (files : List (List ℕ)) (others : ℕ) (c : Course) (s : CoreState) (step : Step) → IsGood s → Taken n s (step_deeds files others n c s step)
-unfolding step_deeds
-step_own n files others c s (Runs item) good =
-    let own = plan_own n files others s c.lists c.current item good in
-    (own.0, weaker n s (Names s c.lists item) (deeds_of n s (planned files others s c.lists c.current item)) own.1)
-step_own n files others c s (Garbled number) good = (tt, tt)
-step_own n files others c s Cut good = (tt, tt)
+-- what is true of an operation's deeds is true of the step's
+of_step : (n : ℕ) (files : List (List ℕ)) (others : ℕ) (c : Course) (s : CoreState) (l : NfsLists) (item : OpItem) (Holds : List Deed → Type 0) → Holds (deeds_of n s (planned files others s l c.current item)) → Holds (deeds_of n s (step_plan files others c s l (Runs item)))
+unfolding step_plan
+of_step n files others c s l item Holds holds = subst Holds (sym (within_does n s l (λ m. m) (λ told m. (noted c (op_number item) told, m)) (planned files others s l c.current item))) holds
 
-more_by : (n : ℕ) (r : Ran Course) (later : Course → CoreState → List Deed) → IsGood r.2 → ((c : Course) (t : CoreState) → IsGood t → AreBy n t (λ _. Unit {0}) (later c t)) → AreBy n r.2 (λ _. Unit {0}) (more_deeds r later)
-more_by n (true, c, t) later good each = each c t good
-more_by n (false, c, t) later good each = tt
+step_own : (n : ℕ) (files : List (List ℕ)) (others : ℕ) (c : Course) (s : CoreState) (l : NfsLists) (step : Step) → IsGood s → Taken n s (deeds_of n s (step_plan files others c s l step))
+unfolding step_plan
+step_own n files others c s l (Runs item) good =
+    let own = plan_own n files others s l c.current item good in
+    of_step n files others c s l item (Taken n s) (own.0, weaker n s (Names s l item) (deeds_of n s (planned files others s l c.current item)) own.1)
+step_own n files others c s l (Garbled number) good = (tt, tt)
+step_own n files others c s l Cut good = (tt, tt)
 
-step_good : (n : ℕ) (files : List (List ℕ)) (others : ℕ) (c : Course) (s : CoreState) (step : Step) → IsGood s → IsGood (ran files others n c s step).2
-step_good n files others c s step good = subst (λ (t : CoreState). IsGood t) (sym (step_does n files others c s step)) (deeds_good n s (step_deeds files others n c s step) good (step_own n files others c s step good).0)
+step_good : (n : ℕ) (files : List (List ℕ)) (others : ℕ) (c : Course) (s : CoreState) (l : NfsLists) (step : Step) → IsGood s → IsGood (carried n s l (step_plan files others c s l step)).3
+step_good n files others c s l step good =
+    let plan : CoursePlan = step_plan files others c s l step in
+    plan_good n s l plan good (fit_at n s (deeds_of n s plan) (step_own n files others c s l step good).0)
 
-row_by : (n : ℕ) (files : List (List ℕ)) (others : ℕ) (c : Course) (s : CoreState) (steps : List Step) → IsGood s → AreBy n s (λ _. Unit {0}) (all_deeds (ran files others) (step_deeds files others) n c s steps)
-row_by n files others c s [] good = tt
-row_by n files others c s (step ∷ steps) good =
-    let r = ran files others n c s step in
-    by_append n s (λ _. Unit {0}) (step_deeds files others n c s step) (more_deeds r (λ d t. all_deeds (ran files others) (step_deeds files others) n d t steps)) (step_own n files others c s step good).1
-    (subst (λ (t : CoreState). AreBy n t (λ _. Unit {0}) (more_deeds r (λ d u. all_deeds (ran files others) (step_deeds files others) n d u steps))) (step_does n files others c s step)
-    (more_by n r (λ d t. all_deeds (ran files others) (step_deeds files others) n d t steps) (step_good n files others c s step good) (λ d t g. row_by n files others d t steps g)))
+-- what the core takes, and whose they are
+row_own : (n : ℕ) (files : List (List ℕ)) (others : ℕ) (s : CoreState) (l : NfsLists) (steps : List Step) → IsGood s → Taken n s (deeds_of n s (compound files others begun s l steps))
+row_own n files others s l steps good = (
+  at_fit n s (deeds_of n s (compound files others begun s l steps))
+      (row_all (step_plan files others) goes_on (λ t m. IsGood t) IsFitDeed n begun s l steps
+      (λ c t m step g. (fit_at n t (deeds_of n t (step_plan files others c t m step)) (step_own n files others c t m step g).0, step_good n files others c t m step g)) good).0,
+  (row_all (step_plan files others) goes_on (λ t m. IsGood t) (λ t d. IsBy t (λ _. Unit {0}) d) n begun s l steps (λ c t m step g. ((step_own n files others c t m step g).1, step_good n files others c t m step g)) good).0,
+)
 
 call_by : (n : ℕ) (files : List (List ℕ)) (others : ℕ) (f : FrontNfs) (s : CoreState) (call : Called) → IsGood s → AreBy n s (λ _. Unit {0}) (call_deeds n files others f s call)
 call_by n files others f s Garbage good = tt
 call_by n files others f s Null good = tt
 call_by n files others f s (Refused tag status) good = tt
-call_by n files others f s (Compound tag steps) good = row_by n files others (begun f) s steps good
+call_by n files others f s (Compound tag steps) good = (row_own n files others s f.state steps good).1
 
 pub request_by : (n : ℕ) (exports : Exports) (others : ℕ) (f : FrontNfs) (s : CoreState) (r : RequestItem) → IsGood s → AreBy n s (λ _. Unit {0}) (nfs_deeds n exports others f s r)
 request_by n exports others f s r good = call_by n exports.files others f s (call_in r) good
@@ -244,34 +249,36 @@ call_takes : (n : ℕ) (files : List (List ℕ)) (others : ℕ) (f : FrontNfs) (
 call_takes n files others f s Garbage good = tt
 call_takes n files others f s Null good = tt
 call_takes n files others f s (Refused tag status) good = tt
-call_takes n files others f s (Compound tag steps) good = row_takes (ran files others) (step_deeds files others) n (λ c t step. step_does n files others c t step) (λ c t step g. (step_own n files others c t step g).0) (begun f) s steps good
+call_takes n files others f s (Compound tag steps) good = (row_own n files others s f.state steps good).0
 
 pub request_takes : (n : ℕ) (exports : Exports) (others : ℕ) (f : FrontNfs) (s : CoreState) (r : RequestItem) → IsGood s → AreFit n s (nfs_deeds n exports others f s r)
 request_takes n exports others f s r good = call_takes n exports.files others f s (call_in r) good
 
 -- ---- of each operation, of whom it names
 
-one_own : (files : List (List ℕ)) (others n : ℕ) (c : Course) (s : CoreState) (step : Step) → IsGood s → IsTheirs files others n c s step
-unfolding step_deeds
-one_own files others n c s (Runs item) good = ((plan_own n files others s c.lists c.current item good).1, λ id is. plan_renews n files others s c.lists c.current item id is)
-one_own files others n c s (Garbled number) good = refl
-one_own files others n c s Cut good = refl
+one_own : (files : List (List ℕ)) (others n : ℕ) (c : Course) (s : CoreState) (l : NfsLists) (step : Step) → IsGood s → IsTheirs files others n c s l step
+unfolding step_plan
+one_own files others n c s l (Runs item) good =
+    of_step n files others c s l item (λ ds. AreBy n s (Names s l item) ds × ((id : List ℕ) → IsToRenew s l item id → IsIn (Renews id) ds))
+    ((plan_own n files others s l c.current item good).1, λ id is. plan_renews n files others s l c.current item id is)
+one_own files others n c s l (Garbled number) good = refl
+one_own files others n c s l Cut good = refl
 
 if_more : (b : Bool) (Rest : Type 0) → Rest → IfMore b Rest
 if_more true Rest rest = rest
 if_more false Rest rest = tt
 
-all_own : (files : List (List ℕ)) (others n : ℕ) (c : Course) (s : CoreState) (steps : List Step) → IsGood s → AreAllTheirs files others n c s steps
-all_own files others n c s [] good = tt
-all_own files others n c s (step ∷ steps) good =
-    let r = ran files others n c s step in
-    (one_own files others n c s step good, if_more r.0 (AreAllTheirs files others n r.1 r.2 steps) (all_own files others n r.1 r.2 steps (step_good n files others c s step good)))
+all_own : (files : List (List ℕ)) (others n : ℕ) (c : Course) (s : CoreState) (l : NfsLists) (steps : List Step) → IsGood s → AreAllTheirs files others n c s l steps
+all_own files others n c s l [] good = tt
+all_own files others n c s l (step ∷ steps) good =
+    let r = carried n s l (step_plan files others c s l step) in
+    (one_own files others n c s l step good, if_more (goes_on r.0) (AreAllTheirs files others n r.0 r.3 r.2 steps) (all_own files others n r.0 r.3 r.2 steps (step_good n files others c s l step good)))
 
 call_own : (n : ℕ) (files : List (List ℕ)) (others : ℕ) (f : FrontNfs) (s : CoreState) (call : Called) → IsGood s → AreTheirsBy n files others f s call
 call_own n files others f s Garbage good = tt
 call_own n files others f s Null good = tt
 call_own n files others f s (Refused tag status) good = tt
-call_own n files others f s (Compound tag steps) good = all_own files others n (begun f) s steps good
+call_own n files others f s (Compound tag steps) good = all_own files others n begun s f.state steps good
 
 pub request_own : (n : ℕ) (exports : Exports) (others : ℕ) (f : FrontNfs) (s : CoreState) (r : RequestItem) → IsGood s → AreTheirs n exports others f s r
 request_own n exports others f s r good = call_own n exports.files others f s (call_in r) good

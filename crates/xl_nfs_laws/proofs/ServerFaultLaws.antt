@@ -99,7 +99,7 @@ end_other kind access (Some last) =
       | inr e ↦ rw e (λ d. cc)
     ]
 
-repeat_sound : (n : ℕ) (s : CoreState) (l : NfsLists) (current : Option ℕ) (k : Option KeptRow) → Sound (carried n s l current (repeated s l current k)).0
+repeat_sound : (n : ℕ) (s : CoreState) (l : NfsLists) (current : Option ℕ) (k : Option KeptRow) → Sound (carried n s l (repeated s l current k)).0
 repeat_sound n s l current None = λ d. cc
 repeat_sound n s l current (Some k) = λ d. cc
 
@@ -126,26 +126,26 @@ renewed_good n s l client good = deeds_good n s (renewals l client) good (renewa
 
 -- ---- LOCK by a lock's stateid
 
-lock_by_sound : (n : ℕ) (s : CoreState) (l : NfsLists) (current : Option ℕ) (a : LockArgsItem) (r : StateidRow) (owner : ℕ) (seqids : SeqidState) (seqid last : ℕ) (x : Opener) (by : Option Opener) → by ≡ Some x → Sound (carried n s l current (lock_by_owner l current a r owner seqids seqid last by)).0
+lock_by_sound : (n : ℕ) (s : CoreState) (l : NfsLists) (current : Option ℕ) (a : LockArgsItem) (r : StateidRow) (owner : ℕ) (seqids : SeqidState) (seqid last : ℕ) (x : Opener) (by : Option Opener) → by ≡ Some x → Sound (carried n s l (lock_by_owner l current a r owner seqids seqid last by)).0
 lock_by_sound n s l current a r owner seqids seqid last x None e = absurd (true≢false (ap is_some (sym e)))
 lock_by_sound n s l current a r owner seqids seqid last x (Some y) e = λ d. (known_exactly n s l current a r owner seqids seqid last y statuses.ServerFault).0 (ap status_of d)
 
-lock_to_sound : (n : ℕ) (s : CoreState) (l : NfsLists) (current : Option ℕ) (a : LockArgsItem) (r : StateidRow) (owner : ℕ) (seqids : SeqidState) (seqid : ℕ) (last : Result ℕ NfsStatus) (x : Opener) → OtherOr last → opener_by l r.client owner ≡ Some x → Sound (carried n s l current (lock_to l current a r owner seqids seqid last)).0
+lock_to_sound : (n : ℕ) (s : CoreState) (l : NfsLists) (current : Option ℕ) (a : LockArgsItem) (r : StateidRow) (owner : ℕ) (seqids : SeqidState) (seqid : ℕ) (last : Result ℕ NfsStatus) (x : Opener) → OtherOr last → opener_by l r.client owner ≡ Some x → Sound (carried n s l (lock_to l current a r owner seqids seqid last)).0
 lock_to_sound n s l current a r owner seqids seqid (Err status) x other by = ended status other
 lock_to_sound n s l current a r owner seqids seqid (Ok last) x other by = lock_by_sound n s l current a r owner seqids seqid last x (opener_by l r.client owner) by
 
-lock_standing_sound : (n : ℕ) (s : CoreState) (l : NfsLists) (current : Option ℕ) (a : LockArgsItem) (r : StateidRow) (owner : ℕ) (seqids : SeqidState) (seqid : ℕ) (fault : Option NfsStatus) (x : Opener) → OtherIf fault → opener_by l r.client owner ≡ Some x → Sound (carried n s l current (lock_standing l current a r owner seqids seqid fault)).0
+lock_standing_sound : (n : ℕ) (s : CoreState) (l : NfsLists) (current : Option ℕ) (a : LockArgsItem) (r : StateidRow) (owner : ℕ) (seqids : SeqidState) (seqid : ℕ) (fault : Option NfsStatus) (x : Opener) → OtherIf fault → opener_by l r.client owner ≡ Some x → Sound (carried n s l (lock_standing l current a r owner seqids seqid fault)).0
 lock_standing_sound n s l current a r owner seqids seqid (Some status) x other by = ended status other
 lock_standing_sound n s l current a r owner seqids seqid None x other by = lock_to_sound n s l current a r owner seqids seqid (lock_end a.kind (access_above l r.holder) (last_byte a.offset a.len)) x (end_other a.kind (access_above l r.holder) (last_byte a.offset a.len)) by
 
-lock_found_sound : (n : ℕ) (s : CoreState) (l : NfsLists) (current : Option ℕ) (a : LockArgsItem) (x : KnownLocker) (c : Checked) → IsSound l → IfRefused c → IfNext s l current x.seqid x.stateid c → Sound (carried n s l current (lock_found s l current a x c)).0
+lock_found_sound : (n : ℕ) (s : CoreState) (l : NfsLists) (current : Option ℕ) (a : LockArgsItem) (x : KnownLocker) (c : Checked) → IsSound l → IfRefused c → IfNext s l current x.seqid x.stateid c → Sound (carried n s l (lock_found s l current a x c)).0
 lock_found_sound n s l current a x (Refused status) sound not next = uncounted status not
 lock_found_sound n s l current a x (Repeated owner) sound not next = repeat_sound n s l current (find (is_kept owner) l.kept)
 lock_found_sound n s l current a x (Passed r owner seqids) sound not next =
     let by = opener_there l r owner next.row sound next.locks.found next.locks.owner in
     lock_standing_sound n s l current a r owner seqids x.seqid (standing_fault r seqids x.stateid.seqid true) by.0 (standing_other r seqids x.stateid.seqid true) by.1
 
-known_sound : (n : ℕ) (s : CoreState) (l : NfsLists) (current : Option ℕ) (a : LockArgsItem) (x : KnownLocker) → IsSound l → Sound (carried n s l current (lock_known s l current a x)).0
+known_sound : (n : ℕ) (s : CoreState) (l : NfsLists) (current : Option ℕ) (a : LockArgsItem) (x : KnownLocker) → IsSound l → Sound (carried n s l (lock_known s l current a x)).0
 unfolding lock_known
 known_sound n s l current a x sound =
     let who = state_client s l x.stateid in
@@ -155,7 +155,7 @@ known_sound n s l current a x sound =
 
 -- ---- LOCK under an open
 
-join_to_sound : (n : ℕ) (s : CoreState) (l : NfsLists) (current : Option ℕ) (a : LockArgsItem) (b : BothOwners) (o : Opener) (r : StateidRow) (q : Option StateidRow) (last : Result ℕ NfsStatus) → OtherOr last → Sound (carried n s l current (join_to l current a b o r q last)).0
+join_to_sound : (n : ℕ) (s : CoreState) (l : NfsLists) (current : Option ℕ) (a : LockArgsItem) (b : BothOwners) (o : Opener) (r : StateidRow) (q : Option StateidRow) (last : Result ℕ NfsStatus) → OtherOr last → Sound (carried n s l (join_to l current a b o r q last)).0
 join_to_sound n s l current a b o r q (Err status) other = ended status other
 join_to_sound n s l current a b o r q (Ok last) other =
     elim (cases_Bool (is_room_for o l)) [
@@ -163,29 +163,29 @@ join_to_sound n s l current a b o r q (Ok last) other =
       | inr e ↦ rw e (λ d. cc)
     ]
 
-again_sound : (n : ℕ) (s : CoreState) (l : NfsLists) (current : Option ℕ) (b : BothOwners) (k : Option KeptRow) → Sound (carried n s l current (join_again l current b k)).0
+again_sound : (n : ℕ) (s : CoreState) (l : NfsLists) (current : Option ℕ) (b : BothOwners) (k : Option KeptRow) → Sound (carried n s l (join_again l current b k)).0
 again_sound n s l current b None = λ d. cc
 again_sound n s l current b (Some k) = λ d. cc
 
-join_as_sound : (n : ℕ) (s : CoreState) (l : NfsLists) (current : Option ℕ) (a : LockArgsItem) (b : BothOwners) (o : Opener) (r : StateidRow) (j : Joined) → Sound (carried n s l current (join_as l current a b o r j)).0
+join_as_sound : (n : ℕ) (s : CoreState) (l : NfsLists) (current : Option ℕ) (a : LockArgsItem) (b : BothOwners) (o : Opener) (r : StateidRow) (j : Joined) → Sound (carried n s l (join_as l current a b o r j)).0
 join_as_sound n s l current a b o r Bad = λ d. cc
 join_as_sound n s l current a b o r (Again owner) = again_sound n s l current b (find (is_kept owner) l.kept)
 join_as_sound n s l current a b o r (Joins q) = join_to_sound n s l current a b o r q (lock_end a.kind r.standing.access (last_byte a.offset a.len)) (end_other a.kind r.standing.access (last_byte a.offset a.len))
 
-join_of_sound : (n : ℕ) (s : CoreState) (l : NfsLists) (current : Option ℕ) (a : LockArgsItem) (x : NewLockerItem) (b : BothOwners) (r : StateidRow) (o : Option Opener) → Sound (carried n s l current (join_of l current a x b r o)).0
+join_of_sound : (n : ℕ) (s : CoreState) (l : NfsLists) (current : Option ℕ) (a : LockArgsItem) (x : NewLockerItem) (b : BothOwners) (r : StateidRow) (o : Option Opener) → Sound (carried n s l (join_of l current a x b r o)).0
 join_of_sound n s l current a x b r None = λ d. cc
 join_of_sound n s l current a x b r (Some o) = join_as_sound n s l current a b o r (found_joined l r o x.lock_seqid)
 
-join_standing_sound : (n : ℕ) (s : CoreState) (l : NfsLists) (current : Option ℕ) (a : LockArgsItem) (x : NewLockerItem) (b : BothOwners) (r : StateidRow) (fault : Option NfsStatus) → OtherIf fault → Sound (carried n s l current (join_standing s l current a x b r fault)).0
+join_standing_sound : (n : ℕ) (s : CoreState) (l : NfsLists) (current : Option ℕ) (a : LockArgsItem) (x : NewLockerItem) (b : BothOwners) (r : StateidRow) (fault : Option NfsStatus) → OtherIf fault → Sound (carried n s l (join_standing s l current a x b r fault)).0
 join_standing_sound n s l current a x b r (Some status) other = ended status other
 join_standing_sound n s l current a x b r None other = join_of_sound n s l current a x b r (locker_under r x.owner.owner (client_in s l x.owner.clientid))
 
-join_checked_sound : (n : ℕ) (s : CoreState) (l : NfsLists) (current : Option ℕ) (a : LockArgsItem) (x : NewLockerItem) (c : Checked) → ((status : NfsStatus) → c ≡ Refused status → advances status ≡ false) → Sound (carried n s l current (join_checked s l current a x c)).0
+join_checked_sound : (n : ℕ) (s : CoreState) (l : NfsLists) (current : Option ℕ) (a : LockArgsItem) (x : NewLockerItem) (c : Checked) → ((status : NfsStatus) → c ≡ Refused status → advances status ≡ false) → Sound (carried n s l (join_checked s l current a x c)).0
 join_checked_sound n s l current a x (Refused status) not = uncounted status (not status refl)
 join_checked_sound n s l current a x (Repeated owner) not = repeat_sound n s l current (find (is_kept owner) l.kept)
 join_checked_sound n s l current a x (Passed r owner seqids) not = join_standing_sound n s l current a x (both_of x owner seqids) r (standing_fault r seqids x.open_stateid.seqid true) (standing_other r seqids x.open_stateid.seqid true)
 
-first_sound : (n : ℕ) (s : CoreState) (l : NfsLists) (current : Option ℕ) (a : LockArgsItem) (x : NewLockerItem) → Sound (carried n s l current (lock_new s l current a x)).0
+first_sound : (n : ℕ) (s : CoreState) (l : NfsLists) (current : Option ℕ) (a : LockArgsItem) (x : NewLockerItem) → Sound (carried n s l (lock_new s l current a x)).0
 unfolding lock_new lock_named
 first_sound n s l current a x =
     let opens = state_client s l x.open_stateid in
@@ -196,11 +196,11 @@ first_sound n s l current a x =
     let u : CoreState = all_done n t (renewals m locks) in
     join_checked_sound n u k current a x (checked u k current 12 x.open_seqid x.open_stateid) (refused_not u k current 12 x.open_seqid x.open_stateid)
 
-pub lock_sound : (n : ℕ) (s : CoreState) (l : NfsLists) (current : Option ℕ) (a : LockArgsItem) → IsSound l → (carried n s l current (lock s l current a)).0 ≡ Ended statuses.ServerFault → ⊥
+pub lock_sound : (n : ℕ) (s : CoreState) (l : NfsLists) (current : Option ℕ) (a : LockArgsItem) → IsSound l → (carried n s l (lock s l current a)).0 ≡ Ended statuses.ServerFault → ⊥
 unfolding lock
 lock_sound n s l current a sound = by a.locker
   where
-    by : (x : LockerItem) → Sound (carried n s l current (lock_by s l current a x)).0
+    by : (x : LockerItem) → Sound (carried n s l (lock_by s l current a x)).0
     by (New x) = first_sound n s l current a x
     by (Known x) = known_sound n s l current a x sound
 
@@ -218,14 +218,14 @@ unlock_other s claim first last (answers.NoGrace clock) due = absurd due
 unlock_other s claim first last answers.NotRecorded due = absurd due
 unlock_other s claim first last answers.StoreFailed due = absurd due
 
-unlocked_sound : (n : ℕ) (s : CoreState) (l : NfsLists) (current : Option ℕ) (a : UnlockArgs) (r : StateidRow) (owner : ℕ) (seqids : SeqidState) (status : NfsStatus) → Other status → Sound (carried n s l current (unlocked_as s l current a r owner seqids status)).0
+unlocked_sound : (n : ℕ) (s : CoreState) (l : NfsLists) (current : Option ℕ) (a : UnlockArgs) (r : StateidRow) (owner : ℕ) (seqids : SeqidState) (status : NfsStatus) → Other status → Sound (carried n s l (unlocked_as s l current a r owner seqids status)).0
 unlocked_sound n s l current a r owner seqids status other =
     elim (cases_Bool (is_ok status)) [
       | inl e ↦ rw e (λ d. cc)
       | inr e ↦ rw e (ended status other)
     ]
 
-unlock_by_sound : (n : ℕ) (s : CoreState) (l : NfsLists) (current : Option ℕ) (a : UnlockArgs) (r : StateidRow) (owner : ℕ) (seqids : SeqidState) (last : ℕ) (x : Opener) (by : Option Opener) → IsGood s → a.offset ≤ last → by ≡ Some x → Sound (carried n s l current (unlock_by_owner l current a r owner seqids last by)).0
+unlock_by_sound : (n : ℕ) (s : CoreState) (l : NfsLists) (current : Option ℕ) (a : UnlockArgs) (r : StateidRow) (owner : ℕ) (seqids : SeqidState) (last : ℕ) (x : Opener) (by : Option Opener) → IsGood s → a.offset ≤ last → by ≡ Some x → Sound (carried n s l (unlock_by_owner l current a r owner seqids last by)).0
 unlock_by_sound n s l current a r owner seqids last x None good le e = absurd (true≢false (ap is_some (sym e)))
 unlock_by_sound n s l current a r owner seqids last x (Some y) good le e =
     let q = unlock_ask y r.file a.offset last in
@@ -233,22 +233,22 @@ unlock_by_sound n s l current a r owner seqids last x (Some y) good le e =
     let due = (ask_unlock n all_rooms s q a.offset last z.0 refl (unlock_fits y r.file a.offset last le).party refl le good).0 refl in
     unlocked_sound n z.2 l current a r owner seqids (unlock_status z.0) (unlock_other s (unlock_claim s y r.file a.offset last) a.offset last z.0 due)
 
-unlock_to_sound : (n : ℕ) (s : CoreState) (l : NfsLists) (current : Option ℕ) (a : UnlockArgs) (r : StateidRow) (owner : ℕ) (seqids : SeqidState) (last : Option ℕ) (x : Opener) → IsGood s → NotBefore a.offset last → opener_by l r.client owner ≡ Some x → Sound (carried n s l current (unlock_to l current a r owner seqids last)).0
+unlock_to_sound : (n : ℕ) (s : CoreState) (l : NfsLists) (current : Option ℕ) (a : UnlockArgs) (r : StateidRow) (owner : ℕ) (seqids : SeqidState) (last : Option ℕ) (x : Opener) → IsGood s → NotBefore a.offset last → opener_by l r.client owner ≡ Some x → Sound (carried n s l (unlock_to l current a r owner seqids last)).0
 unlock_to_sound n s l current a r owner seqids None x good le by = λ d. cc
 unlock_to_sound n s l current a r owner seqids (Some last) x good le by = unlock_by_sound n s l current a r owner seqids last x (opener_by l r.client owner) good le by
 
-unlock_standing_sound : (n : ℕ) (s : CoreState) (l : NfsLists) (current : Option ℕ) (a : UnlockArgs) (r : StateidRow) (owner : ℕ) (seqids : SeqidState) (fault : Option NfsStatus) (x : Opener) → IsGood s → OtherIf fault → opener_by l r.client owner ≡ Some x → Sound (carried n s l current (unlock_standing l current a r owner seqids fault)).0
+unlock_standing_sound : (n : ℕ) (s : CoreState) (l : NfsLists) (current : Option ℕ) (a : UnlockArgs) (r : StateidRow) (owner : ℕ) (seqids : SeqidState) (fault : Option NfsStatus) (x : Opener) → IsGood s → OtherIf fault → opener_by l r.client owner ≡ Some x → Sound (carried n s l (unlock_standing l current a r owner seqids fault)).0
 unlock_standing_sound n s l current a r owner seqids (Some status) x good other by = ended status other
 unlock_standing_sound n s l current a r owner seqids None x good other by = unlock_to_sound n s l current a r owner seqids (last_byte a.offset a.len) x good (last_not_before a.offset a.len) by
 
-unlock_found_sound : (n : ℕ) (s : CoreState) (l : NfsLists) (current : Option ℕ) (a : UnlockArgs) (c : Checked) → IsGood s → IsSound l → IfRefused c → IfNext s l current a.seqid a.stateid c → Sound (carried n s l current (unlock_found s l current a c)).0
+unlock_found_sound : (n : ℕ) (s : CoreState) (l : NfsLists) (current : Option ℕ) (a : UnlockArgs) (c : Checked) → IsGood s → IsSound l → IfRefused c → IfNext s l current a.seqid a.stateid c → Sound (carried n s l (unlock_found s l current a c)).0
 unlock_found_sound n s l current a (Refused status) good sound not next = uncounted status not
 unlock_found_sound n s l current a (Repeated owner) good sound not next = repeat_sound n s l current (find (is_kept owner) l.kept)
 unlock_found_sound n s l current a (Passed r owner seqids) good sound not next =
     let by = opener_there l r owner next.row sound next.locks.found next.locks.owner in
     unlock_standing_sound n s l current a r owner seqids (standing_fault r seqids a.stateid.seqid true) by.0 good (standing_other r seqids a.stateid.seqid true) by.1
 
-pub unlock_sound : (n : ℕ) (s : CoreState) (l : NfsLists) (current : Option ℕ) (a : UnlockArgs) → IsGood s → IsSound l → (carried n s l current (unlock s l current a)).0 ≡ Ended statuses.ServerFault → ⊥
+pub unlock_sound : (n : ℕ) (s : CoreState) (l : NfsLists) (current : Option ℕ) (a : UnlockArgs) → IsGood s → IsSound l → (carried n s l (unlock s l current a)).0 ≡ Ended statuses.ServerFault → ⊥
 unfolding unlock
 unlock_sound n s l current a good sound =
     let who = state_client s l a.stateid in

@@ -62,7 +62,7 @@ use Rattle.xl_nfs_laws.proofs.EnteredOpenLaws.{found_behind, kept_stateids}
 use Rattle.xl_nfs_laws.proofs.OpenOrderLaws.{none_in}
 use Rattle.xl_nfs_laws.proofs.KnownOpenLaws.{free_of, seated_clients}
 use Rattle.xl_nfs_laws.proofs.OpenNumberLaws.{entered_given, later_on, next_unused, seated_given, stood_given, deeds_rise, without_given}
-use Rattle.xl_nfs_opens.proofs.LeaveLaws.{drawn_number}
+use Rattle.xl_plan.proofs.BudgetLaws.{drawn_number}
 use Rattle.xl_nfs_opens.proofs.OpenOwn.{all_given, ask_fits, no_range}
 use Rattle.xl_nfs_opens.proofs.OpenerLaws.{opener_there}
 use Rattle.xl_nfs_opens.proofs.OwnerLaws.{number_gone, own_client}
@@ -161,7 +161,7 @@ unfolding drawn cache_held
 drawn_cache s id file = refl
 
 new_delegated : (n : ℕ) (s : CoreState) (l : NfsLists) (current : Option ℕ) (o : Opener) (a : OpenArgsItem) (file : ℕ) (confirmed : Bool) (granted : Option Bool) (given : Stateid) (write : Bool) → AreGivenOut s.counter l → HasNone o.client file l → is_some (find (is_client o.client true) l.clients) ≡ true → delegation_in (cache_held s o.id file) ≡ granted
-    → Gives o given write (carried n s l current (granted_new s l o a file confirmed granted))
+    → Gives o given write (carried n s l (granted_new s l o a file confirmed granted))
 new_delegated n s l current o a file confirmed None given write out none client held = λ stateid flags told. absurd (true≢false (ap is_some (sym (ap given_in told))))
 new_delegated n s l current o a file confirmed (Some w) given write out none client held = λ stateid flags told.
     let u = drawn s in
@@ -187,7 +187,7 @@ new_delegated n s l current o a file confirmed (Some w) given write out none cli
     delegation b = holders.Delegation b
 
 more_delegated : (n : ℕ) (s : CoreState) (l : NfsLists) (current : Option ℕ) (o : Opener) (a : OpenArgsItem) (file : ℕ) (confirmed : Bool) (granted : Option Bool) (r : StateidRow) (given : Stateid) (write : Bool) → AreGivenOut s.counter l → HasNone o.client file l → is_some (find (is_client o.client true) l.clients) ≡ true → delegation_in (cache_held s o.id file) ≡ granted
-    → Gives o given write (carried n s l current (granted_more s l o a file confirmed granted r))
+    → Gives o given write (carried n s l (granted_more s l o a file confirmed granted r))
 more_delegated n s l current o a file confirmed None r given write out none client held = λ stateid flags told. absurd (true≢false (ap is_some (sym (ap given_in told))))
 more_delegated n s l current o a file confirmed (Some w) r given write out none client held = λ stateid flags told.
     let after : NfsLists = stood r.number r (either_bits r.standing.access a.access) (either_bits r.standing.deny a.deny) false l in
@@ -210,26 +210,26 @@ more_delegated n s l current o a file confirmed (Some w) r given write out none 
     delegation b = holders.Delegation b
 
 granted_delegated : (n : ℕ) (s : CoreState) (l : NfsLists) (current : Option ℕ) (o : Opener) (a : OpenArgsItem) (file : ℕ) (confirmed : Bool) (granted : Option Bool) (x : Option StateidRow) (given : Stateid) (write : Bool) → AreGivenOut s.counter l → HasNone o.client file l → is_some (find (is_client o.client true) l.clients) ≡ true → delegation_in (cache_held s o.id file) ≡ granted
-    → Gives o given write (carried n s l current (granted_by s l o a file confirmed granted x))
+    → Gives o given write (carried n s l (granted_by s l o a file confirmed granted x))
 granted_delegated n s l current o a file confirmed granted None given write out none client held = new_delegated n s l current o a file confirmed granted given write out none client held
 granted_delegated n s l current o a file confirmed granted (Some r) given write out none client held = more_delegated n s l current o a file confirmed granted r given write out none client held
 
 -- where none was granted none is told
-no_delegation : (n : ℕ) (s : CoreState) (l : NfsLists) (current : Option ℕ) (o : Opener) (a : OpenArgsItem) (file : ℕ) (confirmed : Bool) (x : Option StateidRow) (given : Stateid) (write : Bool) → Gives o given write (carried n s l current (granted_by s l o a file confirmed None x))
+no_delegation : (n : ℕ) (s : CoreState) (l : NfsLists) (current : Option ℕ) (o : Opener) (a : OpenArgsItem) (file : ℕ) (confirmed : Bool) (x : Option StateidRow) (given : Stateid) (write : Bool) → Gives o given write (carried n s l (granted_by s l o a file confirmed None x))
 no_delegation n s l current o a file confirmed None given write = λ stateid flags told. absurd (true≢false (ap is_some (sym (ap given_in told))))
 no_delegation n s l current o a file confirmed (Some r) given write = λ stateid flags told. absurd (true≢false (ap is_some (sym (ap given_in told))))
 
 -- ---- an OPEN
 
 answered_delegated : (n : ℕ) (s : CoreState) (l : NfsLists) (current : Option ℕ) (o : Opener) (a : OpenArgsItem) (file : ℕ) (confirmed : Bool) (wish : Option Bool) (answer : Answer) (given : Stateid) (write : Bool) → ((w : Bool) → wish ≡ Some w → AreGivenOut s.counter l × HasNone o.client file l) → is_some (find (is_client o.client true) l.clients) ≡ true
-    → Gives o given write (carried n s l current (answered l current o a file confirmed wish answer s))
+    → Gives o given write (carried n s l (answered l current o a file confirmed wish answer s))
 answered_delegated n s l current o a file confirmed wish answer given write each client =
     elim (cases_Bool (is_granted answer)) [
       | inr e ↦ rw e (λ stateid flags told. absurd cc)
       | inl e ↦ rw e (by wish refl)
     ]
   where
-    by : (x : Option Bool) → wish ≡ x → Gives o given write (carried n s l current (granted_by s l o a file (confirmed || reclaims a.claim) (granted_wish s o file x) (open_held l o file)))
+    by : (x : Option Bool) → wish ≡ x → Gives o given write (carried n s l (granted_by s l o a file (confirmed || reclaims a.claim) (granted_wish s o file x) (open_held l o file)))
     by None d = no_delegation n s l current o a file (confirmed || reclaims a.claim) (open_held l o file) given write
     by (Some w) d =
         let parts = each w d in
@@ -256,7 +256,7 @@ wish_free s l o a confirmed file w e = by (kind_for (find (is_client o.client tr
         ]
 
 by_delegated : (n others : ℕ) (s : CoreState) (l : NfsLists) (current : Option ℕ) (o : Opener) (a : OpenArgsItem) (confirmed : Bool) (given : Stateid) (write : Bool) (r : Result ℕ NfsStatus) → IsGood s → AreGivenOut s.counter l → is_some (find (is_client o.client true) l.clients) ≡ true
-    → Gives o given write (carried n s l current (open_by others s l current o a confirmed r))
+    → Gives o given write (carried n s l (open_by others s l current o a confirmed r))
 by_delegated n others s l current o a confirmed given write (Err status) good out client = λ stateid flags told. absurd cc
 by_delegated n others s l current o a confirmed given write (Ok file) good out client =
     let wish = wish_of s l o a confirmed file in
@@ -264,21 +264,21 @@ by_delegated n others s l current o a confirmed given write (Ok file) good out c
     let frame = ask_frame n all_rooms s (share_ask wish o a file) good (ask_fits wish o a file).party in
     elim (cases_Bool (has_room others l o file)) [
       | inr e ↦ rw e (λ stateid flags told. absurd cc)
-      | inl e ↦ rw e (delegated_behind o given write r.1 (carried n r.2 l current (answered l current o a file confirmed wish r.0 r.2))
+      | inl e ↦ rw e (delegated_behind o given write r.1 (carried n r.2 l (answered l current o a file confirmed wish r.0 r.2))
           (answered_delegated n r.2 l current o a file confirmed wish r.0 given write (λ w d. (later_on s.counter r.2.counter l (omega (arith, frame.counter)) out, wish_free s l o a confirmed file w d)) client))
     ]
 
 as_delegated : (n : ℕ) (files : List (List ℕ)) (others : ℕ) (s : CoreState) (l : NfsLists) (current : Option ℕ) (at : ℕ) (o : Opener) (a : OpenArgsItem) (confirmed : Bool) (given : Stateid) (write : Bool) → IsGood s → AreGivenOut s.counter l → is_some (find (is_client o.client true) l.clients) ≡ true
-    → Gives o given write (carried n s l current (open_as files others s l current at o a confirmed))
+    → Gives o given write (carried n s l (open_as files others s l current at o a confirmed))
 unfolding open_as
 as_delegated n files others s l current at o a confirmed given write good out client = by_delegated n others s l current o a confirmed given write (opened_file files s l o.client at a) good out client
 
-repeat_delegated : (n : ℕ) (s : CoreState) (l : NfsLists) (current : Option ℕ) (o : Opener) (given : Stateid) (write : Bool) (k : Option KeptRow) → Gives o given write (carried n s l current (repeated s l current k))
+repeat_delegated : (n : ℕ) (s : CoreState) (l : NfsLists) (current : Option ℕ) (o : Opener) (given : Stateid) (write : Bool) (k : Option KeptRow) → Gives o given write (carried n s l (repeated s l current k))
 repeat_delegated n s l current o given write None = λ stateid flags told. absurd cc
 repeat_delegated n s l current o given write (Some k) = λ stateid flags told. absurd cc
 
 judged_delegated : (n : ℕ) (files : List (List ℕ)) (others : ℕ) (s : CoreState) (l : NfsLists) (current : Option ℕ) (at : ℕ) (o : Opener) (a : OpenArgsItem) (given : Stateid) (write : Bool) (j : Judged) → IsGood s → AreGivenOut s.counter l → is_some (find (is_client o.client true) l.clients) ≡ true
-    → Gives o given write (carried n s l current (open_judged files others s l current at o a j))
+    → Gives o given write (carried n s l (open_judged files others s l current at o a j))
 judged_delegated n files others s l current at o a given write judgements.Bad good out client = λ stateid flags told. absurd cc
 judged_delegated n files others s l current at o a given write (judgements.Repeats number) good out client = repeat_delegated n s l current o given write (find (is_kept number) l.kept)
 judged_delegated n files others s l current at o a given write (judgements.Anew number) good out client =
@@ -290,18 +290,18 @@ judged_delegated n files others s l current at o a given write (judgements.Anew 
     let left : IsGood t = deeds_good n s deeds good given_back.0 in
     let up = deeds_rise n s (λ _. Unit {0}) deeds good given_back.0 given_back.1 in
     let still : AreGivenOut t.counter m = later_on s.counter t.counter m (omega (arith, up)) (without_given s.counter number l out) in
-    delegated_behind o given write (all_told_of n s deeds) (carried n t m current (open_as files others t m current at o a false)) (as_delegated n files others t m current at o a false given write left still client)
+    delegated_behind o given write (all_told_of n s deeds) (carried n t m (open_as files others t m current at o a false)) (as_delegated n files others t m current at o a false given write left still client)
 judged_delegated n files others s l current at o a given write judgements.New good out client = as_delegated n files others s l current at o a false given write good out client
 judged_delegated n files others s l current at o a given write judgements.Next good out client = as_delegated n files others s l current at o a true given write good out client
 
-pub told_delegated : (n : ℕ) (files : List (List ℕ)) (others : ℕ) (s : CoreState) (l : NfsLists) (current : Option ℕ) (at : ℕ) (c : ClientRow) (a : OpenArgsItem) (stateid given : Stateid) (flags : ℕ) (write : Bool) → IsGood s → AreGivenOut s.counter l → client_in s l a.owner.clientid ≡ Some c → (carried n s l current (open_judged files others s l current at (opener_of c a) a (judged l (opener_of c a) a.seqid))).0 ≡ Opened stateid flags (Some (given, write))
-    → IsDelegated (opener_of c a) given write (carried n s l current (open_judged files others s l current at (opener_of c a) a (judged l (opener_of c a) a.seqid)))
+pub told_delegated : (n : ℕ) (files : List (List ℕ)) (others : ℕ) (s : CoreState) (l : NfsLists) (current : Option ℕ) (at : ℕ) (c : ClientRow) (a : OpenArgsItem) (stateid given : Stateid) (flags : ℕ) (write : Bool) → IsGood s → AreGivenOut s.counter l → client_in s l a.owner.clientid ≡ Some c → (carried n s l (open_judged files others s l current at (opener_of c a) a (judged l (opener_of c a) a.seqid))).0 ≡ Opened stateid flags (Some (given, write))
+    → IsDelegated (opener_of c a) given write (carried n s l (open_judged files others s l current at (opener_of c a) a (judged l (opener_of c a) a.seqid)))
 told_delegated n files others s l current at c a stateid given flags write good out found told =
     judged_delegated n files others s l current at (opener_of c a) a given write (judged l (opener_of c a) a.seqid) good out (opener_there s l a c (opener_of c a) (sym found) refl) stateid flags told
 
 -- ---- one that is returned
 
-pub returned_gone : (n : ℕ) (s : CoreState) (l : NfsLists) (current : Option ℕ) (r : StateidRow) → find (is_stateid r.number) (carried n s l current (return_done s l current (Ok r))).3.stateids ≡ None
+pub returned_gone : (n : ℕ) (s : CoreState) (l : NfsLists) (current : Option ℕ) (r : StateidRow) → find (is_stateid r.number) (carried n s l (return_done s l current (Ok r))).3.stateids ≡ None
 returned_gone n s l current r = number_gone r.number l.stateids
 
 no_map : {A B : Type 0} (f : A → B) (xs : List A) → map f xs ≡ [] → xs ≡ []
@@ -350,17 +350,17 @@ client_cache_goes n s id file good = ap (λ (names : List Name). cache_by t.clai
     by None e = refl
     by (Some party) e = cache_goes n s file party (cache_by s.claims file (party_named s.names (NfsParty id))) good (ap (λ (q : Option Party). cache_by s.claims file q) (sym e))
 
-pub returned_uncached : (n : ℕ) (s : CoreState) (l : NfsLists) (current : Option ℕ) (r : StateidRow) (c : ClientRow) → IsGood s → find (is_client r.client true) l.clients ≡ Some c → cache_held (carried n s l current (return_done s l current (Ok r))).4 c.id r.file ≡ None
+pub returned_uncached : (n : ℕ) (s : CoreState) (l : NfsLists) (current : Option ℕ) (r : StateidRow) (c : ClientRow) → IsGood s → find (is_client r.client true) l.clients ≡ Some c → cache_held (carried n s l (return_done s l current (Ok r))).4 c.id r.file ≡ None
 returned_uncached n s l current r c good found =
     ap (λ (x : Option ClientRow). cache_held (all_done n s (gives (cache_of_client s r.file x))) c.id r.file) found ∙ client_cache_goes n s c.id r.file good
 
 -- ---- the statuses of DELEGRETURN
 
-return_ok : (n : ℕ) (s : CoreState) (l : NfsLists) (current : Option ℕ) (x : Returning) → status_of (carried n s l current (return_done s l current x)).0 ≡ returned_status x
+return_ok : (n : ℕ) (s : CoreState) (l : NfsLists) (current : Option ℕ) (x : Returning) → status_of (carried n s l (return_done s l current x)).0 ≡ returned_status x
 return_ok n s l current (Ok r) = refl
 return_ok n s l current (Err status) = refl
 
-pub return_told : (n : ℕ) (s : CoreState) (l : NfsLists) (current : Option ℕ) (stateid : Stateid) → status_of (carried n s l current (return_done s l current (returned s l current stateid))).0 ≡ returned_status (returned s l current stateid)
+pub return_told : (n : ℕ) (s : CoreState) (l : NfsLists) (current : Option ℕ) (stateid : Stateid) → status_of (carried n s l (return_done s l current (returned s l current stateid))).0 ≡ returned_status (returned s l current stateid)
 return_told n s l current stateid = return_ok n s l current (returned s l current stateid)
 
 seqid_forth : (x r : StateidRow) (seqid : ℕ) → seqid_returned x seqid ≡ Ok r → (x ≡ r) × (seqid ≡ r.standing.seqid)

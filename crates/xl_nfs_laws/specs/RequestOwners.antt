@@ -13,9 +13,10 @@ use Rattle.xl_core.specs.State.{CoreState}
 use Rattle.xl_front_nfs.specs.Clients.{confirmed_by}
 use Rattle.xl_front_nfs.specs.FrontNfs.{Called, Compound, call_in}
 use Rattle.xl_core.specs.Ids.{number_in}
+use Rattle.xl_plan.specs.Plans.{deeds_of, carried}
 use Rattle.xl_nfs_opens.specs.Owners.{Names, AreBy}
 use Rattle.xl_front_nfs.specs.State.{FrontNfs}
-use Rattle.xl_front_nfs.specs.Steps.{Step, Runs, Course, begun, ran, step_deeds}
+use Rattle.xl_front_nfs.specs.Steps.{Step, Runs, Course, begun, step_plan, goes_on}
 
 -- ---- whose leases are renewed
 
@@ -38,10 +39,10 @@ IsToRenew s l op id = Names s l op id
 
 -- an operation's deeds are of the clients that it names, and they renew those that it renews; where its arguments can't be read
 -- it has none
-abbrev pub IsTheirs : List (List ℕ) → ℕ → ℕ → Course → CoreState → Step → Type 0
-IsTheirs files others n c s (Runs op) =
-    AreBy n s (Names s c.lists op) (step_deeds files others n c s (Runs op)) × ((id : List ℕ) → IsToRenew s c.lists op id → IsIn (Renews id) (step_deeds files others n c s (Runs op)))
-IsTheirs files others n c s step = step_deeds files others n c s step ≡ []
+abbrev pub IsTheirs : List (List ℕ) → ℕ → ℕ → Course → CoreState → NfsLists → Step → Type 0
+IsTheirs files others n c s l (Runs op) =
+    AreBy n s (Names s l op) (deeds_of n s (step_plan files others c s l (Runs op))) × ((id : List ℕ) → IsToRenew s l op id → IsIn (Renews id) (deeds_of n s (step_plan files others c s l (Runs op))))
+IsTheirs files others n c s l step = deeds_of n s (step_plan files others c s l step) ≡ []
 
 -- where others are run behind it
 abbrev pub IfMore : Bool → Type 0 → Type 0
@@ -49,13 +50,15 @@ IfMore true Rest = Rest
 IfMore false Rest = Unit {0}
 
 -- each in the state that those before it left
-abbrev pub AreAllTheirs : List (List ℕ) → ℕ → ℕ → Course → CoreState → List Step → Type 0
-AreAllTheirs files others n c s [] = Unit {0}
-AreAllTheirs files others n c s (step ∷ steps) =
-    IsTheirs files others n c s step × IfMore (ran files others n c s step).0 (AreAllTheirs files others n (ran files others n c s step).1 (ran files others n c s step).2 steps)
+abbrev pub AreAllTheirs : List (List ℕ) → ℕ → ℕ → Course → CoreState → NfsLists → List Step → Type 0
+AreAllTheirs files others n c s l [] = Unit {0}
+AreAllTheirs files others n c s l (step ∷ steps) =
+    IsTheirs files others n c s l step
+    × IfMore (goes_on (carried n s l (step_plan files others c s l step)).0)
+    (AreAllTheirs files others n (carried n s l (step_plan files others c s l step)).0 (carried n s l (step_plan files others c s l step)).3 (carried n s l (step_plan files others c s l step)).2 steps)
 
 abbrev pub AreTheirsBy : ℕ → List (List ℕ) → ℕ → FrontNfs → CoreState → Called → Type 0
-AreTheirsBy n files others f s (Compound tag steps) = AreAllTheirs files others n (begun f) s steps
+AreTheirsBy n files others f s (Compound tag steps) = AreAllTheirs files others n begun s f.state steps
 AreTheirsBy n files others f s called = Unit {0}
 
 -- a request's deeds are of the clients that its operations name, and each of these is renewed

@@ -28,17 +28,17 @@ ghost use Rattle.xl_nfs_opens.specs.declared.told.Told.TheVariants.{Opened};
 /// current one then, for writing or else for reading as it is told, and the client's cache on the file is such a delegation
 /// (RFC 7530 10.4).
 pub fn told_delegations_are_held()
-    ensures { (n : ℕ) (files : List (List ℕ)) (others : ℕ) (s : CoreState) (l : NfsLists) (current : Option ℕ) (at : ℕ) (c : ClientRow) (a : OpenArgsItem) (stateid given : Stateid) (flags : ℕ) (write : Bool) → IsGood s → AreGivenOut s.counter l → client_in s l a.owner.clientid ≡ Some c → (carried n s l current (open_judged files others s l current at (opener_of c a) a (judged l (opener_of c a) a.seqid))).0 ≡ Opened stateid flags (Some (given, write)) → IsDelegated (opener_of c a) given write (carried n s l current (open_judged files others s l current at (opener_of c a) a (judged l (opener_of c a) a.seqid))) }
+    ensures { (n : ℕ) (files : List (List ℕ)) (others : ℕ) (s : CoreState) (l : NfsLists) (current : Option ℕ) (at : ℕ) (c : ClientRow) (a : OpenArgsItem) (stateid given : Stateid) (flags : ℕ) (write : Bool) → IsGood s → AreGivenOut s.counter l → client_in s l a.owner.clientid ≡ Some c → (carried n s l (open_judged files others s l current at (opener_of c a) a (judged l (opener_of c a) a.seqid))).0 ≡ Opened stateid flags (Some (given, write)) → IsDelegated (opener_of c a) given write (carried n s l (open_judged files others s l current at (opener_of c a) a (judged l (opener_of c a) a.seqid))) }
 {}
 
 /// A DELEGRETURN is OK exactly where its stateid is of this start and names a delegation of the current file, with its own
 /// seqid; else it is told the first check that fails. One that is OK leaves no stateid of its number, and its client no cache
 /// on the file (RFC 7530 9.1.4, 16.6).
 pub fn returned_delegations_are_gone()
-    ensures told { (n : ℕ) (s : CoreState) (l : NfsLists) (current : Option ℕ) (stateid : Stateid) → status_of (carried n s l current (return_done s l current (returned s l current stateid))).0 ≡ returned_status (returned s l current stateid) }
+    ensures told { (n : ℕ) (s : CoreState) (l : NfsLists) (current : Option ℕ) (stateid : Stateid) → status_of (carried n s l (return_done s l current (returned s l current stateid))).0 ≡ returned_status (returned s l current stateid) }
     ensures exactly { (s : CoreState) (l : NfsLists) (at : ℕ) (stateid : Stateid) (r : StateidRow) → (returned s l (Some at) stateid ≡ Ok r) ↔ IsReturned s l at stateid r }
-    ensures stateid { (n : ℕ) (s : CoreState) (l : NfsLists) (current : Option ℕ) (r : StateidRow) → find (is_stateid r.number) (carried n s l current (return_done s l current (Ok r))).3.stateids ≡ None }
-    ensures cache { (n : ℕ) (s : CoreState) (l : NfsLists) (current : Option ℕ) (r : StateidRow) (c : ClientRow) → IsGood s → find (is_client r.client true) l.clients ≡ Some c → cache_held (carried n s l current (return_done s l current (Ok r))).4 c.id r.file ≡ None }
+    ensures stateid { (n : ℕ) (s : CoreState) (l : NfsLists) (current : Option ℕ) (r : StateidRow) → find (is_stateid r.number) (carried n s l (return_done s l current (Ok r))).3.stateids ≡ None }
+    ensures cache { (n : ℕ) (s : CoreState) (l : NfsLists) (current : Option ℕ) (r : StateidRow) (c : ClientRow) → IsGood s → find (is_client r.client true) l.clients ≡ Some c → cache_held (carried n s l (return_done s l current (Ok r))).4 c.id r.file ≡ None }
 {}
 
 /// An OPEN that claims its file by a delegation, once the checks before passed and the file is found, goes on exactly where its
@@ -63,9 +63,9 @@ pub fn wishes_are_by_the_claim()
 /// Each client has a delegation on a file exactly where it has a cache there, both of one kind; so it stays whatever an operation on
 /// opens comes to. So none forgets the stateid of a cache, keeps one whose cache went, or gives one without (RFC 7530 10.4).
 pub fn delegations_are_caches()
-    ensures opens { (n : ℕ) (files : List (List ℕ)) (others : ℕ) (s : CoreState) (l : NfsLists) (current : Option ℕ) (a : OpenArgsItem) → IsGood s → AreTied s l → AreTied (carried n s l current (open_file files others s l current a)).4 (carried n s l current (open_file files others s l current a)).3 }
-    ensures confirms { (n : ℕ) (s : CoreState) (l : NfsLists) (current : Option ℕ) (a : OpenConfirmArgs) → IsGood s → AreTied s l → AreTied (carried n s l current (open_confirm s l current a)).4 (carried n s l current (open_confirm s l current a)).3 }
-    ensures downgrades { (n : ℕ) (s : CoreState) (l : NfsLists) (current : Option ℕ) (a : OpenDowngradeArgs) → IsGood s → AreTied s l → AreTied (carried n s l current (open_downgrade s l current a)).4 (carried n s l current (open_downgrade s l current a)).3 }
-    ensures closes { (n : ℕ) (s : CoreState) (l : NfsLists) (current : Option ℕ) (a : CloseArgs) → IsGood s → IsOrderly l → AreTied s l → AreTied (carried n s l current (close s l current a)).4 (carried n s l current (close s l current a)).3 }
-    ensures returns { (n : ℕ) (s : CoreState) (l : NfsLists) (current : Option ℕ) (stateid : Stateid) → IsGood s → IsOrderly l → AreTied s l → AreTied (carried n s l current (deleg_return s l current stateid)).4 (carried n s l current (deleg_return s l current stateid)).3 }
+    ensures opens { (n : ℕ) (files : List (List ℕ)) (others : ℕ) (s : CoreState) (l : NfsLists) (current : Option ℕ) (a : OpenArgsItem) → IsGood s → AreTied s l → AreTied (carried n s l (open_file files others s l current a)).4 (carried n s l (open_file files others s l current a)).3 }
+    ensures confirms { (n : ℕ) (s : CoreState) (l : NfsLists) (current : Option ℕ) (a : OpenConfirmArgs) → IsGood s → AreTied s l → AreTied (carried n s l (open_confirm s l current a)).4 (carried n s l (open_confirm s l current a)).3 }
+    ensures downgrades { (n : ℕ) (s : CoreState) (l : NfsLists) (current : Option ℕ) (a : OpenDowngradeArgs) → IsGood s → AreTied s l → AreTied (carried n s l (open_downgrade s l current a)).4 (carried n s l (open_downgrade s l current a)).3 }
+    ensures closes { (n : ℕ) (s : CoreState) (l : NfsLists) (current : Option ℕ) (a : CloseArgs) → IsGood s → IsOrderly l → AreTied s l → AreTied (carried n s l (close s l current a)).4 (carried n s l (close s l current a)).3 }
+    ensures returns { (n : ℕ) (s : CoreState) (l : NfsLists) (current : Option ℕ) (stateid : Stateid) → IsGood s → IsOrderly l → AreTied s l → AreTied (carried n s l (deleg_return s l current stateid)).4 (carried n s l (deleg_return s l current stateid)).3 }
 {}

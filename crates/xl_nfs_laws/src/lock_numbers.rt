@@ -16,8 +16,8 @@ ghost use Rattle.xl_nfs_opens.specs.Plans.{carried};
 /// Each stateid has a number that the core gave out, and the core gives out none twice (RFC 7530 9.1.4). So it stays whatever
 /// an operation on locks comes to.
 pub fn stateids_have_given_numbers()
-    ensures locks { (n : ℕ) (s : CoreState) (l : NfsLists) (current : Option ℕ) (a : LockArgsItem) → IsGood s → AreGivenOut s.counter l → StayGivenOut s (carried n s l current (lock s l current a)) }
-    ensures tests { (n : ℕ) (s : CoreState) (l : NfsLists) (current : Option ℕ) (a : LockTestArgsItem) → IsGood s → AreGivenOut s.counter l → StayGivenOut s (carried n s l current (lock_test s l current a)) }
-    ensures unlocks { (n : ℕ) (s : CoreState) (l : NfsLists) (current : Option ℕ) (a : Unlocked) → IsGood s → AreGivenOut s.counter l → StayGivenOut s (carried n s l current (unlock s l current a)) }
-    ensures releases { (n : ℕ) (s : CoreState) (l : NfsLists) (current : Option ℕ) (a : OwnerItem) → IsGood s → AreGivenOut s.counter l → StayGivenOut s (carried n s l current (release s l current a)) }
+    ensures locks { (n : ℕ) (s : CoreState) (l : NfsLists) (current : Option ℕ) (a : LockArgsItem) → IsGood s → AreGivenOut s.counter l → StayGivenOut s (carried n s l (lock s l current a)) }
+    ensures tests { (n : ℕ) (s : CoreState) (l : NfsLists) (current : Option ℕ) (a : LockTestArgsItem) → IsGood s → AreGivenOut s.counter l → StayGivenOut s (carried n s l (lock_test s l current a)) }
+    ensures unlocks { (n : ℕ) (s : CoreState) (l : NfsLists) (current : Option ℕ) (a : Unlocked) → IsGood s → AreGivenOut s.counter l → StayGivenOut s (carried n s l (unlock s l current a)) }
+    ensures releases { (n : ℕ) (s : CoreState) (l : NfsLists) (current : Option ℕ) (a : OwnerItem) → IsGood s → AreGivenOut s.counter l → StayGivenOut s (carried n s l (release s l current a)) }
 {}

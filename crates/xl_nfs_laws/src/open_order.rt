@@ -33,21 +33,21 @@ ghost use Rattle.xl_nfs_opens.specs.declared.told.Told.TheVariants.{Opened};
 /// comes to.
 pub fn stateids_stay_orderly()
     ensures start { IsOrderly no_lists }
-    ensures opens { (n : ℕ) (files : List (List ℕ)) (others : ℕ) (s : CoreState) (l : NfsLists) (current : Option ℕ) (a : OpenArgsItem) → IsOrderly l → IsOrderly (carried n s l current (open_file files others s l current a)).3 }
-    ensures confirms { (n : ℕ) (s : CoreState) (l : NfsLists) (current : Option ℕ) (a : OpenConfirmArgs) → IsOrderly l → IsOrderly (carried n s l current (open_confirm s l current a)).3 }
-    ensures downgrades { (n : ℕ) (s : CoreState) (l : NfsLists) (current : Option ℕ) (a : OpenDowngradeArgs) → IsOrderly l → IsOrderly (carried n s l current (open_downgrade s l current a)).3 }
-    ensures closes { (n : ℕ) (s : CoreState) (l : NfsLists) (current : Option ℕ) (a : CloseArgs) → IsOrderly l → IsOrderly (carried n s l current (close s l current a)).3 }
-    ensures returns { (n : ℕ) (s : CoreState) (l : NfsLists) (current : Option ℕ) (stateid : Stateid) → IsOrderly l → IsOrderly (carried n s l current (deleg_return s l current stateid)).3 }
+    ensures opens { (n : ℕ) (files : List (List ℕ)) (others : ℕ) (s : CoreState) (l : NfsLists) (current : Option ℕ) (a : OpenArgsItem) → IsOrderly l → IsOrderly (carried n s l (open_file files others s l current a)).3 }
+    ensures confirms { (n : ℕ) (s : CoreState) (l : NfsLists) (current : Option ℕ) (a : OpenConfirmArgs) → IsOrderly l → IsOrderly (carried n s l (open_confirm s l current a)).3 }
+    ensures downgrades { (n : ℕ) (s : CoreState) (l : NfsLists) (current : Option ℕ) (a : OpenDowngradeArgs) → IsOrderly l → IsOrderly (carried n s l (open_downgrade s l current a)).3 }
+    ensures closes { (n : ℕ) (s : CoreState) (l : NfsLists) (current : Option ℕ) (a : CloseArgs) → IsOrderly l → IsOrderly (carried n s l (close s l current a)).3 }
+    ensures returns { (n : ℕ) (s : CoreState) (l : NfsLists) (current : Option ℕ) (stateid : Stateid) → IsOrderly l → IsOrderly (carried n s l (deleg_return s l current stateid)).3 }
 {}
 
 /// The stateid that an OPEN tells names one open from then on: its owner's, on the file that is the current one then, not
 /// closed, with the access and the deny that were asked (RFC 7530 9.1.4, 16.16).
 pub fn told_opens_are_known()
-    ensures { (n : ℕ) (files : List (List ℕ)) (others : ℕ) (s : CoreState) (l : NfsLists) (current : Option ℕ) (at : ℕ) (c : ClientRow) (a : OpenArgsItem) (stateid : Stateid) (flags : ℕ) (delegation : Option (Stateid × Bool)) → IsOrderly l → client_in s l a.owner.clientid ≡ Some c → (carried n s l current (open_judged files others s l current at (opener_of c a) a (judged l (opener_of c a) a.seqid))).0 ≡ Opened stateid flags delegation → IsKnown (opener_of c a) a stateid (carried n s l current (open_judged files others s l current at (opener_of c a) a (judged l (opener_of c a) a.seqid))) }
+    ensures { (n : ℕ) (files : List (List ℕ)) (others : ℕ) (s : CoreState) (l : NfsLists) (current : Option ℕ) (at : ℕ) (c : ClientRow) (a : OpenArgsItem) (stateid : Stateid) (flags : ℕ) (delegation : Option (Stateid × Bool)) → IsOrderly l → client_in s l a.owner.clientid ≡ Some c → (carried n s l (open_judged files others s l current at (opener_of c a) a (judged l (opener_of c a) a.seqid))).0 ≡ Opened stateid flags delegation → IsKnown (opener_of c a) a stateid (carried n s l (open_judged files others s l current at (opener_of c a) a (judged l (opener_of c a) a.seqid))) }
 {}
 
 /// A CLOSE that is done marks its open closed, and leaves its owner no share on the file (RFC 7530 9.9, 16.2).
 pub fn a_close_ends_its_open()
-    ensures marked { (n : ℕ) (s : CoreState) (l : NfsLists) (current : Option ℕ) (a : CloseArgs) (r : StateidRow) (owner by : ℕ) (seqids : OwnerSeqids) → IsOrderly l → checked s l current 4 a.seqid a.stateid ≡ Passed r owner seqids → r.holder ≡ OfOpen by → option_map (λ (x : StateidRow). x.standing.closed) (find (is_stateid r.number) (carried n s l current (close_done s l current a r owner seqids None)).3.stateids) ≡ Some true }
-    ensures share { (n : ℕ) (s : CoreState) (l : NfsLists) (current : Option ℕ) (a : CloseArgs) (r : StateidRow) (owner number : ℕ) (seqids : OwnerSeqids) (o : OpenOwner) → IsGood s → opener_by l r.client owner ≡ Some o → number_of (NfsShare o.id o.owner) (carried n s l current (close_done s l current a r owner seqids None)).4.names ≡ Some number → shares_of r.file (Name Nfs number) (carried n s l current (close_done s l current a r owner seqids None)).4.claims ≡ [] }
+    ensures marked { (n : ℕ) (s : CoreState) (l : NfsLists) (current : Option ℕ) (a : CloseArgs) (r : StateidRow) (owner by : ℕ) (seqids : OwnerSeqids) → IsOrderly l → checked s l current 4 a.seqid a.stateid ≡ Passed r owner seqids → r.holder ≡ OfOpen by → option_map (λ (x : StateidRow). x.standing.closed) (find (is_stateid r.number) (carried n s l (close_done s l current a r owner seqids None)).3.stateids) ≡ Some true }
+    ensures share { (n : ℕ) (s : CoreState) (l : NfsLists) (current : Option ℕ) (a : CloseArgs) (r : StateidRow) (owner number : ℕ) (seqids : OwnerSeqids) (o : OpenOwner) → IsGood s → opener_by l r.client owner ≡ Some o → number_of (NfsShare o.id o.owner) (carried n s l (close_done s l current a r owner seqids None)).4.names ≡ Some number → shares_of r.file (Name Nfs number) (carried n s l (close_done s l current a r owner seqids None)).4.claims ≡ [] }
 {}

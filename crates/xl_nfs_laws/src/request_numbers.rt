@@ -18,7 +18,7 @@ ghost use Rattle.xl_front_nfs.specs.Steps.{planned};
 /// each operation, by a whole request, as time passes and as clients expire.
 pub fn stateids_have_given_numbers()
     ensures start { (last : ℕ) → AreGivenOut last empty_nfs_front.state }
-    ensures operations { (n : ℕ) (files : List (List ℕ)) (others : ℕ) (s : CoreState) (l : NfsLists) (current : Option ℕ) (item : OpItem) → IsGood s → AreGivenOut s.counter l → StayGivenOut s (carried n s l current (planned files others s l current item)) }
+    ensures operations { (n : ℕ) (files : List (List ℕ)) (others : ℕ) (s : CoreState) (l : NfsLists) (current : Option ℕ) (item : OpItem) → IsGood s → AreGivenOut s.counter l → StayGivenOut s (carried n s l (planned files others s l current item)) }
     ensures requests { (n : ℕ) (exports : Exports) (others : ℕ) (f : FrontNfs) (s : CoreState) (conn : ℕ) (r : RequestItem) → IsGood s → AreGivenOut s.counter f.state → AreGivenOut (nfs_step n exports others f s conn r).3.counter (nfs_step n exports others f s conn r).2.state }
     ensures ticks { (last : ℕ) (f : FrontNfs) (now : Moment) → AreGivenOut last f.state → AreGivenOut last (nfs_tick f now).state }
     ensures shown { (last : ℕ) (f : FrontNfs) (effect : CoreEffect) → AreGivenOut last f.state → AreGivenOut last (nfs_shown f effect).state }

@@ -34,7 +34,7 @@ ghost use Rattle.xl_front_nfs.specs.Steps.{planned};
 /// request, as time passes and as clients expire; so it is at all times.
 pub fn stateids_are_orderly()
     ensures start { IsOrderly empty_nfs_front.state }
-    ensures operations { (n : ℕ) (files : List (List ℕ)) (others : ℕ) (s : CoreState) (l : NfsLists) (current : Option ℕ) (item : OpItem) → IsOrderly l → IsOrderly (carried n s l current (planned files others s l current item)).3 }
+    ensures operations { (n : ℕ) (files : List (List ℕ)) (others : ℕ) (s : CoreState) (l : NfsLists) (current : Option ℕ) (item : OpItem) → IsOrderly l → IsOrderly (carried n s l (planned files others s l current item)).3 }
     ensures requests { (n : ℕ) (exports : Exports) (others : ℕ) (f : FrontNfs) (s : CoreState) (conn : ℕ) (r : RequestItem) → IsOrderly f.state → IsOrderly (nfs_step n exports others f s conn r).2.state }
     ensures ticks { (f : FrontNfs) (now : Moment) → IsOrderly f.state → IsOrderly (nfs_tick f now).state }
     ensures shown { (f : FrontNfs) (effect : CoreEffect) → IsOrderly f.state → IsOrderly (nfs_shown f effect).state }
@@ -43,7 +43,7 @@ pub fn stateids_are_orderly()
 /// An operation that is no owner's request changes no owner: each that is there afterwards stood so before, with the seqid of
 /// its last request (RFC 7530 9.1.7). Owners go with their client alone.
 pub fn only_owners_requests_count()
-    ensures { (n : ℕ) (files : List (List ℕ)) (others : ℕ) (s : CoreState) (l : NfsLists) (current : Option ℕ) (item : OpItem) (o : OwnerRow) → has_seqid item ≡ false → IsIn o (carried n s l current (planned files others s l current item)).3.owners → IsIn o l.owners }
+    ensures { (n : ℕ) (files : List (List ℕ)) (others : ℕ) (s : CoreState) (l : NfsLists) (current : Option ℕ) (item : OpItem) (o : OwnerRow) → has_seqid item ≡ false → IsIn o (carried n s l (planned files others s l current item)).3.owners → IsIn o l.owners }
 {}
 
 /// Each client has a delegation on a file exactly where it has a cache there, both of one kind (RFC 7530 10.4). So it is at a
@@ -51,7 +51,7 @@ pub fn only_owners_requests_count()
 /// ended or who didn't return a delegation in time, all its caches go, and once the front is told all its delegations.
 pub fn delegations_are_caches()
     ensures start { (stable : StableRecord) (clock : Moment) (times : CoreTimes) → AreTied (started stable clock times) empty_nfs_front.state }
-    ensures operations { (n : ℕ) (files : List (List ℕ)) (others : ℕ) (s : CoreState) (l : NfsLists) (current : Option ℕ) (item : OpItem) → IsGood s → IsOrderly l → AreTied s l → AreTied (carried n s l current (planned files others s l current item)).4 (carried n s l current (planned files others s l current item)).3 }
+    ensures operations { (n : ℕ) (files : List (List ℕ)) (others : ℕ) (s : CoreState) (l : NfsLists) (current : Option ℕ) (item : OpItem) → IsGood s → IsOrderly l → AreTied s l → AreTied (carried n s l (planned files others s l current item)).4 (carried n s l (planned files others s l current item)).3 }
     ensures requests { (n : ℕ) (exports : Exports) (others : ℕ) (f : FrontNfs) (s : CoreState) (conn : ℕ) (r : RequestItem) → IsGood s → IsOrderly f.state → AreTied s f.state → AreTied (nfs_step n exports others f s conn r).3 (nfs_step n exports others f s conn r).2.state }
     ensures ticks { (s : CoreState) (f : FrontNfs) (now : Moment) → IsGood s → AreTied s f.state → AreTied s (nfs_tick f now).state }
     ensures expires { (n : ℕ) (s : CoreState) (gone : List (List ℕ)) (l : NfsLists) (id : List ℕ) → IsGood s → first_ended s.clock s.leases ≡ Some id → AreTiedBut gone s l → AreTiedBut (id ∷ gone) (done n s (Expires id)) l }

@@ -13,16 +13,16 @@ ghost use Rattle.xl_nfs_state.specs.declared.client.ClientRow.{ClientRow};
 ghost use Rattle.xl_programs.specs.Programs.{RequestItem};
 ghost use Rattle.xl_programs.specs.Sent.{sent_to};
 ghost use Rattle.xl_core.specs.Deeds.{Renews, all_done, all_told_of, AreFit};
-ghost use Rattle.xl_core.specs.Rows.{all_ran, all_deeds};
 ghost use Rattle.xl_core.specs.Good.{IsGood};
 ghost use Rattle.xl_core.specs.State.{CoreState};
 ghost use Rattle.xl_front_nfs.specs.FrontNfs.{nfs_deeds, nfs_reply, nfs_step};
 ghost use Rattle.xl_nfs_opens.specs.Owners.{Names, AreBy};
-ghost use Rattle.xl_nfs_opens.specs.Plans.{deeds_of, carried, status_of};
+ghost use Rattle.xl_plan.specs.Plans.{deeds_of, carried as plan_carried};
+ghost use Rattle.xl_nfs_opens.specs.Plans.{carried, status_of};
 ghost use Rattle.xl_core.specs.declared.ask.Effect.TheVariants.{Begun};
 ghost use Rattle.xl_front_nfs.specs.Recalls.{recalls, IsRecall};
 ghost use Rattle.xl_front_nfs.specs.State.{FrontNfs, nfs_tick};
-ghost use Rattle.xl_front_nfs.specs.Steps.{planned, Step, Course, ran, step_deeds};
+ghost use Rattle.xl_front_nfs.specs.Steps.{planned, Step, Course, step_plan, goes_on, compound};
 ghost use Rattle.xl_nfs_laws.specs.RequestOwners.{IsToRenew, AreTheirs};
 
 /// A request leaves the core as its deeds do, and tells of what they tell of.
@@ -62,9 +62,9 @@ pub fn replies_go_back()
 /// it is the last that is told, and there are no deeds but those before it and its own.
 #[tactic(auto, using(crate::proofs::HandleLaws::handle_stays, crate::proofs::HandleLaws::nothing_behind, crate::proofs::HandleLaws::no_deeds_behind))]
 pub fn a_failure_ends_it()
-    ensures handle { (n : ℕ) (files : List (List ℕ)) (others : ℕ) (s : CoreState) (l : NfsLists) (current : Option ℕ) (item : OpItem) → is_ok (status_of (carried n s l current (planned files others s l current item)).0) ≡ false → (carried n s l current (planned files others s l current item)).1 ≡ current }
-    ensures last { (n : ℕ) (files : List (List ℕ)) (others : ℕ) (c : Course) (s : CoreState) (step : Step) (steps : List Step) → is_ok (ran files others n c s step).1.status ≡ false → all_ran (ran files others) n c s (step ∷ steps) ≡ ran files others n c s step }
-    ensures deeds { (n : ℕ) (files : List (List ℕ)) (others : ℕ) (c : Course) (s : CoreState) (step : Step) (steps : List Step) → is_ok (ran files others n c s step).1.status ≡ false → all_deeds (ran files others) (step_deeds files others) n c s (step ∷ steps) ≡ step_deeds files others n c s step }
+    ensures handle { (n : ℕ) (files : List (List ℕ)) (others : ℕ) (s : CoreState) (l : NfsLists) (current : Option ℕ) (item : OpItem) → is_ok (status_of (carried n s l (planned files others s l current item)).0) ≡ false → (carried n s l (planned files others s l current item)).1 ≡ current }
+    ensures last { (n : ℕ) (files : List (List ℕ)) (others : ℕ) (c : Course) (s : CoreState) (l : NfsLists) (step : Step) (steps : List Step) → goes_on (plan_carried n s l (step_plan files others c s l step)).0 ≡ false → plan_carried n s l (compound files others c s l (step ∷ steps)) ≡ plan_carried n s l (step_plan files others c s l step) }
+    ensures deeds { (n : ℕ) (files : List (List ℕ)) (others : ℕ) (c : Course) (s : CoreState) (l : NfsLists) (step : Step) (steps : List Step) → goes_on (plan_carried n s l (step_plan files others c s l step)).0 ≡ false → deeds_of n s (compound files others c s l (step ∷ steps)) ≡ deeds_of n s (step_plan files others c s l step) }
 {}
 
 /// At a moment exactly the unconfirmed records go whose time has come.

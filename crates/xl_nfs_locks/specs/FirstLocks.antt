@@ -29,7 +29,8 @@ use Rattle.xl_nfs_locks.specs.declared.joining.Joined.TheVariants.{Bad, Again, J
 use Rattle.xl_nfs_opens.specs.Closing.{checked, standing_fault, failed, next_seqids, state_told}
 use Rattle.xl_core.specs.Ids.{number_in}
 use Rattle.xl_nfs_opens.specs.Opens.{all_rooms, client_in, is_granted, live, repeated, stood}
-use Rattle.xl_nfs_opens.specs.Plans.{Plan, Does, Asking, status_of}
+use Rattle.xl_plan.specs.Plans.{Does, Asking}
+use Rattle.xl_nfs_opens.specs.Plans.{Plan, status_of}
 use Rattle.xl_nfs_opens.specs.Renewing.{stateid_of, state_client, renewing}
 use Rattle.xl_nfs_opens.specs.Results.{spelled}
 use Rattle.xl_nfs_opens.specs.Seqids.{advances, counted, is_opener, is_room_for, opener_number, remembered}
@@ -51,7 +52,7 @@ counted_both b o bytes l = remembered o (next_seqids 12 b.lock_seqid true None) 
 
 -- it was refused, and counts with both where its status does (NFS-24)
 abbrev pub both_refused : NfsLists → Option ℕ → BothOwners → Opener → Told → Plan
-both_refused l current b o told = Does [] (if advances (status_of told) then counted_both b o (spelled 12 told) l else l) current told
+both_refused l current b o told = Does [] (if advances (status_of told) then counted_both b o (spelled 12 told) l else l) (told, current)
 
 -- ---- the stateid
 
@@ -83,11 +84,11 @@ abbrev pub joined_new : CoreState → NfsLists → Option ℕ → BothOwners →
 joined_new s l current b o r =
     let told = State (stateid_of (drawn s) (s.counter + 1) 1) in
     let m = counted_both b o (spelled 12 told) l in
-    Does (Draws ∷ []) (entered (lock_row (s.counter + 1) r b.number (opener_number o m)) m) current told
+    Does (Draws ∷ []) (entered (lock_row (s.counter + 1) r b.number (opener_number o m)) m) (told, current)
 
 -- the owner has one under the open: its seqid is the next (NFS-26)
 abbrev pub joined_more : CoreState → NfsLists → Option ℕ → BothOwners → Opener → StateidRow → Plan
-joined_more s l current b o q = Does [] (counted_both b o (spelled 12 (state_told s q)) (stood q.number q 0 0 false l)) current (state_told s q)
+joined_more s l current b o q = Does [] (counted_both b o (spelled 12 (state_told s q)) (stood q.number q 0 0 false l)) (state_told s q, current)
 
 abbrev pub joined_by : CoreState → NfsLists → Option ℕ → BothOwners → Opener → StateidRow → Option StateidRow → Plan
 joined_by s l current b o r None = joined_new s l current b o r
@@ -103,7 +104,7 @@ abbrev pub join_to : NfsLists → Option ℕ → LockArgsItem → BothOwners →
 join_to l current a b o r q (Err status) = both_refused l current b o (Ended status)
 join_to l current a b o r q (Ok last) =
     if is_room_for o l then Asking all_rooms (lock_ask o r.file a.kind a.reclaim a.offset last) (join_answered l current b o r q a.reclaim)
-    else Does [] l current (Ended statuses.Resource)
+    else Does [] l (Ended statuses.Resource, current)
 
 abbrev pub join_in : NfsLists → Option ℕ → LockArgsItem → BothOwners → Opener → StateidRow → Option StateidRow → Plan
 join_in l current a b o r q = join_to l current a b o r q (lock_end a.kind r.standing.access (last_byte a.offset a.len))
@@ -133,11 +134,11 @@ found_joined l r o seqid = by_row l r seqid (find (is_opener o) l.owners)
 
 -- its last LOCK comes again: the kept result is the answer, with which the open's owner counts (NFS-25)
 abbrev pub join_again : NfsLists → Option ℕ → BothOwners → Option KeptRow → Plan
-join_again l current b None = Does [] l current (Ended statuses.BadSeqid)
-join_again l current b (Some k) = Does [] (counted_open b k.result l) current (Kept k.result)
+join_again l current b None = Does [] l (Ended statuses.BadSeqid, current)
+join_again l current b (Some k) = Does [] (counted_open b k.result l) (Kept k.result, current)
 
 abbrev pub join_as : NfsLists → Option ℕ → LockArgsItem → BothOwners → Opener → StateidRow → Joined → Plan
-join_as l current a b o r Bad = Does [] l current (Ended statuses.BadSeqid)
+join_as l current a b o r Bad = Does [] l (Ended statuses.BadSeqid, current)
 join_as l current a b o r (Again owner) = join_again l current b (find (is_kept owner) l.kept)
 join_as l current a b o r (Joins q) = join_in l current a b o r q
 
@@ -163,7 +164,7 @@ abbrev pub both_of : NewLockerItem → ℕ → SeqidState → BothOwners
 both_of x owner seqids = record { number = owner; seqids = seqids; open_seqid = x.open_seqid; lock_seqid = x.lock_seqid }
 
 abbrev pub join_checked : CoreState → NfsLists → Option ℕ → LockArgsItem → NewLockerItem → Checked → Plan
-join_checked s l current a x (Refused status) = Does [] l current (Ended status)
+join_checked s l current a x (Refused status) = Does [] l (Ended status, current)
 join_checked s l current a x (Repeated owner) = repeated s l current (find (is_kept owner) l.kept)
 join_checked s l current a x (Passed r owner seqids) = join_standing s l current a x (both_of x owner seqids) r (standing_fault r seqids x.open_stateid.seqid true)
 

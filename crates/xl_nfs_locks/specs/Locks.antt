@@ -18,7 +18,8 @@ use Rattle.xl_nfs_locks.specs.Denials.{lock_told}
 use Rattle.xl_nfs_locks.specs.Ranges.{last_byte, lock_ask, may_lock}
 use Rattle.xl_nfs_opens.specs.Closing.{standing_fault, failed, next_seqids, done_lists, state_told, opener_by}
 use Rattle.xl_nfs_opens.specs.Opens.{all_rooms, is_granted, repeated}
-use Rattle.xl_nfs_opens.specs.Plans.{Plan, Does, Asking, status_of}
+use Rattle.xl_plan.specs.Plans.{Does, Asking}
+use Rattle.xl_nfs_opens.specs.Plans.{Plan, status_of}
 use Rattle.xl_nfs_opens.specs.Renewing.{state_client, renewing}
 use Rattle.xl_nfs_opens.specs.Results.{spelled}
 use Rattle.xl_nfs_opens.specs.Seqids.{advances, counted}
@@ -36,15 +37,15 @@ refused_lists l owner seqids seqid told =
     if advances (status_of told) then counted owner seqids.closed (next_seqids 12 seqid seqids.confirmed None) (spelled 12 told) l else l
 
 abbrev pub lock_refused : NfsLists → Option ℕ → ℕ → SeqidState → ℕ → Told → Plan
-lock_refused l current owner seqids seqid told = Does [] (refused_lists l owner seqids seqid told) current told
+lock_refused l current owner seqids seqid told = Does [] (refused_lists l owner seqids seqid told) (told, current)
 
 abbrev pub lock_answered : NfsLists → Option ℕ → StateidRow → ℕ → SeqidState → ℕ → Bool → Answer → CoreState → Plan
 lock_answered l current r owner seqids seqid reclaim answer s =
-    if is_granted answer then Does [] (done_lists s l r owner seqids 12 seqid seqids.confirmed None 0 0 false) current (state_told s r)
+    if is_granted answer then Does [] (done_lists s l r owner seqids 12 seqid seqids.confirmed None 0 0 false) (state_told s r, current)
     else lock_refused l current owner seqids seqid (lock_told s l reclaim answer)
 
 abbrev pub lock_by_owner : NfsLists → Option ℕ → LockArgsItem → StateidRow → ℕ → SeqidState → ℕ → ℕ → Option Opener → Plan
-lock_by_owner l current a r owner seqids seqid last None = Does [] l current (Ended statuses.ServerFault)
+lock_by_owner l current a r owner seqids seqid last None = Does [] l (Ended statuses.ServerFault, current)
 lock_by_owner l current a r owner seqids seqid last (Some o) =
     Asking all_rooms (lock_ask o r.file a.kind a.reclaim a.offset last) (lock_answered l current r owner seqids seqid a.reclaim)
 
@@ -73,7 +74,7 @@ lock_standing l current a r owner seqids seqid (Some status) = failed l current 
 lock_standing l current a r owner seqids seqid None = lock_to l current a r owner seqids seqid (lock_end a.kind (access_above l r.holder) (last_byte a.offset a.len))
 
 abbrev pub lock_found : CoreState → NfsLists → Option ℕ → LockArgsItem → KnownLocker → Checked → Plan
-lock_found s l current a x (Refused status) = Does [] l current (Ended status)
+lock_found s l current a x (Refused status) = Does [] l (Ended status, current)
 lock_found s l current a x (Repeated owner) = repeated s l current (find (is_kept owner) l.kept)
 lock_found s l current a x (Passed r owner seqids) = lock_standing l current a r owner seqids x.seqid (standing_fault r seqids x.stateid.seqid true)
 

@@ -15,7 +15,8 @@ use Rattle.xl_table.specs.Relock.{holds_range}
 use Rattle.xl_core.specs.State.{CoreState}
 use Rattle.xl_core.specs.Ids.{number_in}
 use Rattle.xl_nfs_opens.specs.Opens.{client_in}
-use Rattle.xl_nfs_opens.specs.Plans.{Plan, Does}
+use Rattle.xl_plan.specs.Plans.{Does}
+use Rattle.xl_nfs_opens.specs.Plans.{Plan}
 use Rattle.xl_nfs_opens.specs.Renewing.{renewing}
 use Rattle.xl_nfs_opens.specs.declared.told.Told.TheVariants.{Ended}
 
@@ -36,10 +37,10 @@ unfoldable pub released : ℕ → List ℕ → NfsLists → NfsLists
 released client owner l = without_found l (find (is_owner_named client Locks owner) l.owners)
 
 abbrev pub release_of : CoreState → NfsLists → Option ℕ → List ℕ → Option ClientRow → Plan
-release_of s l current owner None = Does [] l current (Ended statuses.StaleClientId)
+release_of s l current owner None = Does [] l (Ended statuses.StaleClientId, current)
 release_of s l current owner (Some c) =
-    if holds_any s c.id owner then Does [] l current (Ended statuses.LocksHeld)
-    else Does [] (released c.number owner l) current (Ended statuses.Ok)
+    if holds_any s c.id owner then Does [] l (Ended statuses.LocksHeld, current)
+    else Does [] (released c.number owner l) (Ended statuses.Ok, current)
 
 -- the client is renewed before
 unfoldable pub release : CoreState → NfsLists → Option ℕ → OwnerItem → Plan

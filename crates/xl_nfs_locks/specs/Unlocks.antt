@@ -16,7 +16,8 @@ use Rattle.xl_nfs_locks.specs.Ranges.{last_byte}
 use Rattle.xl_nfs_opens.specs.Asks.{unlock_ask}
 use Rattle.xl_nfs_opens.specs.Closing.{standing_fault, failed, done_lists, state_told, opener_by}
 use Rattle.xl_nfs_opens.specs.Opens.{all_rooms, answer_status, repeated}
-use Rattle.xl_nfs_opens.specs.Plans.{Plan, Does, Asking}
+use Rattle.xl_plan.specs.Plans.{Does, Asking}
+use Rattle.xl_nfs_opens.specs.Plans.{Plan}
 use Rattle.xl_nfs_opens.specs.Renewing.{state_client, renewing}
 use Rattle.xl_nfs_opens.specs.declared.opener.Checked.{Checked}
 use Rattle.xl_nfs_opens.specs.declared.opener.Checked.TheVariants.{Refused, Repeated, Passed}
@@ -31,11 +32,11 @@ unlock_status answer = answer_status false answer
 
 abbrev pub unlocked_as : CoreState → NfsLists → Option ℕ → UnlockArgs → StateidRow → ℕ → SeqidState → NfsStatus → Plan
 unlocked_as s l current a r owner seqids status =
-    if is_ok status then Does [] (done_lists s l r owner seqids 14 a.seqid seqids.confirmed None 0 0 false) current (state_told s r)
+    if is_ok status then Does [] (done_lists s l r owner seqids 14 a.seqid seqids.confirmed None 0 0 false) (state_told s r, current)
     else failed l current owner seqids 14 a.seqid status
 
 abbrev pub unlock_by_owner : NfsLists → Option ℕ → UnlockArgs → StateidRow → ℕ → SeqidState → ℕ → Option Opener → Plan
-unlock_by_owner l current a r owner seqids last None = Does [] l current (Ended statuses.ServerFault)
+unlock_by_owner l current a r owner seqids last None = Does [] l (Ended statuses.ServerFault, current)
 unlock_by_owner l current a r owner seqids last (Some o) = Asking all_rooms (unlock_ask o r.file a.offset last) (λ answer t. unlocked_as t l current a r owner seqids (unlock_status answer))
 
 abbrev pub unlock_to : NfsLists → Option ℕ → UnlockArgs → StateidRow → ℕ → SeqidState → Option ℕ → Plan
@@ -47,7 +48,7 @@ unlock_standing l current a r owner seqids (Some status) = failed l current owne
 unlock_standing l current a r owner seqids None = unlock_to l current a r owner seqids (last_byte a.offset a.len)
 
 abbrev pub unlock_found : CoreState → NfsLists → Option ℕ → UnlockArgs → Checked → Plan
-unlock_found s l current a (Refused status) = Does [] l current (Ended status)
+unlock_found s l current a (Refused status) = Does [] l (Ended status, current)
 unlock_found s l current a (Repeated owner) = repeated s l current (find (is_kept owner) l.kept)
 unlock_found s l current a (Passed r owner seqids) = unlock_standing l current a r owner seqids (standing_fault r seqids a.stateid.seqid true)
 

@@ -13,7 +13,8 @@ ghost use Rattle.xl_nfs_opens.specs.Opens.{client_in, is_granted};
 ghost use Rattle.xl_nfs_opens.specs.Plans.{carried};
 ghost use Rattle.xl_nfs_opens.specs.Results.{spelled, ToldFits};
 ghost use Rattle.xl_nfs_opens.specs.Seqids.{is_room_for};
-ghost use Rattle.xl_nfs_opens.specs.Short.{IsReady, Leaves};
+ghost use Rattle.xl_plan.specs.Budgets.{IsReady};
+ghost use Rattle.xl_nfs_opens.specs.Short.{Leaves};
 
 use crate::asks::lock_ask;
 use crate::denials::lock_told;
@@ -103,7 +104,7 @@ fn refuse_both(
     requires owner { IsSome (find (is_owner both.number) state.old.owners) }
     requires client { IsSome (find (is_client locker.now.client true) state.old.clients) }
     requires fits { ToldFits 12 told }
-    ensures { (n : ℕ) (s : CoreState) → IfOk result (λ r. carried n s state.old current (both_refused state.old current both locker.now told) ≡ (r.0, r.1, [], state.new, s)) }
+    ensures { (n : ℕ) (s : CoreState) → IfOk result (λ r. carried n s state.old (both_refused state.old current both locker.now told) ≡ (r.0, r.1, [], state.new, s)) }
 {
     if advances(told.status()) {
         count_both(alloc, state, both, locker, &told)?;
@@ -176,7 +177,7 @@ fn join_new(
     requires owner { IsSome (find (is_owner both.number) state.old.owners) }
     requires client { IsSome (find (is_client locker.now.client true) state.old.clients) }
     requires ready { IsReady 0 core.old }
-    ensures done { (n : ℕ) (current : Option ℕ) → IfOk result (λ told. carried n core.old state.old current (joined_new core.old state.old current both locker.now above.now) ≡ (told, current, [], state.new, core.new)) }
+    ensures done { (n : ℕ) (current : Option ℕ) → IfOk result (λ told. carried n core.old state.old (joined_new core.old state.old current both locker.now above.now) ≡ (told, current, [], state.new, core.new)) }
     ensures leaves { OnOk result (Leaves 1 core.old core.new) }
 {
     let number = u64::from(drawn(core));
@@ -200,7 +201,7 @@ fn join_more(
     requires client { IsSome (find (is_client locker.now.client true) state.old.clients) }
     requires there { find (is_stateid lock.now.number) state.old.stateids ≡ Some lock.now }
     requires open { lock.now.standing.closed ≡ false }
-    ensures done { (n : ℕ) (current : Option ℕ) → IfOk result (λ told. carried n core.now state.old current (joined_more core.now state.old current both locker.now lock.now) ≡ (told, current, [], state.new, core.now)) }
+    ensures done { (n : ℕ) (current : Option ℕ) → IfOk result (λ told. carried n core.now state.old (joined_more core.now state.old current both locker.now lock.now) ≡ (told, current, [], state.new, core.now)) }
 {
     let told = state_told(core, lock);
     stand(state, lock, 0, 0, false);
@@ -209,7 +210,7 @@ fn join_more(
 }
 
 /// It is granted.
-#[tactic(auto, using(xl_nfs_opens::proofs::LeaveLaws::leaves_self, xl_nfs_opens::proofs::LeaveLaws::leaves_more))]
+#[tactic(auto, using(xl_plan::proofs::BudgetLaws::leaves_self, xl_plan::proofs::BudgetLaws::leaves_more))]
 fn join_granted(
     alloc: Global,
     state: &mut NfsState,
@@ -223,7 +224,7 @@ fn join_granted(
     requires client { IsSome (find (is_client locker.now.client true) state.old.clients) }
     requires had { IfSome had (λ lock. (find (is_stateid lock.number) state.old.stateids ≡ Some lock) × (lock.standing.closed ≡ false)) }
     requires ready { IsReady 0 core.old }
-    ensures done { (n : ℕ) (current : Option ℕ) → IfOk result (λ told. carried n core.old state.old current (joined_by core.old state.old current both locker.now above.now had) ≡ (told, current, [], state.new, core.new)) }
+    ensures done { (n : ℕ) (current : Option ℕ) → IfOk result (λ told. carried n core.old state.old (joined_by core.old state.old current both locker.now above.now had) ≡ (told, current, [], state.new, core.new)) }
     ensures leaves { OnOk result (Leaves 1 core.old core.new) }
 {
     match had {
@@ -239,7 +240,7 @@ fn join_granted(
 }
 
 /// LOCK by the core's answer.
-#[tactic(auto, using(crate::proofs::LockLaws::lock_told_fits, xl_nfs_opens::proofs::LeaveLaws::leaves_self, xl_nfs_opens::proofs::LeaveLaws::leaves_more, xl_nfs_opens::proofs::LeaveLaws::ready_less))]
+#[tactic(auto, using(crate::proofs::LockLaws::lock_told_fits, xl_plan::proofs::BudgetLaws::leaves_self, xl_plan::proofs::BudgetLaws::leaves_more, xl_plan::proofs::BudgetLaws::ready_less))]
 fn join_answered(
     alloc: Global,
     state: &mut NfsState,
@@ -256,7 +257,7 @@ fn join_answered(
     requires client { IsSome (find (is_client locker.now.client true) state.old.clients) }
     requires had { IfSome had (λ lock. (find (is_stateid lock.number) state.old.stateids ≡ Some lock) × (lock.standing.closed ≡ false)) }
     requires ready { IsReady 2 core.old }
-    ensures done { (n : ℕ) → IfOk result (λ r. carried n core.old state.old current (join_answered state.old current both locker.now above.now had reclaim answer core.old) ≡ (r.0, r.1, [], state.new, core.new)) }
+    ensures done { (n : ℕ) → IfOk result (λ r. carried n core.old state.old (join_answered state.old current both locker.now above.now had reclaim answer core.old) ≡ (r.0, r.1, [], state.new, core.new)) }
     ensures leaves { OnOk result (Leaves 2 core.old core.new) }
 {
     if !is_granted(answer) {
@@ -269,7 +270,7 @@ fn join_answered(
 }
 
 /// LOCK of bytes: the core is asked.
-#[tactic(auto, using(xl_nfs_opens::proofs::LeaveLaws::ask_ready, xl_nfs_opens::proofs::LeaveLaws::asked_leaves, xl_nfs_opens::proofs::LeaveLaws::may_before))]
+#[tactic(auto, using(xl_nfs_opens::proofs::LeaveLaws::ask_ready, xl_nfs_opens::proofs::LeaveLaws::asked_leaves, xl_plan::proofs::BudgetLaws::may_before))]
 fn join_bytes<K: Keeper>(
     alloc: Global,
     state: &mut NfsState,
@@ -289,7 +290,7 @@ fn join_bytes<K: Keeper>(
     requires had { IfSome had (λ lock. (find (is_stateid lock.number) state.old.stateids ≡ Some lock) × (lock.standing.closed ≡ false)) }
     requires room { is_room_for locker.now state.old ≡ true }
     requires ends { args.now.offset ≤ last }
-    ensures done { (n : ℕ) → IfOk result (λ r. MayBe n core.new → carried n core.old state.old current (join_to state.old current (shown_lock_args args.now) both locker.now above.now had (Ok last)) ≡ (r.0, r.1, r.2, state.new, core.new)) }
+    ensures done { (n : ℕ) → IfOk result (λ r. MayBe n core.new → carried n core.old state.old (join_to state.old current (shown_lock_args args.now) both locker.now above.now had (Ok last)) ≡ (r.0, r.1, r.2, state.new, core.new)) }
     ensures leaves { OnOk result (Leaves 4 core.old core.new) }
     ensures keeper { keeper.new ≡ keeper.old }
 {
@@ -311,7 +312,7 @@ fn join_bytes<K: Keeper>(
 }
 
 /// LOCK, once both owners' seqids passed: its range, the open's access, and room for the lock owner.
-#[tactic(auto, using(crate::proofs::LockLaws::end_fits, xl_nfs_opens::proofs::LeaveLaws::leaves_self, xl_nfs_opens::proofs::LeaveLaws::leaves_more))]
+#[tactic(auto, using(crate::proofs::LockLaws::end_fits, xl_plan::proofs::BudgetLaws::leaves_self, xl_plan::proofs::BudgetLaws::leaves_more))]
 fn join_in<K: Keeper>(
     alloc: Global,
     state: &mut NfsState,
@@ -328,7 +329,7 @@ fn join_in<K: Keeper>(
     requires owner { IsSome (find (is_owner both.number) state.old.owners) }
     requires client { IsSome (find (is_client locker.now.client true) state.old.clients) }
     requires had { IfSome had (λ lock. (find (is_stateid lock.number) state.old.stateids ≡ Some lock) × (lock.standing.closed ≡ false)) }
-    ensures done { (n : ℕ) → IfOk result (λ r. MayBe n core.new → carried n core.old state.old current (join_in state.old current (shown_lock_args args.now) both locker.now above.now had) ≡ (r.0, r.1, r.2, state.new, core.new)) }
+    ensures done { (n : ℕ) → IfOk result (λ r. MayBe n core.new → carried n core.old state.old (join_in state.old current (shown_lock_args args.now) both locker.now above.now had) ≡ (r.0, r.1, r.2, state.new, core.new)) }
     ensures leaves { OnOk result (Leaves 4 core.old core.new) }
     ensures keeper { keeper.new ≡ keeper.old }
 {
@@ -402,7 +403,7 @@ fn join_again(
     owner: u64,
 ) -> Result<Done, AllocError>
     requires owner { IsSome (find (is_owner both.number) state.old.owners) }
-    ensures { (n : ℕ) (s : CoreState) → IfOk result (λ r. carried n s state.old current (join_again state.old current both (find (is_kept owner) state.old.kept)) ≡ (r.0, r.1, r.2, state.new, s)) }
+    ensures { (n : ℕ) (s : CoreState) → IfOk result (λ r. carried n s state.old (join_again state.old current both (find (is_kept owner) state.old.kept)) ≡ (r.0, r.1, r.2, state.new, s)) }
 {
     let Some(bytes) = state.find_kept(owner) else {
         return Ok(ended_as(alloc, NfsStatus::BadSeqid, current));
@@ -414,7 +415,7 @@ fn join_again(
 }
 
 /// LOCK by what the lock owner's seqid says.
-#[tactic(auto, using(xl_nfs_opens::proofs::LeaveLaws::leaves_self, xl_nfs_opens::proofs::LeaveLaws::leaves_more))]
+#[tactic(auto, using(xl_plan::proofs::BudgetLaws::leaves_self, xl_plan::proofs::BudgetLaws::leaves_more))]
 fn join_as<K: Keeper>(
     alloc: Global,
     state: &mut NfsState,
@@ -431,7 +432,7 @@ fn join_as<K: Keeper>(
     requires owner { IsSome (find (is_owner both.number) state.old.owners) }
     requires client { IsSome (find (is_client locker.now.client true) state.old.clients) }
     requires joined { IsJoined state.old joined }
-    ensures done { (n : ℕ) → IfOk result (λ r. MayBe n core.new → carried n core.old state.old current (join_as state.old current (shown_lock_args args.now) both locker.now above.now joined) ≡ (r.0, r.1, r.2, state.new, core.new)) }
+    ensures done { (n : ℕ) → IfOk result (λ r. MayBe n core.new → carried n core.old state.old (join_as state.old current (shown_lock_args args.now) both locker.now above.now joined) ≡ (r.0, r.1, r.2, state.new, core.new)) }
     ensures leaves { OnOk result (Leaves 4 core.old core.new) }
     ensures keeper { keeper.new ≡ keeper.old }
 {
@@ -463,7 +464,7 @@ fn locker_under(
 }
 
 /// LOCK by a lock owner of the open's client.
-#[tactic(auto, using(crate::proofs::LockLaws::inval_fits, crate::proofs::FirstLaws::locker_there, xl_nfs_opens::proofs::LeaveLaws::leaves_self, xl_nfs_opens::proofs::LeaveLaws::leaves_more))]
+#[tactic(auto, using(crate::proofs::LockLaws::inval_fits, crate::proofs::FirstLaws::locker_there, xl_plan::proofs::BudgetLaws::leaves_self, xl_plan::proofs::BudgetLaws::leaves_more))]
 fn join_of<K: Keeper>(
     alloc: Global,
     state: &mut NfsState,
@@ -477,7 +478,7 @@ fn join_of<K: Keeper>(
 ) -> Result<Done, AllocError>
     requires ready { IsReady 4 core.old }
     requires owner { IsSome (find (is_owner both.number) state.old.owners) }
-    ensures done { (n : ℕ) → IfOk result (λ r. MayBe n core.new → carried n core.old state.old current (join_of state.old current (shown_lock_args args.now) (shown_new_locker given.now) both above.now (locker_under above.now given.now.owner.owner.now (client_in core.old state.old given.now.owner.clientid))) ≡ (r.0, r.1, r.2, state.new, core.new)) }
+    ensures done { (n : ℕ) → IfOk result (λ r. MayBe n core.new → carried n core.old state.old (join_of state.old current (shown_lock_args args.now) (shown_new_locker given.now) both above.now (locker_under above.now given.now.owner.owner.now (client_in core.old state.old given.now.owner.clientid))) ≡ (r.0, r.1, r.2, state.new, core.new)) }
     ensures leaves { OnOk result (Leaves 4 core.old core.new) }
     ensures keeper { keeper.new ≡ keeper.old }
 {
@@ -496,7 +497,7 @@ fn join_of<K: Keeper>(
 }
 
 /// LOCK by the stateid of an open that was found.
-#[tactic(auto, using(crate::proofs::LockLaws::standing_fits, xl_nfs_opens::proofs::LeaveLaws::leaves_self, xl_nfs_opens::proofs::LeaveLaws::leaves_more))]
+#[tactic(auto, using(crate::proofs::LockLaws::standing_fits, xl_plan::proofs::BudgetLaws::leaves_self, xl_plan::proofs::BudgetLaws::leaves_more))]
 fn join_passed<K: Keeper>(
     alloc: Global,
     state: &mut NfsState,
@@ -510,7 +511,7 @@ fn join_passed<K: Keeper>(
 ) -> Result<Done, AllocError>
     requires ready { IsReady 4 core.old }
     requires owner { IsSome (find (is_owner both.number) state.old.owners) }
-    ensures done { (n : ℕ) → IfOk result (λ r. MayBe n core.new → carried n core.old state.old current (join_standing core.old state.old current (shown_lock_args args.now) (shown_new_locker given.now) both above.now (standing_fault above.now both.seqids given.now.open_stateid.seqid true)) ≡ (r.0, r.1, r.2, state.new, core.new)) }
+    ensures done { (n : ℕ) → IfOk result (λ r. MayBe n core.new → carried n core.old state.old (join_standing core.old state.old current (shown_lock_args args.now) (shown_new_locker given.now) both above.now (standing_fault above.now both.seqids given.now.open_stateid.seqid true)) ≡ (r.0, r.1, r.2, state.new, core.new)) }
     ensures leaves { OnOk result (Leaves 4 core.old core.new) }
     ensures keeper { keeper.new ≡ keeper.old }
 {
@@ -527,7 +528,7 @@ fn join_passed<K: Keeper>(
 }
 
 /// LOCK by what is found for the open's stateid.
-#[tactic(auto, using(xl_nfs_opens::proofs::LeaveLaws::leaves_self, xl_nfs_opens::proofs::LeaveLaws::leaves_more))]
+#[tactic(auto, using(xl_plan::proofs::BudgetLaws::leaves_self, xl_plan::proofs::BudgetLaws::leaves_more))]
 fn join_checked<K: Keeper>(
     alloc: Global,
     state: &mut NfsState,
@@ -540,7 +541,7 @@ fn join_checked<K: Keeper>(
 ) -> Result<Done, AllocError>
     requires ready { IsReady 4 core.old }
     requires found { IsChecked state.old found }
-    ensures done { (n : ℕ) → IfOk result (λ r. MayBe n core.new → carried n core.old state.old current (join_checked core.old state.old current (shown_lock_args args.now) (shown_new_locker given.now) found) ≡ (r.0, r.1, r.2, state.new, core.new)) }
+    ensures done { (n : ℕ) → IfOk result (λ r. MayBe n core.new → carried n core.old state.old (join_checked core.old state.old current (shown_lock_args args.now) (shown_new_locker given.now) found) ≡ (r.0, r.1, r.2, state.new, core.new)) }
     ensures leaves { OnOk result (Leaves 4 core.old core.new) }
     ensures keeper { keeper.new ≡ keeper.old }
 {
@@ -565,7 +566,7 @@ fn join_checked<K: Keeper>(
 }
 
 /// LOCK, once the lease of the open's client is renewed.
-#[tactic(auto, unfolding(crate::specs::FirstLocks::lock_named), using(xl_nfs_opens::proofs::CheckLaws::passed_there, xl_nfs_opens::proofs::LeaveLaws::leaves_then, xl_nfs_opens::proofs::LeaveLaws::ready_then))]
+#[tactic(auto, unfolding(crate::specs::FirstLocks::lock_named), using(xl_nfs_opens::proofs::CheckLaws::passed_there, xl_plan::proofs::BudgetLaws::leaves_then, xl_plan::proofs::BudgetLaws::ready_then))]
 fn lock_named<K: Keeper>(
     alloc: Global,
     state: &mut NfsState,
@@ -576,7 +577,7 @@ fn lock_named<K: Keeper>(
     given: &NewLocker,
 ) -> Result<Done, AllocError>
     requires ready { IsReady 4 core.old }
-    ensures done { (n : ℕ) → IfOk result (λ r. MayBe n core.new → carried n core.old state.old current (lock_named core.old state.old current (shown_lock_args args.now) (shown_new_locker given.now)) ≡ (r.0, r.1, r.2, state.new, core.new)) }
+    ensures done { (n : ℕ) → IfOk result (λ r. MayBe n core.new → carried n core.old state.old (lock_named core.old state.old current (shown_lock_args args.now) (shown_new_locker given.now)) ≡ (r.0, r.1, r.2, state.new, core.new)) }
     ensures leaves { OnOk result (Leaves 4 core.old core.new) }
     ensures keeper { keeper.new ≡ keeper.old }
 {
@@ -600,7 +601,7 @@ fn lock_named<K: Keeper>(
 /// owner is of another client; BAD_SEQID by the lock owner's seqid, and where it has locks on the file under another open;
 /// INVAL for a range of no bytes or past the last one, OPENMODE where the open's access doesn't allow it; RESOURCE where
 /// there is no room for the owner or for the range; DENIED with a lock that stands against it.
-#[tactic(auto, unfolding(crate::specs::FirstLocks::lock_new), using(xl_nfs_opens::proofs::LeaveLaws::leaves_then, xl_nfs_opens::proofs::LeaveLaws::ready_then))]
+#[tactic(auto, unfolding(crate::specs::FirstLocks::lock_new), using(xl_plan::proofs::BudgetLaws::leaves_then, xl_plan::proofs::BudgetLaws::ready_then))]
 pub(crate) fn lock_new<K: Keeper>(
     alloc: Global,
     state: &mut NfsState,
@@ -611,7 +612,7 @@ pub(crate) fn lock_new<K: Keeper>(
     given: &NewLocker,
 ) -> Result<Done, AllocError>
     requires ready { IsReady 4 core.old }
-    ensures done { (n : ℕ) → IfOk result (λ r. MayBe n core.new → carried n core.old state.old current (lock_new core.old state.old current (shown_lock_args args.now) (shown_new_locker given.now)) ≡ (r.0, r.1, r.2, state.new, core.new)) }
+    ensures done { (n : ℕ) → IfOk result (λ r. MayBe n core.new → carried n core.old state.old (lock_new core.old state.old current (shown_lock_args args.now) (shown_new_locker given.now)) ≡ (r.0, r.1, r.2, state.new, core.new)) }
     ensures leaves { OnOk result (Leaves 4 core.old core.new) }
     ensures keeper { keeper.new ≡ keeper.old }
 {

@@ -10,7 +10,8 @@ ghost use Rattle.xl_nfs_opens.specs.Closing.{standing_fault, IsChecked};
 ghost use Rattle.xl_nfs_opens.specs.Opens.{is_granted};
 ghost use Rattle.xl_nfs_opens.specs.Plans.{carried};
 ghost use Rattle.xl_nfs_opens.specs.Results.{ToldFits};
-ghost use Rattle.xl_nfs_opens.specs.Short.{IsReady, Leaves};
+ghost use Rattle.xl_plan.specs.Budgets.{IsReady};
+ghost use Rattle.xl_nfs_opens.specs.Short.{Leaves};
 
 use crate::asks::lock_ask;
 use crate::checking::find_locks;
@@ -38,7 +39,7 @@ fn refuse(
 ) -> Result<(Told, Option<u32>), AllocError>
     requires there { IsSome (find (is_owner owner) state.old.owners) }
     requires fits { ToldFits 12 told }
-    ensures { (n : ℕ) (s : CoreState) → IfOk result (λ r. carried n s state.old current (lock_refused state.old current owner seqids seqid told) ≡ (r.0, r.1, [], state.new, s)) }
+    ensures { (n : ℕ) (s : CoreState) → IfOk result (λ r. carried n s state.old (lock_refused state.old current owner seqids seqid told) ≡ (r.0, r.1, [], state.new, s)) }
 {
     let op = operation::LOCK;
     if advances(told.status()) {
@@ -73,7 +74,7 @@ fn lock_answered(
     requires owner { IsSome (find (is_owner owner) state.old.owners) }
     requires there { find (is_stateid row.now.number) state.old.stateids ≡ Some row.now }
     requires open { row.now.standing.closed ≡ false }
-    ensures { (n : ℕ) → IfOk result (λ r. carried n core.now state.old current (lock_answered state.old current row.now owner seqids seqid reclaim answer core.now) ≡ (r.0, r.1, [], state.new, core.now)) }
+    ensures { (n : ℕ) → IfOk result (λ r. carried n core.now state.old (lock_answered state.old current row.now owner seqids seqid reclaim answer core.now) ≡ (r.0, r.1, [], state.new, core.now)) }
 {
     if !is_granted(answer) {
         let told = lock_told(alloc, state, core, reclaim, answer)?;
@@ -116,7 +117,7 @@ fn lock_bytes<K: Keeper>(
     requires there { find (is_stateid row.now.number) state.old.stateids ≡ Some row.now }
     requires open { row.now.standing.closed ≡ false }
     requires ends { args.now.offset ≤ last }
-    ensures done { (n : ℕ) → IfOk result (λ r. MayBe n core.new → carried n core.old state.old current (lock_by_owner state.old current (shown_lock_args args.now) row.now owner seqids seqid last (Some by.now)) ≡ (r.0, r.1, r.2, state.new, core.new)) }
+    ensures done { (n : ℕ) → IfOk result (λ r. MayBe n core.new → carried n core.old state.old (lock_by_owner state.old current (shown_lock_args args.now) row.now owner seqids seqid last (Some by.now)) ≡ (r.0, r.1, r.2, state.new, core.new)) }
     ensures leaves { OnOk result (Leaves 2 core.old core.new) }
     ensures keeper { keeper.new ≡ keeper.old }
 {
@@ -158,7 +159,7 @@ pub(crate) fn lock_end(kind: LockType, access: u32, offset: u64, len: u64) -> Re
 }
 
 /// LOCK, once its range and the open's access are checked.
-#[tactic(auto, using(crate::proofs::LockLaws::end_fits, xl_nfs_opens::proofs::LeaveLaws::leaves_self, xl_nfs_opens::proofs::LeaveLaws::leaves_more))]
+#[tactic(auto, using(crate::proofs::LockLaws::end_fits, xl_plan::proofs::BudgetLaws::leaves_self, xl_plan::proofs::BudgetLaws::leaves_more))]
 fn lock_to<K: Keeper>(
     alloc: Global,
     state: &mut NfsState,
@@ -176,7 +177,7 @@ fn lock_to<K: Keeper>(
     requires owner { IsSome (find (is_owner owner) state.old.owners) }
     requires there { find (is_stateid row.now.number) state.old.stateids ≡ Some row.now }
     requires open { row.now.standing.closed ≡ false }
-    ensures done { (n : ℕ) → IfOk result (λ r. MayBe n core.new → carried n core.old state.old current (lock_to state.old current (shown_lock_args args.now) row.now owner seqids seqid (lock_end args.now.kind access (last_byte args.now.offset args.now.len))) ≡ (r.0, r.1, r.2, state.new, core.new)) }
+    ensures done { (n : ℕ) → IfOk result (λ r. MayBe n core.new → carried n core.old state.old (lock_to state.old current (shown_lock_args args.now) row.now owner seqids seqid (lock_end args.now.kind access (last_byte args.now.offset args.now.len))) ≡ (r.0, r.1, r.2, state.new, core.new)) }
     ensures leaves { OnOk result (Leaves 2 core.old core.new) }
     ensures keeper { keeper.new ≡ keeper.old }
 {
@@ -199,7 +200,7 @@ fn lock_to<K: Keeper>(
 }
 
 /// LOCK by a stateid that was found.
-#[tactic(auto, using(crate::proofs::LockLaws::standing_fits, xl_nfs_opens::proofs::LeaveLaws::leaves_self, xl_nfs_opens::proofs::LeaveLaws::leaves_more))]
+#[tactic(auto, using(crate::proofs::LockLaws::standing_fits, xl_plan::proofs::BudgetLaws::leaves_self, xl_plan::proofs::BudgetLaws::leaves_more))]
 fn lock_passed<K: Keeper>(
     alloc: Global,
     state: &mut NfsState,
@@ -216,7 +217,7 @@ fn lock_passed<K: Keeper>(
     requires owner { IsSome (find (is_owner owner) state.old.owners) }
     requires there { find (is_stateid row.now.number) state.old.stateids ≡ Some row.now }
     requires open { row.now.standing.closed ≡ false }
-    ensures done { (n : ℕ) → IfOk result (λ r. MayBe n core.new → carried n core.old state.old current (lock_standing state.old current (shown_lock_args args.now) row.now owner seqids known.now.seqid (standing_fault row.now seqids known.now.stateid.seqid true)) ≡ (r.0, r.1, r.2, state.new, core.new)) }
+    ensures done { (n : ℕ) → IfOk result (λ r. MayBe n core.new → carried n core.old state.old (lock_standing state.old current (shown_lock_args args.now) row.now owner seqids known.now.seqid (standing_fault row.now seqids known.now.stateid.seqid true)) ≡ (r.0, r.1, r.2, state.new, core.new)) }
     ensures leaves { OnOk result (Leaves 2 core.old core.new) }
     ensures keeper { keeper.new ≡ keeper.old }
 {
@@ -234,7 +235,7 @@ fn lock_passed<K: Keeper>(
 }
 
 /// LOCK by what is found for its stateid.
-#[tactic(auto, using(xl_nfs_opens::proofs::LeaveLaws::leaves_self, xl_nfs_opens::proofs::LeaveLaws::leaves_more))]
+#[tactic(auto, using(xl_plan::proofs::BudgetLaws::leaves_self, xl_plan::proofs::BudgetLaws::leaves_more))]
 fn lock_found<K: Keeper>(
     alloc: Global,
     state: &mut NfsState,
@@ -247,7 +248,7 @@ fn lock_found<K: Keeper>(
 ) -> Result<Done, AllocError>
     requires ready { IsReady 2 core.old }
     requires found { IsChecked state.old found }
-    ensures done { (n : ℕ) → IfOk result (λ r. MayBe n core.new → carried n core.old state.old current (lock_found core.old state.old current (shown_lock_args args.now) known.now found) ≡ (r.0, r.1, r.2, state.new, core.new)) }
+    ensures done { (n : ℕ) → IfOk result (λ r. MayBe n core.new → carried n core.old state.old (lock_found core.old state.old current (shown_lock_args args.now) known.now found) ≡ (r.0, r.1, r.2, state.new, core.new)) }
     ensures leaves { OnOk result (Leaves 2 core.old core.new) }
     ensures keeper { keeper.new ≡ keeper.old }
 {
@@ -266,7 +267,7 @@ fn lock_found<K: Keeper>(
 /// LOCK by a lock owner that has a stateid under the open: the bytes of the range are the owner's, in this mode. DENIED with
 /// a lock that stands against it; INVAL for a range of no bytes or past the last one, OPENMODE where the open's access
 /// doesn't allow it; BAD_STATEID, OLD_STATEID, STALE_STATEID and BAD_SEQID by the lock's stateid.
-#[tactic(auto, unfolding(crate::specs::Locks::lock_known), using(crate::proofs::FoundLaws::locks_there, xl_nfs_opens::proofs::LeaveLaws::leaves_then, xl_nfs_opens::proofs::LeaveLaws::ready_then))]
+#[tactic(auto, unfolding(crate::specs::Locks::lock_known), using(crate::proofs::FoundLaws::locks_there, xl_plan::proofs::BudgetLaws::leaves_then, xl_plan::proofs::BudgetLaws::ready_then))]
 pub(crate) fn lock_known<K: Keeper>(
     alloc: Global,
     state: &mut NfsState,
@@ -277,7 +278,7 @@ pub(crate) fn lock_known<K: Keeper>(
     known: &KnownLocker,
 ) -> Result<Done, AllocError>
     requires ready { IsReady 2 core.old }
-    ensures done { (n : ℕ) → IfOk result (λ r. MayBe n core.new → carried n core.old state.old current (lock_known core.old state.old current (shown_lock_args args.now) known.now) ≡ (r.0, r.1, r.2, state.new, core.new)) }
+    ensures done { (n : ℕ) → IfOk result (λ r. MayBe n core.new → carried n core.old state.old (lock_known core.old state.old current (shown_lock_args args.now) known.now) ≡ (r.0, r.1, r.2, state.new, core.new)) }
     ensures leaves { OnOk result (Leaves 2 core.old core.new) }
     ensures keeper { keeper.new ≡ keeper.old }
 {

@@ -4,7 +4,8 @@ ghost use Rattle.xl_core.specs.State.{MayBe};
 ghost use Rattle.xl_nfs.specs.Locks.{shown_lock_args};
 ghost use Rattle.xl_nfs_locks.specs.FirstLocks.{lock};
 ghost use Rattle.xl_nfs_opens.specs.Plans.{carried};
-ghost use Rattle.xl_nfs_opens.specs.Short.{IsReady, Leaves};
+ghost use Rattle.xl_plan.specs.Budgets.{IsReady};
+ghost use Rattle.xl_nfs_opens.specs.Short.{Leaves};
 
 use crate::joining::lock_new;
 use crate::locking::lock_known;
@@ -18,7 +19,7 @@ use xl_nfs_state::NfsState;
 /// LOCK: the bytes of the range are the lock owner's, in this mode, and count with its seqid; where it gives the stateid of
 /// an open, the open's owner counts too. DENIED with a lock that stands against it; INVAL, OPENMODE, RESOURCE, and BAD_STATEID,
 /// OLD_STATEID, STALE_STATEID and BAD_SEQID by the stateid and the seqids.
-#[tactic(auto, unfolding(crate::specs::FirstLocks::lock), using(xl_nfs_opens::proofs::LeaveLaws::leaves_more, xl_nfs_opens::proofs::LeaveLaws::ready_less))]
+#[tactic(auto, unfolding(crate::specs::FirstLocks::lock), using(xl_plan::proofs::BudgetLaws::leaves_more, xl_plan::proofs::BudgetLaws::ready_less))]
 pub fn lock<K: Keeper>(
     alloc: Global,
     state: &mut NfsState,
@@ -28,7 +29,7 @@ pub fn lock<K: Keeper>(
     args: &LockArgs,
 ) -> Result<Done, AllocError>
     requires ready { IsReady 4 core.old }
-    ensures done { (n : ℕ) → IfOk result (λ r. MayBe n core.new → carried n core.old state.old current (lock core.old state.old current (shown_lock_args args.now)) ≡ (r.0, r.1, r.2, state.new, core.new)) }
+    ensures done { (n : ℕ) → IfOk result (λ r. MayBe n core.new → carried n core.old state.old (lock core.old state.old current (shown_lock_args args.now)) ≡ (r.0, r.1, r.2, state.new, core.new)) }
     ensures leaves { OnOk result (Leaves 4 core.old core.new) }
     ensures keeper { keeper.new ≡ keeper.old }
 {

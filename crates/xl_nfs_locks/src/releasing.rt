@@ -4,7 +4,8 @@ ghost use Rattle.xl_nfs.specs.Basics.{shown_owner};
 ghost use Rattle.xl_nfs_locks.specs.Releases.{holds_any, holds_by, release, release_of, released};
 ghost use Rattle.xl_nfs_opens.specs.Opens.{client_in};
 ghost use Rattle.xl_nfs_opens.specs.Plans.{carried};
-ghost use Rattle.xl_nfs_opens.specs.Short.{IsReady, Leaves};
+ghost use Rattle.xl_plan.specs.Budgets.{IsReady};
+ghost use Rattle.xl_nfs_opens.specs.Short.{Leaves};
 
 use std::alloc::{AllocError, Global};
 use xl_base::{Owner, Protocol, Sequence};
@@ -58,7 +59,7 @@ fn release_of(
     current: Option<u32>,
     args: &LockOwner,
 ) -> Result<Done, AllocError>
-    ensures { (n : ℕ) → IfOk result (λ r. carried n core.now state.old current (release_of core.now state.old current args.now.owner.now (client_in core.now state.old args.now.clientid)) ≡ (r.0, r.1, r.2, state.new, core.now)) }
+    ensures { (n : ℕ) → IfOk result (λ r. carried n core.now state.old (release_of core.now state.old current args.now.owner.now (client_in core.now state.old args.now.clientid)) ≡ (r.0, r.1, r.2, state.new, core.now)) }
 {
     let Some(row) = client_in(state, core, args.clientid) else {
         return Ok(ended_as(alloc, NfsStatus::StaleClientId, current));
@@ -73,7 +74,7 @@ fn release_of(
 
 /// RELEASE_LOCKOWNER: what is known of a lock owner goes, where it holds no range. LOCKS_HELD where it does, STALE_CLIENTID
 /// where its client is none.
-#[tactic(auto, unfolding(crate::specs::Releases::release), using(xl_nfs_opens::proofs::LeaveLaws::leaves_then, xl_nfs_opens::proofs::LeaveLaws::leaves_self))]
+#[tactic(auto, unfolding(crate::specs::Releases::release), using(xl_plan::proofs::BudgetLaws::leaves_then, xl_plan::proofs::BudgetLaws::leaves_self))]
 pub fn release(
     alloc: Global,
     state: &mut NfsState,
@@ -82,7 +83,7 @@ pub fn release(
     args: &LockOwner,
 ) -> Result<Done, AllocError>
     requires ready { IsReady 0 core.old }
-    ensures done { (n : ℕ) → IfOk result (λ r. carried n core.old state.old current (release core.old state.old current (shown_owner args.now)) ≡ (r.0, r.1, r.2, state.new, core.new)) }
+    ensures done { (n : ℕ) → IfOk result (λ r. carried n core.old state.old (release core.old state.old current (shown_owner args.now)) ≡ (r.0, r.1, r.2, state.new, core.new)) }
     ensures leaves { OnOk result (Leaves 0 core.old core.new) }
 {
     let client = number_in(core, args.clientid);

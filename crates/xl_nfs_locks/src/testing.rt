@@ -5,7 +5,8 @@ ghost use Rattle.xl_nfs.specs.Locks.{shown_lock_test_args};
 ghost use Rattle.xl_nfs_locks.specs.Ranges.{last_byte};
 ghost use Rattle.xl_nfs_locks.specs.Tests.{lock_test, locker_of, test_at, test_to, tested_told};
 ghost use Rattle.xl_nfs_opens.specs.Plans.{carried};
-ghost use Rattle.xl_nfs_opens.specs.Short.{IsReady, Leaves};
+ghost use Rattle.xl_plan.specs.Budgets.{IsReady};
+ghost use Rattle.xl_nfs_opens.specs.Short.{Leaves};
 
 use crate::asks::test_ask;
 use crate::denials::lock_told;
@@ -58,7 +59,7 @@ fn test_bytes<K: Keeper>(
 ) -> Result<Done, AllocError>
     requires ready { IsReady 2 core.old }
     requires ends { args.now.offset ≤ last }
-    ensures done { (n : ℕ) → IfOk result (λ r. MayBe n core.new → carried n core.old state.now current (test_to state.now current (shown_lock_test_args args.now) file by.now (Some last)) ≡ (r.0, r.1, r.2, state.now, core.new)) }
+    ensures done { (n : ℕ) → IfOk result (λ r. MayBe n core.new → carried n core.old state.now (test_to state.now current (shown_lock_test_args args.now) file by.now (Some last)) ≡ (r.0, r.1, r.2, state.now, core.new)) }
     ensures leaves { OnOk result (Leaves 2 core.old core.new) }
     ensures keeper { keeper.new ≡ keeper.old }
 {
@@ -69,7 +70,7 @@ fn test_bytes<K: Keeper>(
 }
 
 /// LOCKT of a range by a lock owner.
-#[tactic(auto, using(xl_nfs_opens::proofs::LeaveLaws::leaves_self, xl_nfs_opens::proofs::LeaveLaws::leaves_more))]
+#[tactic(auto, using(xl_plan::proofs::BudgetLaws::leaves_self, xl_plan::proofs::BudgetLaws::leaves_more))]
 fn test_to<K: Keeper>(
     alloc: Global,
     state: &NfsState,
@@ -81,7 +82,7 @@ fn test_to<K: Keeper>(
     by: &Opener,
 ) -> Result<Done, AllocError>
     requires ready { IsReady 2 core.old }
-    ensures done { (n : ℕ) → IfOk result (λ r. MayBe n core.new → carried n core.old state.now current (test_to state.now current (shown_lock_test_args args.now) file by.now (last_byte args.now.offset args.now.len)) ≡ (r.0, r.1, r.2, state.now, core.new)) }
+    ensures done { (n : ℕ) → IfOk result (λ r. MayBe n core.new → carried n core.old state.now (test_to state.now current (shown_lock_test_args args.now) file by.now (last_byte args.now.offset args.now.len)) ≡ (r.0, r.1, r.2, state.now, core.new)) }
     ensures leaves { OnOk result (Leaves 2 core.old core.new) }
     ensures keeper { keeper.new ≡ keeper.old }
 {
@@ -93,7 +94,7 @@ fn test_to<K: Keeper>(
 }
 
 /// LOCKT, once the lease of the client is renewed.
-#[tactic(auto, using(xl_nfs_opens::proofs::LeaveLaws::leaves_self, xl_nfs_opens::proofs::LeaveLaws::leaves_more))]
+#[tactic(auto, using(xl_plan::proofs::BudgetLaws::leaves_self, xl_plan::proofs::BudgetLaws::leaves_more))]
 fn test_at<K: Keeper>(
     alloc: Global,
     state: &NfsState,
@@ -103,7 +104,7 @@ fn test_at<K: Keeper>(
     args: &LockTestArgs,
 ) -> Result<Done, AllocError>
     requires ready { IsReady 2 core.old }
-    ensures done { (n : ℕ) → IfOk result (λ r. MayBe n core.new → carried n core.old state.now current (test_at core.old state.now (shown_lock_test_args args.now) current) ≡ (r.0, r.1, r.2, state.now, core.new)) }
+    ensures done { (n : ℕ) → IfOk result (λ r. MayBe n core.new → carried n core.old state.now (test_at core.old state.now (shown_lock_test_args args.now) current) ≡ (r.0, r.1, r.2, state.now, core.new)) }
     ensures leaves { OnOk result (Leaves 2 core.old core.new) }
     ensures keeper { keeper.new ≡ keeper.old }
 {
@@ -123,7 +124,7 @@ fn test_at<K: Keeper>(
 
 /// LOCKT: whether the range could be locked. DENIED with a lock that stands against it; NOFILEHANDLE, ISDIR at the root,
 /// STALE_CLIENTID, and INVAL for a range of no bytes or past the last one.
-#[tactic(auto, unfolding(crate::specs::Tests::lock_test), using(xl_nfs_opens::proofs::LeaveLaws::leaves_then, xl_nfs_opens::proofs::LeaveLaws::ready_then))]
+#[tactic(auto, unfolding(crate::specs::Tests::lock_test), using(xl_plan::proofs::BudgetLaws::leaves_then, xl_plan::proofs::BudgetLaws::ready_then))]
 pub fn lock_test<K: Keeper>(
     alloc: Global,
     state: &mut NfsState,
@@ -133,7 +134,7 @@ pub fn lock_test<K: Keeper>(
     args: &LockTestArgs,
 ) -> Result<Done, AllocError>
     requires ready { IsReady 2 core.old }
-    ensures done { (n : ℕ) → IfOk result (λ r. MayBe n core.new → carried n core.old state.old current (lock_test core.old state.old current (shown_lock_test_args args.now)) ≡ (r.0, r.1, r.2, state.new, core.new)) }
+    ensures done { (n : ℕ) → IfOk result (λ r. MayBe n core.new → carried n core.old state.old (lock_test core.old state.old current (shown_lock_test_args args.now)) ≡ (r.0, r.1, r.2, state.new, core.new)) }
     ensures leaves { OnOk result (Leaves 2 core.old core.new) }
     ensures keeper { keeper.new ≡ keeper.old }
 {

@@ -8,7 +8,8 @@ ghost use Rattle.xl_nfs_locks.specs.Ranges.{last_byte};
 ghost use Rattle.xl_nfs_locks.specs.Unlocks.{unlock, unlock_by_owner, unlock_found, unlock_standing, unlock_status, unlock_to, unlocked_as};
 ghost use Rattle.xl_nfs_opens.specs.Closing.{standing_fault, IsChecked};
 ghost use Rattle.xl_nfs_opens.specs.Plans.{carried};
-ghost use Rattle.xl_nfs_opens.specs.Short.{IsReady, Leaves};
+ghost use Rattle.xl_plan.specs.Budgets.{IsReady};
+ghost use Rattle.xl_nfs_opens.specs.Short.{Leaves};
 
 use crate::checking::find_locks;
 use crate::ranges::last_byte;
@@ -55,7 +56,7 @@ fn unlocked_as(
     requires owner { IsSome (find (is_owner owner) state.old.owners) }
     requires there { find (is_stateid row.now.number) state.old.stateids ≡ Some row.now }
     requires open { row.now.standing.closed ≡ false }
-    ensures { (n : ℕ) → IfOk result (λ r. carried n core.now state.old current (unlocked_as core.now state.old current args.now row.now owner seqids status) ≡ (r.0, r.1, [], state.new, core.now)) }
+    ensures { (n : ℕ) → IfOk result (λ r. carried n core.now state.old (unlocked_as core.now state.old current args.now row.now owner seqids status) ≡ (r.0, r.1, [], state.new, core.now)) }
 {
     let op = operation::LOCKU;
     if !is_ok(status) {
@@ -96,7 +97,7 @@ fn unlock_bytes<K: Keeper>(
     requires there { find (is_stateid row.now.number) state.old.stateids ≡ Some row.now }
     requires open { row.now.standing.closed ≡ false }
     requires ends { args.now.offset ≤ last }
-    ensures done { (n : ℕ) → IfOk result (λ r. MayBe n core.new → carried n core.old state.old current (unlock_by_owner state.old current args.now row.now owner seqids last (Some by.now)) ≡ (r.0, r.1, r.2, state.new, core.new)) }
+    ensures done { (n : ℕ) → IfOk result (λ r. MayBe n core.new → carried n core.old state.old (unlock_by_owner state.old current args.now row.now owner seqids last (Some by.now)) ≡ (r.0, r.1, r.2, state.new, core.new)) }
     ensures leaves { OnOk result (Leaves 2 core.old core.new) }
     ensures keeper { keeper.new ≡ keeper.old }
 {
@@ -110,7 +111,7 @@ fn unlock_bytes<K: Keeper>(
 }
 
 /// LOCKU of a range, by a stateid that is as it should be.
-#[tactic(auto, using(xl_nfs_opens::proofs::ResultLaws::fits_14, xl_nfs_opens::proofs::LeaveLaws::leaves_self, xl_nfs_opens::proofs::LeaveLaws::leaves_more))]
+#[tactic(auto, using(xl_nfs_opens::proofs::ResultLaws::fits_14, xl_plan::proofs::BudgetLaws::leaves_self, xl_plan::proofs::BudgetLaws::leaves_more))]
 fn unlock_to<K: Keeper>(
     alloc: Global,
     state: &mut NfsState,
@@ -126,7 +127,7 @@ fn unlock_to<K: Keeper>(
     requires owner { IsSome (find (is_owner owner) state.old.owners) }
     requires there { find (is_stateid row.now.number) state.old.stateids ≡ Some row.now }
     requires open { row.now.standing.closed ≡ false }
-    ensures done { (n : ℕ) → IfOk result (λ r. MayBe n core.new → carried n core.old state.old current (unlock_to state.old current args.now row.now owner seqids (last_byte args.now.offset args.now.len)) ≡ (r.0, r.1, r.2, state.new, core.new)) }
+    ensures done { (n : ℕ) → IfOk result (λ r. MayBe n core.new → carried n core.old state.old (unlock_to state.old current args.now row.now owner seqids (last_byte args.now.offset args.now.len)) ≡ (r.0, r.1, r.2, state.new, core.new)) }
     ensures leaves { OnOk result (Leaves 2 core.old core.new) }
     ensures keeper { keeper.new ≡ keeper.old }
 {
@@ -146,7 +147,7 @@ fn unlock_to<K: Keeper>(
 }
 
 /// LOCKU by a stateid that was found.
-#[tactic(auto, using(xl_nfs_opens::proofs::ResultLaws::fits_14, xl_nfs_opens::proofs::LeaveLaws::leaves_self, xl_nfs_opens::proofs::LeaveLaws::leaves_more))]
+#[tactic(auto, using(xl_nfs_opens::proofs::ResultLaws::fits_14, xl_plan::proofs::BudgetLaws::leaves_self, xl_plan::proofs::BudgetLaws::leaves_more))]
 fn unlock_passed<K: Keeper>(
     alloc: Global,
     state: &mut NfsState,
@@ -162,7 +163,7 @@ fn unlock_passed<K: Keeper>(
     requires owner { IsSome (find (is_owner owner) state.old.owners) }
     requires there { find (is_stateid row.now.number) state.old.stateids ≡ Some row.now }
     requires open { row.now.standing.closed ≡ false }
-    ensures done { (n : ℕ) → IfOk result (λ r. MayBe n core.new → carried n core.old state.old current (unlock_standing state.old current args.now row.now owner seqids (standing_fault row.now seqids args.now.stateid.seqid true)) ≡ (r.0, r.1, r.2, state.new, core.new)) }
+    ensures done { (n : ℕ) → IfOk result (λ r. MayBe n core.new → carried n core.old state.old (unlock_standing state.old current args.now row.now owner seqids (standing_fault row.now seqids args.now.stateid.seqid true)) ≡ (r.0, r.1, r.2, state.new, core.new)) }
     ensures leaves { OnOk result (Leaves 2 core.old core.new) }
     ensures keeper { keeper.new ≡ keeper.old }
 {
@@ -178,7 +179,7 @@ fn unlock_passed<K: Keeper>(
 }
 
 /// LOCKU by what is found for its stateid.
-#[tactic(auto, using(xl_nfs_opens::proofs::LeaveLaws::leaves_self, xl_nfs_opens::proofs::LeaveLaws::leaves_more))]
+#[tactic(auto, using(xl_plan::proofs::BudgetLaws::leaves_self, xl_plan::proofs::BudgetLaws::leaves_more))]
 fn unlock_found<K: Keeper>(
     alloc: Global,
     state: &mut NfsState,
@@ -190,7 +191,7 @@ fn unlock_found<K: Keeper>(
 ) -> Result<Done, AllocError>
     requires ready { IsReady 2 core.old }
     requires found { IsChecked state.old found }
-    ensures done { (n : ℕ) → IfOk result (λ r. MayBe n core.new → carried n core.old state.old current (unlock_found core.old state.old current args.now found) ≡ (r.0, r.1, r.2, state.new, core.new)) }
+    ensures done { (n : ℕ) → IfOk result (λ r. MayBe n core.new → carried n core.old state.old (unlock_found core.old state.old current args.now found) ≡ (r.0, r.1, r.2, state.new, core.new)) }
     ensures leaves { OnOk result (Leaves 2 core.old core.new) }
     ensures keeper { keeper.new ≡ keeper.old }
 {
@@ -209,7 +210,7 @@ fn unlock_found<K: Keeper>(
 /// LOCKU: the bytes of the range are no longer the lock owner's, held or not. INVAL for a range of no bytes or past the last
 /// one; BAD_STATEID, OLD_STATEID, STALE_STATEID and BAD_SEQID by the lock's stateid; RESOURCE where what is left of a lock
 /// that is cut has no room.
-#[tactic(auto, unfolding(crate::specs::Unlocks::unlock), using(crate::proofs::FoundLaws::locks_there, xl_nfs_opens::proofs::LeaveLaws::leaves_then, xl_nfs_opens::proofs::LeaveLaws::ready_then))]
+#[tactic(auto, unfolding(crate::specs::Unlocks::unlock), using(crate::proofs::FoundLaws::locks_there, xl_plan::proofs::BudgetLaws::leaves_then, xl_plan::proofs::BudgetLaws::ready_then))]
 pub fn unlock<K: Keeper>(
     alloc: Global,
     state: &mut NfsState,
@@ -219,7 +220,7 @@ pub fn unlock<K: Keeper>(
     args: &UnlockArgs,
 ) -> Result<Done, AllocError>
     requires ready { IsReady 2 core.old }
-    ensures done { (n : ℕ) → IfOk result (λ r. MayBe n core.new → carried n core.old state.old current (unlock core.old state.old current args.now) ≡ (r.0, r.1, r.2, state.new, core.new)) }
+    ensures done { (n : ℕ) → IfOk result (λ r. MayBe n core.new → carried n core.old state.old (unlock core.old state.old current args.now) ≡ (r.0, r.1, r.2, state.new, core.new)) }
     ensures leaves { OnOk result (Leaves 2 core.old core.new) }
     ensures keeper { keeper.new ≡ keeper.old }
 {

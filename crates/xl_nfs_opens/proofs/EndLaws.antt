@@ -13,12 +13,11 @@ use Rattle.xl_nfs.specs.declared.opens.OpenConfirmArgs.{OpenConfirmArgs}
 use Rattle.xl_nfs.specs.declared.opens.OpenDowngradeArgs.{OpenDowngradeArgs}
 use Rattle.xl_nfs.specs.declared.status.NfsStatus.{NfsStatus}
 use Rattle.xl_nfs.specs.declared.status.NfsStatus.TheVariants as statuses
-use Rattle.xl_core.specs.Decide.{ask}
-use Rattle.xl_core.specs.Deeds.{all_done}
 use Rattle.xl_core.specs.State.{CoreState}
 use Rattle.xl_core.specs.declared.ask.Answer.{Answer}
 use Rattle.xl_nfs_state.specs.State.{NfsLists}
-use Rattle.xl_nfs_opens.specs.Plans.{Plan, Fails, Does, Behind, Asking, carried, status_of}
+use Rattle.xl_plan.specs.Plans.{AllEnds}
+use Rattle.xl_nfs_opens.specs.Plans.{Plan, status_of}
 use Rattle.xl_nfs_opens.specs.Results.{ToldFits}
 use Rattle.xl_nfs_opens.specs.declared.told.Told.{Told}
 use Rattle.xl_nfs_opens.specs.declared.told.Told.TheVariants.{Ended}
@@ -46,30 +45,17 @@ use Rattle.xl_nfs_opens.specs.declared.opener.Judged.TheVariants as judgements
 use Rattle.xl_nfs_opens.specs.declared.opener.Opener.{Opener}
 use Rattle.xl_nfs_opens.proofs.ResultLaws.{IsFault, fault_fits, plain_8}
 
--- what holds of what is told and of the handle then, however the plan goes
-abbrev pub EndsWell : (Told → Option ℕ → Type 0) → Option ℕ → Plan → Type 0
-EndsWell P current (Fails status) = P (Ended status) current
-EndsWell P current (Does deeds lists handle told) = P told handle
-EndsWell P current (Behind deeds lists rest) = (t : CoreState) → EndsWell P current (rest t)
-EndsWell P current (Asking left a rest) = (answer : Answer) (t : CoreState) → EndsWell P current (rest answer t)
-
-pub carried_well : (P : Told → Option ℕ → Type 0) (n : ℕ) (current : Option ℕ) (plan : Plan) (s : CoreState) (l : NfsLists) → EndsWell P current plan → P (carried n s l current plan).0 (carried n s l current plan).1
-carried_well P n current (Fails status) s l well = well
-carried_well P n current (Does deeds lists handle told) s l well = well
-carried_well P n current (Behind deeds lists rest) s l well = let t = all_done n s deeds in carried_well P n current (rest t) t lists (well t)
-carried_well P n current (Asking left a rest) s l well = let r = ask n left s a in carried_well P n current (rest r.0 r.2) r.2 l (well r.0 r.2)
-
 -- the result of the operation of this number has a spelling, and where it isn't OK the current handle stays
-abbrev pub Well : ℕ → Option ℕ → Told → Option ℕ → Type 0
-Well number current told handle = ToldFits number told × (is_ok (status_of told) ≡ false → handle ≡ current)
+abbrev pub Well : ℕ → Option ℕ → Told × Option ℕ → Type 0
+Well number current r = ToldFits number r.0 × (is_ok (status_of r.0) ≡ false → r.1 ≡ current)
 
 abbrev pub Ends : ℕ → Option ℕ → Plan → Type 0
-Ends number current plan = EndsWell (Well number current) current plan
+Ends number current plan = AllEnds (Well number current) plan
 
 pub fault : (s : NfsStatus) → is_ok s ≡ false → is_denied s ≡ false → IsFault s
 fault s ok denied = record { ok = ok; denied = denied }
 
-pub ended : (number : ℕ) → number < 2 ^ 32 → (current : Option ℕ) (status : NfsStatus) → IsFault status → Well number current (Ended status) current
+pub ended : (number : ℕ) → number < 2 ^ 32 → (current : Option ℕ) (status : NfsStatus) → IsFault status → Well number current (Ended status, current)
 ended number le current status f = (fault_fits number status le f, λ _. refl)
 
 -- ---- a repeat
@@ -157,7 +143,7 @@ opened_fault files s l client at a =
 
 -- ---- OPEN
 
-open_ended : (current : Option ℕ) (status : NfsStatus) → IsFault status → Well 18 current (Ended status) current
+open_ended : (current : Option ℕ) (status : NfsStatus) → IsFault status → Well 18 current (Ended status, current)
 open_ended current status f = ended 18 (omega arith) current status f
 
 granted_ends : (s : CoreState) (l : NfsLists) (current : Option ℕ) (o : Opener) (a : OpenArgsItem) (file : ℕ) (confirmed : Bool) (write : Option Bool) (r : Option StateidRow) → Ends 18 current (granted_by s l o a file confirmed write r)

@@ -52,7 +52,7 @@ use Rattle.xl_matrix.specs.declared.claim.Rwd.{Rwd}
 use Rattle.xl_core.specs.Clients.{IsOf}
 use Rattle.xl_core.specs.Decide.{ask}
 use Rattle.xl_core.specs.Places.{is_cache_on}
-use Rattle.xl_core.specs.Deeds.{Deed, Asks, GivesBack, done, all_done, IsFitDeed, AreFit}
+use Rattle.xl_core.specs.Deeds.{Deed, Asks, GivesBack, all_done, IsFitDeed, AreFit}
 use Rattle.xl_core.specs.Good.{are_kept, IsHeld, IsGood}
 use Rattle.xl_core.specs.State.{CoreState}
 use Rattle.xl_core.specs.Ticks.{renew}
@@ -63,7 +63,8 @@ use Rattle.xl_nfs_opens.specs.Closing.{seqid_checked, owner_checked, holder_chec
 use Rattle.xl_nfs_opens.specs.Downgrades.{downgrade_fault, downgrade_done, downgrade_by, open_downgrade, weakens}
 use Rattle.xl_nfs_opens.specs.Opens.{rights_of, share_by, share_held, gives, given_up, gives_all, share_ask, all_rooms, repeated, reclaims, open_held, has_room, granted_wish, wish_of, cache_by, cache_held, granted_by, is_granted, answered, open_on, open_by, open_as, open_judged, opener_of, open_of, client_in, open_at, claim_client, open_claimed, open_file, judged, opened_file}
 use Rattle.xl_nfs_opens.specs.Owners.{is_named, is_holder, is_claimant, Names, IsBy, AreBy}
-use Rattle.xl_nfs_opens.specs.Plans.{Plan, deeds_of}
+use Rattle.xl_plan.specs.Plans.{deeds_of}
+use Rattle.xl_nfs_opens.specs.Plans.{Plan}
 use Rattle.xl_nfs.specs.Ops.{DelegReturn, Open, OpenConfirm, OpenDowngrade}
 use Rattle.std.specs.Int.{w32, w64, from_be_bytes}
 use Rattle.xl_nfs_opens.specs.Renewing.{number_of as number_in_other, client_if_live, state_numbered, state_client, renewals_by, renewals, renewed_if, renewed_for, renewing}
@@ -73,14 +74,14 @@ use Rattle.xl_nfs_opens.specs.declared.opener.Judged.{Judged}
 use Rattle.xl_nfs_opens.specs.declared.opener.Judged.TheVariants as judgements
 use Rattle.xl_nfs_opens.specs.declared.opener.Opener.{Opener}
 use Rattle.xl_nfs_opens.proofs.OwnerLaws.{own_client, wished_fit}
+use Rattle.xl_plan.proofs.PlanLaws.{at_append}
 
 -- the core takes the deeds of the plan, and each is by a client for which this holds
 abbrev pub Owned : ℕ → CoreState → (List ℕ → Type 0) → Plan → Type 0
 Owned n s Client plan = AreFit n s (deeds_of n s plan) × AreBy n s Client (deeds_of n s plan)
 
 pub by_append : (n : ℕ) (s : CoreState) (Client : List ℕ → Type 0) (ds es : List Deed) → AreBy n s Client ds → AreBy n (all_done n s ds) Client es → AreBy n s Client (ds ++ es)
-by_append n s Client [] es first second = second
-by_append n s Client (d ∷ ds) es first second = (first.0, by_append n (done n s d) Client ds es first.1 second)
+by_append n s Client ds es first second = at_append (λ t d. IsBy t Client d) n s ds es first second
 
 -- ---- leases
 

@@ -24,7 +24,8 @@ use Rattle.xl_core.specs.Deeds.{Deed, Asks}
 use Rattle.xl_core.specs.State.{CoreState}
 use Rattle.xl_nfs_opens.specs.Asks.{all_ones, unlock_ask}
 use Rattle.xl_nfs_opens.specs.Opens.{all_rooms, cache_held, rights_of, repeated, share_held, gives, freed, stood}
-use Rattle.xl_nfs_opens.specs.Plans.{Plan, Does, Behind}
+use Rattle.xl_plan.specs.Plans.{Does, Behind}
+use Rattle.xl_nfs_opens.specs.Plans.{Plan}
 use Rattle.xl_nfs_opens.specs.Renewing.{stateid_of, number_of, state_client, renewing}
 use Rattle.xl_nfs_opens.specs.Results.{spelled}
 use Rattle.xl_nfs_opens.specs.Seqids.{advances, counted}
@@ -86,7 +87,7 @@ failed_lists l owner seqids op seqid status =
     if advances status then counted owner seqids.closed (next_seqids op seqid seqids.confirmed None) (spelled op (Ended status)) l else l
 
 abbrev pub failed : NfsLists → Option ℕ → ℕ → SeqidState → ℕ → ℕ → NfsStatus → Plan
-failed l current owner seqids op seqid status = Does [] (failed_lists l owner seqids op seqid status) current (Ended status)
+failed l current owner seqids op seqid status = Does [] (failed_lists l owner seqids op seqid status) (Ended status, current)
 
 -- the stateid as it is then
 abbrev pub state_told : CoreState → StateidRow → Told
@@ -101,10 +102,10 @@ done_lists s l r owner seqids op seqid confirmed closing access deny closed =
 
 abbrev pub confirm_done : CoreState → NfsLists → Option ℕ → OpenConfirmArgs → StateidRow → ℕ → SeqidState → Option NfsStatus → Plan
 confirm_done s l current a r owner seqids (Some status) = failed l current owner seqids 20 a.seqid status
-confirm_done s l current a r owner seqids None = Does [] (done_lists s l r owner seqids 20 a.seqid true None r.standing.access r.standing.deny false) current (state_told s r)
+confirm_done s l current a r owner seqids None = Does [] (done_lists s l r owner seqids 20 a.seqid true None r.standing.access r.standing.deny false) (state_told s r, current)
 
 abbrev pub confirm_by : CoreState → NfsLists → Option ℕ → OpenConfirmArgs → Checked → Plan
-confirm_by s l current a (Refused status) = Does [] l current (Ended status)
+confirm_by s l current a (Refused status) = Does [] l (Ended status, current)
 confirm_by s l current a (Repeated owner) = repeated s l current (find (is_kept owner) l.kept)
 confirm_by s l current a (Passed r owner seqids) = confirm_done s l current a r owner seqids (standing_fault r seqids a.stateid.seqid false)
 
@@ -165,7 +166,7 @@ locks_gone number l = with_stateids l (without (is_whose (whose.Under number)) l
 -- the share goes, and the stateids of the locks; the open is closed
 abbrev pub share_closed : CoreState → NfsLists → Option ℕ → CloseArgs → StateidRow → ℕ → SeqidState → Plan
 share_closed s l current a r owner seqids =
-    Does (gives (share_of_open s l r owner)) (locks_gone r.number (done_lists s l r owner seqids 4 a.seqid seqids.confirmed (Some r.number) r.standing.access r.standing.deny true)) current (state_told s r)
+    Does (gives (share_of_open s l r owner)) (locks_gone r.number (done_lists s l r owner seqids 4 a.seqid seqids.confirmed (Some r.number) r.standing.access r.standing.deny true)) (state_told s r, current)
 
 -- the locks under it end before its share (NFS-31)
 abbrev pub close_done : CoreState → NfsLists → Option ℕ → CloseArgs → StateidRow → ℕ → SeqidState → Option NfsStatus → Plan
@@ -173,7 +174,7 @@ close_done s l current a r owner seqids (Some status) = failed l current owner s
 close_done s l current a r owner seqids None = Behind (ends_locks l r (locks_under l r.number)) l (λ t. share_closed t l current a r owner seqids)
 
 abbrev pub close_by : CoreState → NfsLists → Option ℕ → CloseArgs → Checked → Plan
-close_by s l current a (Refused status) = Does [] l current (Ended status)
+close_by s l current a (Refused status) = Does [] l (Ended status, current)
 close_by s l current a (Repeated owner) = repeated s l current (find (is_kept owner) l.kept)
 close_by s l current a (Passed r owner seqids) = close_done s l current a r owner seqids (standing_fault r seqids a.stateid.seqid true)
 
@@ -224,8 +225,8 @@ cache_of s l r = cache_of_client s r.file (find (is_client r.client true) l.clie
 
 -- the cache is given back, and the stateid goes (NFS-17)
 abbrev pub return_done : CoreState → NfsLists → Option ℕ → Returning → Plan
-return_done s l current (Err status) = Does [] l current (Ended status)
-return_done s l current (Ok r) = Does (gives (cache_of s l r)) (freed r.number l) current (Ended statuses.Ok)
+return_done s l current (Err status) = Does [] l (Ended status, current)
+return_done s l current (Ok r) = Does (gives (cache_of s l r)) (freed r.number l) (Ended statuses.Ok, current)
 
 unfoldable pub deleg_return : CoreState → NfsLists → Option ℕ → Stateid → Plan
 deleg_return s l current stateid = renewing s l (state_client s l stateid) (λ t m. return_done t m current (returned t m current stateid))

@@ -14,7 +14,8 @@ use Rattle.xl_matrix.specs.declared.claim.Rwd.{Rwd}
 use Rattle.xl_core.specs.State.{CoreState}
 use Rattle.xl_nfs_opens.specs.Closing.{checked, standing_fault, failed, done_lists, state_told, can_weaken, share_of_open}
 use Rattle.xl_nfs_opens.specs.Opens.{rights_of, repeated}
-use Rattle.xl_nfs_opens.specs.Plans.{Plan, Does}
+use Rattle.xl_plan.specs.Plans.{Does}
+use Rattle.xl_nfs_opens.specs.Plans.{Plan}
 use Rattle.xl_nfs_opens.specs.Renewing.{state_client, renewing}
 use Rattle.xl_nfs_opens.specs.declared.opener.Checked.{Checked}
 use Rattle.xl_nfs_opens.specs.declared.opener.Checked.TheVariants.{Refused, Repeated, Passed}
@@ -39,10 +40,10 @@ downgrade_fault r seqids a = first_fault (standing_fault r seqids a.stateid.seqi
 abbrev pub downgrade_done : CoreState → NfsLists → Option ℕ → OpenDowngradeArgs → StateidRow → ℕ → SeqidState → Option NfsStatus → Plan
 downgrade_done s l current a r owner seqids (Some status) = failed l current owner seqids 21 a.seqid status
 downgrade_done s l current a r owner seqids None =
-    Does (weakens (share_of_open s l r owner) (rights_of a.access) (rights_of a.deny)) (done_lists s l r owner seqids 21 a.seqid seqids.confirmed None a.access a.deny false) current (state_told s r)
+    Does (weakens (share_of_open s l r owner) (rights_of a.access) (rights_of a.deny)) (done_lists s l r owner seqids 21 a.seqid seqids.confirmed None a.access a.deny false) (state_told s r, current)
 
 abbrev pub downgrade_by : CoreState → NfsLists → Option ℕ → OpenDowngradeArgs → Checked → Plan
-downgrade_by s l current a (Refused status) = Does [] l current (Ended status)
+downgrade_by s l current a (Refused status) = Does [] l (Ended status, current)
 downgrade_by s l current a (Repeated owner) = repeated s l current (find (is_kept owner) l.kept)
 downgrade_by s l current a (Passed r owner seqids) = downgrade_done s l current a r owner seqids (downgrade_fault r seqids a)
 

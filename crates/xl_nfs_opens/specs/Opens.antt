@@ -53,7 +53,8 @@ use Rattle.xl_core.specs.declared.ask.Who.TheVariants.{Named}
 use Rattle.std.specs.List.{filter}
 use Rattle.xl_core.specs.Ids.{number_in}
 use Rattle.xl_nfs_opens.specs.Files.{file_named}
-use Rattle.xl_nfs_opens.specs.Plans.{Plan, Does, Behind, Asking}
+use Rattle.xl_plan.specs.Plans.{Does, Behind, Asking}
+use Rattle.xl_nfs_opens.specs.Plans.{Plan}
 use Rattle.xl_nfs_opens.specs.Renewing.{same_stateid, stateid_of, number_of as number_in_other, state_client, renewing}
 use Rattle.xl_nfs_opens.specs.Results.{spelled}
 use Rattle.xl_nfs_opens.specs.Seqids.{advances, is_short, is_opener, is_room_for, opener_number, seated, kept_for, remembered}
@@ -170,8 +171,8 @@ handle_again s l current bytes = if is_short bytes then handle_by s l current (n
 
 -- the kept result is the answer, and nothing changes
 abbrev pub repeated : CoreState → NfsLists → Option ℕ → Option KeptRow → Plan
-repeated s l current None = Does [] l current (Ended statuses.BadSeqid)
-repeated s l current (Some k) = Does [] l (handle_again s l current k.result) (Kept k.result)
+repeated s l current None = Does [] l (Ended statuses.BadSeqid, current)
+repeated s l current (Some k) = Does [] l (Kept k.result, handle_again s l current k.result)
 
 -- ---- the owner's share in the core
 
@@ -314,7 +315,7 @@ abbrev pub refused_lists : Opener → OpenArgsItem → Bool → NfsStatus → Nf
 refused_lists o a confirmed status l = if advances status then remembered o (open_seqids a confirmed) (spelled 18 (Ended status)) l else l
 
 abbrev pub refused : NfsLists → Option ℕ → Opener → OpenArgsItem → Bool → NfsStatus → Plan
-refused l current o a confirmed status = Does [] (refused_lists o a confirmed status l) current (Ended status)
+refused l current o a confirmed status = Does [] (refused_lists o a confirmed status l) (Ended status, current)
 
 abbrev pub live : Option StateidRow → Option StateidRow
 live None = None
@@ -408,14 +409,14 @@ granted_new s l o a file confirmed write =
     let number = opener_number o l in
     let t = drawn s in
     let told = opened_told (drawn_for write t) (s.counter + 1) 1 confirmed (delegation_told t write) in
-    Does (Draws ∷ draws_for write) (kept_for number (spelled 18 told) (delegated t o file write (entered (open_row (s.counter + 1) o number file a) (seated o (open_seqids a confirmed) l)))) (Some file) told
+    Does (Draws ∷ draws_for write) (kept_for number (spelled 18 told) (delegated t o file write (entered (open_row (s.counter + 1) o number file a) (seated o (open_seqids a confirmed) l)))) (told, Some file)
 
 -- it has one: that has the rights of both from then on
 abbrev pub granted_more : CoreState → NfsLists → Opener → OpenArgsItem → ℕ → Bool → Option Bool → StateidRow → Plan
 granted_more s l o a file confirmed write r =
     let number = opener_number o l in
     let told = opened_told (drawn_for write s) r.number (next_seqid r.standing.seqid) confirmed (delegation_told s write) in
-    Does (draws_for write) (kept_for number (spelled 18 told) (delegated s o file write (seated o (open_seqids a confirmed) (stood r.number r (either_bits r.standing.access a.access) (either_bits r.standing.deny a.deny) false l)))) (Some file) told
+    Does (draws_for write) (kept_for number (spelled 18 told) (delegated s o file write (seated o (open_seqids a confirmed) (stood r.number r (either_bits r.standing.access a.access) (either_bits r.standing.deny a.deny) false l)))) (told, Some file)
 
 abbrev pub granted_by : CoreState → NfsLists → Opener → OpenArgsItem → ℕ → Bool → Option Bool → Option StateidRow → Plan
 granted_by s l o a file confirmed write None = granted_new s l o a file confirmed write
@@ -432,7 +433,7 @@ answered l current o a file confirmed wish answer s =
 abbrev pub open_wish : ℕ → NfsLists → Option ℕ → Opener → OpenArgsItem → Bool → ℕ → Option Bool → Plan
 open_wish others l current o a confirmed file wish =
     if has_room others l o file then Asking all_rooms (share_ask wish o a file) (answered l current o a file confirmed wish)
-    else Does [] l current (Ended statuses.Resource)
+    else Does [] l (Ended statuses.Resource, current)
 
 abbrev pub open_on : ℕ → CoreState → NfsLists → Option ℕ → Opener → OpenArgsItem → Bool → ℕ → Plan
 open_on others s l current o a confirmed file = open_wish others l current o a confirmed file (wish_of s l o a confirmed file)
@@ -446,7 +447,7 @@ unfoldable pub open_as : List (List ℕ) → ℕ → CoreState → NfsLists → 
 open_as files others s l current at o a confirmed = open_by others s l current o a confirmed (opened_file files s l o.client at a)
 
 abbrev pub open_judged : List (List ℕ) → ℕ → CoreState → NfsLists → Option ℕ → ℕ → Opener → OpenArgsItem → Judged → Plan
-open_judged files others s l current at o a judgements.Bad = Does [] l current (Ended statuses.BadSeqid)
+open_judged files others s l current at o a judgements.Bad = Does [] l (Ended statuses.BadSeqid, current)
 open_judged files others s l current at o a (judgements.Repeats number) = repeated s l current (find (is_kept number) l.kept)
 open_judged files others s l current at o a (judgements.Anew number) =
     Behind (gives_all s o (filter (is_whose (whose.Owner number)) l.stateids)) (without_owner number l) (λ t. open_as files others t (without_owner number l) current at o a false)
@@ -457,7 +458,7 @@ abbrev pub opener_of : ClientRow → OpenArgsItem → Opener
 opener_of c a = record { client = c.number; id = c.id; kind = kinds.Open; owner = a.owner.owner }
 
 abbrev pub open_of : List (List ℕ) → ℕ → CoreState → NfsLists → Option ℕ → ℕ → OpenArgsItem → Option ClientRow → Plan
-open_of files others s l current at a None = Does [] l current (Ended statuses.StaleClientId)
+open_of files others s l current at a None = Does [] l (Ended statuses.StaleClientId, current)
 open_of files others s l current at a (Some c) = open_judged files others s l current at (opener_of c a) a (judged l (opener_of c a) a.seqid)
 
 -- the confirmed client of a clientid
@@ -465,7 +466,7 @@ abbrev pub client_in : CoreState → NfsLists → ℕ → Option ClientRow
 client_in s l clientid = option_and_then (λ number. find (is_client number true) l.clients) (number_in s clientid)
 
 abbrev pub open_at : List (List ℕ) → ℕ → CoreState → NfsLists → OpenArgsItem → Option ℕ → Plan
-open_at files others s l a None = Does [] l None (Ended statuses.NoFileHandle)
+open_at files others s l a None = Does [] l (Ended statuses.NoFileHandle, None)
 open_at files others s l a (Some at) = open_of files others s l (Some at) at a (client_in s l a.owner.clientid)
 
 -- the client that a delegation names

@@ -1,5 +1,5 @@
 -- Whose deeds they are.
-use Rattle.std.specs.Prelude.{◌≡◌, ℕ, Bool, true, false, ◌⊎◌, List, [], ◌∷◌, Some, option_map}
+use Rattle.std.specs.Prelude.{◌≡◌, ℕ, Bool, true, false, ◌⊎◌, List, Some, option_map}
 use Rattle.std.specs.List.{find}
 use Rattle.std.specs.Option.{option_and_then}
 use Rattle.xl_names.specs.declared.name.Name.TheVariants.{NfsParty}
@@ -9,9 +9,10 @@ use Rattle.xl_nfs.specs.Ops.{OpItem, Close, DelegReturn, Lock, LockT, LockU, Ope
 use Rattle.xl_nfs.specs.declared.basics.Stateid.{Stateid}
 use Rattle.xl_nfs_state.specs.State.{NfsLists, is_client}
 use Rattle.xl_core.specs.Clients.{IsOf}
-use Rattle.xl_core.specs.Deeds.{Deed, Asks, GivesBack, Weakens, Draws, Ends, Renews, done}
+use Rattle.xl_core.specs.Deeds.{Deed, Asks, GivesBack, Weakens, Draws, Ends, Renews}
 use Rattle.xl_core.specs.State.{CoreState}
 use Rattle.xl_core.specs.Ids.{number_in}
+use Rattle.xl_plan.specs.Plans.{AllAt}
 use Rattle.xl_nfs_opens.specs.Renewing.{state_client}
 
 -- ---- the client that an operation names
@@ -63,5 +64,4 @@ IsBy s Client (Renews id) = Client id
 IsBy s Client _ = ⊥
 
 abbrev pub AreBy : ℕ → CoreState → (List ℕ → Type 0) → List Deed → Type 0
-AreBy n s Client [] = Unit {0}
-AreBy n s Client (d ∷ ds) = IsBy s Client d × AreBy n (done n s d) Client ds
+AreBy n s Client ds = AllAt (λ t d. IsBy t Client d) n s ds

@@ -9,7 +9,8 @@ use Rattle.xl_nfs_state.specs.declared.stateid.StateidRow.{StateidRow}
 use Rattle.xl_core.specs.Deeds.{Deed, Renews}
 use Rattle.xl_core.specs.State.{CoreState}
 use Rattle.xl_nfs_opens.specs.Leases.{lease_end, renewed}
-use Rattle.xl_nfs_opens.specs.Plans.{Plan, Behind}
+use Rattle.xl_plan.specs.Plans.{Behind}
+use Rattle.xl_nfs_opens.specs.Plans.{Plan}
 
 -- ---- stateids (RFC 7530 9.1.4)
 

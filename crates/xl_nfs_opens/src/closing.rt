@@ -11,7 +11,8 @@ ghost use Rattle.xl_nfs_state.specs.State.{is_owner, is_stateid};
 ghost use Rattle.xl_nfs_opens.specs.Closing.{checked, close, close_by, close_done, share_closed, confirm_by, confirm_done, deleg_return, failed, holder_returned, cache_of, next_seqids, open_confirm, opener_by, owner_checked, return_done, returned, row_checked, seqid_checked, share_of_open, standing_fault, state_told, IsChecked};
 ghost use Rattle.xl_nfs_opens.specs.Plans.{carried};
 ghost use Rattle.xl_nfs_opens.specs.Results.{spelled, ToldFits};
-ghost use Rattle.xl_nfs_opens.specs.Short.{IsReady, Leaves};
+ghost use Rattle.xl_plan.specs.Budgets.{IsReady};
+ghost use Rattle.xl_nfs_opens.specs.Short.{Leaves};
 
 use crate::delegating::cache_held;
 use crate::done::{Done, ended_as};
@@ -133,7 +134,7 @@ pub fn fail(
 ) -> Result<Done, AllocError>
     requires there { IsSome (find (is_owner owner) state.old.owners) }
     requires fits { ToldFits op (Told.Ended status) }
-    ensures done { (n : ℕ) (s : CoreState) → IfOk result (λ r. carried n s state.old current (failed state.old current owner seqids op seqid status) ≡ (r.0, r.1, r.2, state.new, s)) }
+    ensures done { (n : ℕ) (s : CoreState) → IfOk result (λ r. carried n s state.old (failed state.old current owner seqids op seqid status) ≡ (r.0, r.1, r.2, state.new, s)) }
     ensures told { IfOk result (λ r. r.0 ≡ Told.Ended status) }
 {
     let told = Told::Ended(status);
@@ -194,7 +195,7 @@ fn confirm_passed(
     requires owner { IsSome (find (is_owner owner) state.old.owners) }
     requires there { find (is_stateid row.now.number) state.old.stateids ≡ Some row.now }
     requires open { row.now.standing.closed ≡ false }
-    ensures done { (n : ℕ) → IfOk result (λ r. carried n core.now state.old current (confirm_done core.now state.old current args.now row.now owner seqids (standing_fault row.now seqids args.now.stateid.seqid false)) ≡ (r.0, r.1, r.2, state.new, core.now)) }
+    ensures done { (n : ℕ) → IfOk result (λ r. carried n core.now state.old (confirm_done core.now state.old current args.now row.now owner seqids (standing_fault row.now seqids args.now.stateid.seqid false)) ≡ (r.0, r.1, r.2, state.new, core.now)) }
 {
     let op = operation::OPEN_CONFIRM;
     if let Some(status) = standing_fault(row, seqids, args.stateid.seqid, false) {
@@ -227,7 +228,7 @@ fn confirm_by(
     found: Checked,
 ) -> Result<Done, AllocError>
     requires found { IsChecked state.old found }
-    ensures done { (n : ℕ) → IfOk result (λ r. carried n core.now state.old current (confirm_by core.now state.old current args.now found) ≡ (r.0, r.1, r.2, state.new, core.now)) }
+    ensures done { (n : ℕ) → IfOk result (λ r. carried n core.now state.old (confirm_by core.now state.old current args.now found) ≡ (r.0, r.1, r.2, state.new, core.now)) }
 {
     match found {
         Checked::Refused(status) => Ok(ended_as(alloc, status, current)),
@@ -239,7 +240,7 @@ fn confirm_by(
 }
 
 /// OPEN_CONFIRM.
-#[tactic(auto, unfolding(crate::specs::Closing::open_confirm), using(crate::proofs::CheckLaws::passed_there, crate::proofs::LeaveLaws::leaves_then, crate::proofs::LeaveLaws::ready_then))]
+#[tactic(auto, unfolding(crate::specs::Closing::open_confirm), using(crate::proofs::CheckLaws::passed_there, xl_plan::proofs::BudgetLaws::leaves_then, xl_plan::proofs::BudgetLaws::ready_then))]
 pub fn open_confirm(
     alloc: Global,
     state: &mut NfsState,
@@ -248,7 +249,7 @@ pub fn open_confirm(
     args: &OpenConfirmArgs,
 ) -> Result<Done, AllocError>
     requires ready { IsReady 0 core.old }
-    ensures done { (n : ℕ) → IfOk result (λ r. carried n core.old state.old current (open_confirm core.old state.old current args.now) ≡ (r.0, r.1, r.2, state.new, core.new)) }
+    ensures done { (n : ℕ) → IfOk result (λ r. carried n core.old state.old (open_confirm core.old state.old current args.now) ≡ (r.0, r.1, r.2, state.new, core.new)) }
     ensures leaves { OnOk result (Leaves 0 core.old core.new) }
 {
     let client = state_client(state, core, &args.stateid);
@@ -301,7 +302,7 @@ pub(crate) fn share_of_open(
 }
 
 /// The share of an open goes, and the stateids of the locks under it; the open is closed.
-#[tactic(auto, using(crate::proofs::LeaveLaws::leaves_self))]
+#[tactic(auto, using(xl_plan::proofs::BudgetLaws::leaves_self))]
 fn close_share(
     alloc: Global,
     state: &mut NfsState,
@@ -316,7 +317,7 @@ fn close_share(
     requires owner { IsSome (find (is_owner owner) state.old.owners) }
     requires there { find (is_stateid row.now.number) state.old.stateids ≡ Some row.now }
     requires open { row.now.standing.closed ≡ false }
-    ensures done { (n : ℕ) → IfOk result (λ r. carried n core.old state.old current (share_closed core.old state.old current args.now row.now owner seqids) ≡ (r.0, r.1, r.2, state.new, core.new)) }
+    ensures done { (n : ℕ) → IfOk result (λ r. carried n core.old state.old (share_closed core.old state.old current args.now row.now owner seqids) ≡ (r.0, r.1, r.2, state.new, core.new)) }
     ensures leaves { OnOk result (Leaves 0 core.old core.new) }
 {
     let op = operation::CLOSE;
@@ -340,7 +341,7 @@ fn close_share(
 }
 
 /// CLOSE of an open that was found: the locks under it end before its share.
-#[tactic(auto, using(crate::proofs::ResultLaws::fits_4, crate::proofs::LeaveLaws::leaves_self, crate::proofs::LeaveLaws::leaves_then, crate::proofs::LeaveLaws::ready_then))]
+#[tactic(auto, using(crate::proofs::ResultLaws::fits_4, xl_plan::proofs::BudgetLaws::leaves_self, xl_plan::proofs::BudgetLaws::leaves_then, xl_plan::proofs::BudgetLaws::ready_then))]
 fn close_passed<K: Keeper>(
     alloc: Global,
     state: &mut NfsState,
@@ -356,7 +357,7 @@ fn close_passed<K: Keeper>(
     requires owner { IsSome (find (is_owner owner) state.old.owners) }
     requires there { find (is_stateid row.now.number) state.old.stateids ≡ Some row.now }
     requires open { row.now.standing.closed ≡ false }
-    ensures done { (n : ℕ) → IfOk result (λ r. carried n core.old state.old current (close_done core.old state.old current args.now row.now owner seqids (standing_fault row.now seqids args.now.stateid.seqid true)) ≡ (r.0, r.1, r.2, state.new, core.new)) }
+    ensures done { (n : ℕ) → IfOk result (λ r. carried n core.old state.old (close_done core.old state.old current args.now row.now owner seqids (standing_fault row.now seqids args.now.stateid.seqid true)) ≡ (r.0, r.1, r.2, state.new, core.new)) }
     ensures leaves { OnOk result (Leaves 0 core.old core.new) }
     ensures keeper { keeper.new ≡ keeper.old }
 {
@@ -382,7 +383,7 @@ fn close_by<K: Keeper>(
 ) -> Result<Done, AllocError>
     requires ready { IsReady 2 core.old }
     requires found { IsChecked state.old found }
-    ensures done { (n : ℕ) → IfOk result (λ r. carried n core.old state.old current (close_by core.old state.old current args.now found) ≡ (r.0, r.1, r.2, state.new, core.new)) }
+    ensures done { (n : ℕ) → IfOk result (λ r. carried n core.old state.old (close_by core.old state.old current args.now found) ≡ (r.0, r.1, r.2, state.new, core.new)) }
     ensures leaves { OnOk result (Leaves 0 core.old core.new) }
     ensures keeper { keeper.new ≡ keeper.old }
 {
@@ -398,7 +399,7 @@ fn close_by<K: Keeper>(
 }
 
 /// CLOSE.
-#[tactic(auto, unfolding(crate::specs::Closing::close), using(crate::proofs::CheckLaws::passed_there, crate::proofs::LeaveLaws::leaves_then, crate::proofs::LeaveLaws::ready_then))]
+#[tactic(auto, unfolding(crate::specs::Closing::close), using(crate::proofs::CheckLaws::passed_there, xl_plan::proofs::BudgetLaws::leaves_then, xl_plan::proofs::BudgetLaws::ready_then))]
 pub fn close<K: Keeper>(
     alloc: Global,
     state: &mut NfsState,
@@ -408,7 +409,7 @@ pub fn close<K: Keeper>(
     args: &CloseArgs,
 ) -> Result<Done, AllocError>
     requires ready { IsReady 2 core.old }
-    ensures done { (n : ℕ) → IfOk result (λ r. carried n core.old state.old current (close core.old state.old current args.now) ≡ (r.0, r.1, r.2, state.new, core.new)) }
+    ensures done { (n : ℕ) → IfOk result (λ r. carried n core.old state.old (close core.old state.old current args.now) ≡ (r.0, r.1, r.2, state.new, core.new)) }
     ensures leaves { OnOk result (Leaves 0 core.old core.new) }
     ensures keeper { keeper.new ≡ keeper.old }
 {
@@ -471,7 +472,7 @@ fn cache_of(
 }
 
 /// DELEGRETURN by what is found for its stateid: the cache is given back, and the stateid goes.
-#[tactic(auto, using(crate::proofs::LeaveLaws::leaves_self))]
+#[tactic(auto, using(xl_plan::proofs::BudgetLaws::leaves_self))]
 fn return_by(
     alloc: Global,
     state: &mut NfsState,
@@ -480,7 +481,7 @@ fn return_by(
     found: Result<StateidRow, NfsStatus>,
 ) -> Result<Done, AllocError>
     requires ready { IsReady 0 core.old }
-    ensures done { (n : ℕ) → IfOk result (λ r. carried n core.old state.old current (return_done core.old state.old current found) ≡ (r.0, r.1, r.2, state.new, core.new)) }
+    ensures done { (n : ℕ) → IfOk result (λ r. carried n core.old state.old (return_done core.old state.old current found) ≡ (r.0, r.1, r.2, state.new, core.new)) }
     ensures leaves { OnOk result (Leaves 0 core.old core.new) }
 {
     match found {
@@ -496,7 +497,7 @@ fn return_by(
 
 /// DELEGRETURN: the client gives its delegation of the current file back. NOFILEHANDLE, STALE_STATEID, BAD_STATEID and
 /// OLD_STATEID by the stateid.
-#[tactic(auto, unfolding(crate::specs::Closing::deleg_return), using(crate::proofs::LeaveLaws::leaves_then, crate::proofs::LeaveLaws::ready_then))]
+#[tactic(auto, unfolding(crate::specs::Closing::deleg_return), using(xl_plan::proofs::BudgetLaws::leaves_then, xl_plan::proofs::BudgetLaws::ready_then))]
 pub fn deleg_return(
     alloc: Global,
     state: &mut NfsState,
@@ -505,7 +506,7 @@ pub fn deleg_return(
     stateid: &Stateid,
 ) -> Result<Done, AllocError>
     requires ready { IsReady 0 core.old }
-    ensures done { (n : ℕ) → IfOk result (λ r. carried n core.old state.old current (deleg_return core.old state.old current stateid.now) ≡ (r.0, r.1, r.2, state.new, core.new)) }
+    ensures done { (n : ℕ) → IfOk result (λ r. carried n core.old state.old (deleg_return core.old state.old current stateid.now) ≡ (r.0, r.1, r.2, state.new, core.new)) }
     ensures leaves { OnOk result (Leaves 0 core.old core.new) }
 {
     let client = state_client(state, core, stateid);

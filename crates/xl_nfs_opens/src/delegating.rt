@@ -8,7 +8,8 @@ ghost use Rattle.xl_nfs.specs.Opens.{shown_open_args, shown_open_claim};
 ghost use Rattle.xl_nfs_state.specs.Keys.{place_of, same_place};
 ghost use Rattle.xl_core.specs.Askers.{party_named};
 ghost use Rattle.xl_nfs_opens.specs.Opens.{cache_by, cache_held, delegation_of, can_stand, delegated, delegated_in, delegation_row, delegation_told, drawn_for, granted_wish, has_none, has_program, kind_for, type_claimed, wish_of, wished_kinds};
-ghost use Rattle.xl_nfs_opens.specs.Short.{IsReady, Leaves};
+ghost use Rattle.xl_plan.specs.Budgets.{IsReady};
+ghost use Rattle.xl_nfs_opens.specs.Short.{Leaves};
 
 use crate::leases::drawn;
 use crate::opener::Opener;
@@ -250,7 +251,7 @@ fn enter_delegation(
 }
 
 /// A delegation comes under the next number, where one is granted, and this is told of it.
-#[tactic(auto, using(crate::proofs::LeaveLaws::leaves_self, crate::proofs::LeaveLaws::leaves_more, crate::proofs::LeaveLaws::ready_less))]
+#[tactic(auto, using(xl_plan::proofs::BudgetLaws::leaves_self, xl_plan::proofs::BudgetLaws::leaves_more, xl_plan::proofs::BudgetLaws::ready_less))]
 pub(crate) fn delegate(
     alloc: Global,
     state: &mut NfsState,

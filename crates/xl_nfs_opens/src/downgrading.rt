@@ -6,7 +6,8 @@ ghost use Rattle.xl_nfs_state.specs.State.{is_owner, is_stateid};
 ghost use Rattle.xl_nfs_opens.specs.Closing.{can_weaken, standing_fault, IsChecked};
 ghost use Rattle.xl_nfs_opens.specs.Downgrades.{downgrade_by, downgrade_done, downgrade_fault, open_downgrade};
 ghost use Rattle.xl_nfs_opens.specs.Plans.{carried};
-ghost use Rattle.xl_nfs_opens.specs.Short.{IsReady, Leaves};
+ghost use Rattle.xl_plan.specs.Budgets.{IsReady};
+ghost use Rattle.xl_nfs_opens.specs.Short.{Leaves};
 
 use crate::closing::{check, fail, finish, next_seqids, share_of_open, standing_fault};
 use crate::done::{Done, ended_as};
@@ -54,7 +55,7 @@ fn downgrade_fault(
 }
 
 /// OPEN_DOWNGRADE of an open that was found.
-#[tactic(auto, using(crate::proofs::ResultLaws::fits_21, crate::proofs::LeaveLaws::leaves_self))]
+#[tactic(auto, using(crate::proofs::ResultLaws::fits_21, xl_plan::proofs::BudgetLaws::leaves_self))]
 fn downgrade_passed(
     alloc: Global,
     state: &mut NfsState,
@@ -69,7 +70,7 @@ fn downgrade_passed(
     requires owner { IsSome (find (is_owner owner) state.old.owners) }
     requires there { find (is_stateid row.now.number) state.old.stateids ≡ Some row.now }
     requires open { row.now.standing.closed ≡ false }
-    ensures done { (n : ℕ) → IfOk result (λ r. carried n core.old state.old current (downgrade_done core.old state.old current args.now row.now owner seqids (downgrade_fault row.now seqids args.now)) ≡ (r.0, r.1, r.2, state.new, core.new)) }
+    ensures done { (n : ℕ) → IfOk result (λ r. carried n core.old state.old (downgrade_done core.old state.old current args.now row.now owner seqids (downgrade_fault row.now seqids args.now)) ≡ (r.0, r.1, r.2, state.new, core.new)) }
     ensures leaves { OnOk result (Leaves 0 core.old core.new) }
 {
     let op = operation::OPEN_DOWNGRADE;
@@ -107,7 +108,7 @@ fn downgrade_by(
 ) -> Result<Done, AllocError>
     requires ready { IsReady 0 core.old }
     requires found { IsChecked state.old found }
-    ensures done { (n : ℕ) → IfOk result (λ r. carried n core.old state.old current (downgrade_by core.old state.old current args.now found) ≡ (r.0, r.1, r.2, state.new, core.new)) }
+    ensures done { (n : ℕ) → IfOk result (λ r. carried n core.old state.old (downgrade_by core.old state.old current args.now found) ≡ (r.0, r.1, r.2, state.new, core.new)) }
     ensures leaves { OnOk result (Leaves 0 core.old core.new) }
 {
     match found {
@@ -120,7 +121,7 @@ fn downgrade_by(
 }
 
 /// OPEN_DOWNGRADE.
-#[tactic(auto, unfolding(crate::specs::Downgrades::open_downgrade), using(crate::proofs::CheckLaws::passed_there, crate::proofs::LeaveLaws::leaves_then, crate::proofs::LeaveLaws::ready_then))]
+#[tactic(auto, unfolding(crate::specs::Downgrades::open_downgrade), using(crate::proofs::CheckLaws::passed_there, xl_plan::proofs::BudgetLaws::leaves_then, xl_plan::proofs::BudgetLaws::ready_then))]
 pub fn open_downgrade(
     alloc: Global,
     state: &mut NfsState,
@@ -129,7 +130,7 @@ pub fn open_downgrade(
     args: &OpenDowngradeArgs,
 ) -> Result<Done, AllocError>
     requires ready { IsReady 0 core.old }
-    ensures done { (n : ℕ) → IfOk result (λ r. carried n core.old state.old current (open_downgrade core.old state.old current args.now) ≡ (r.0, r.1, r.2, state.new, core.new)) }
+    ensures done { (n : ℕ) → IfOk result (λ r. carried n core.old state.old (open_downgrade core.old state.old current args.now) ≡ (r.0, r.1, r.2, state.new, core.new)) }
     ensures leaves { OnOk result (Leaves 0 core.old core.new) }
 {
     let client = state_client(state, core, &args.stateid);

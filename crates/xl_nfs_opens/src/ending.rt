@@ -2,7 +2,8 @@
 ghost use Rattle.std.specs.Prelude.{◌≡◌, ℕ, [], IfOk, OnOk};
 ghost use Rattle.xl_core.specs.Deeds.{all_done, all_told_of};
 ghost use Rattle.xl_nfs_opens.specs.Closing.{ends_locks, gives_up, lock_owner, locks_under};
-ghost use Rattle.xl_nfs_opens.specs.Short.{IsReady, Leaves};
+ghost use Rattle.xl_plan.specs.Budgets.{IsReady};
+ghost use Rattle.xl_nfs_opens.specs.Short.{Leaves};
 
 use crate::asks::unlock_ask;
 use crate::closing::opener_by;

@@ -3,7 +3,8 @@ ghost use Rattle.std.specs.Prelude.{◌≡◌, ℕ, ◌+◌, [], ◌∷◌, OnOk
 ghost use Rattle.xl_core.specs.Deeds.{all_done, all_told_of, Renews};
 ghost use Rattle.xl_core.specs.State.{drawn};
 ghost use Rattle.xl_nfs_opens.specs.Leases.{lease_end};
-ghost use Rattle.xl_nfs_opens.specs.Short.{IsReady, Leaves};
+ghost use Rattle.xl_plan.specs.Budgets.{IsReady};
+ghost use Rattle.xl_nfs_opens.specs.Short.{Leaves};
 
 use std::alloc::{AllocError, Global};
 use xl_base::{Moment, Party, Protocol, Sequence};
@@ -30,7 +31,7 @@ pub fn renewed(alloc: Global, core: &mut Core, id: &[u8]) -> Result<(), AllocErr
 }
 
 /// Gives out the next number.
-#[tactic(auto, using(crate::proofs::LeaveLaws::ready_numbers, crate::proofs::LeaveLaws::drawn_leaves, crate::proofs::LeaveLaws::drawn_number, crate::proofs::LeaveLaws::drawn_stable))]
+#[tactic(auto, using(xl_plan::proofs::BudgetLaws::ready_numbers, xl_plan::proofs::BudgetLaws::drawn_leaves, xl_plan::proofs::BudgetLaws::drawn_number, xl_plan::proofs::BudgetLaws::drawn_stable))]
 pub fn drawn(core: &mut Core) -> u32
     requires ready { IsReady 0 core.old }
     ensures state { core.new ≡ drawn core.old }

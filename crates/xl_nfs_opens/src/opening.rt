@@ -1,5 +1,5 @@
 //! OPEN (RFC 7530 16.16).
-ghost use Rattle.std.specs.Prelude.{◌≡◌, ◌||◌, ℕ, [], false, true, None, Some, IsSome, option_copied, IfOk, OnOk, Option};
+ghost use Rattle.std.specs.Prelude.{◌≡◌, ◌||◌, ℕ, [], false, true, None, Some, IsSome, option_copied, IfOk, OnOk};
 ghost use Rattle.std.specs.List.{find};
 ghost use Rattle.xl_core.specs.State.{CoreState, MayBe};
 ghost use Rattle.xl_nfs.specs.Opens.{shown_open_args, shown_open_claim};
@@ -7,7 +7,8 @@ ghost use Rattle.xl_nfs.specs.Outcomes.{is_ok};
 ghost use Rattle.xl_nfs_state.specs.State.{is_client, is_stateid};
 ghost use Rattle.xl_nfs_opens.specs.Opens.{answer_status, answered, granted_by, is_granted, granted_more, granted_new, judged, judged_by, open_as, open_at, open_claimed, open_file, open_judged, open_on, reclaims, refused, claim_client, client_in, open_held, opener_of};
 ghost use Rattle.xl_nfs_opens.specs.Plans.{carried};
-ghost use Rattle.xl_nfs_opens.specs.Short.{IsReady, Leaves};
+ghost use Rattle.xl_plan.specs.Budgets.{IsReady};
+ghost use Rattle.xl_nfs_opens.specs.Short.{Leaves};
 
 use crate::aims::opened_file;
 use crate::delegating::{delegate, granted_wish, wish_of};
@@ -91,7 +92,7 @@ fn refuse(
 ) -> Result<(Told, Option<u32>), AllocError>
     requires client { IsSome (find (is_client opener.now.client true) state.old.clients) }
     requires fails { is_ok status ≡ false }
-    ensures done { (n : ℕ) (s : CoreState) → IfOk result (λ r. carried n s state.old current (refused state.old current opener.now (shown_open_args args.now) confirmed status) ≡ (r.0, r.1, [], state.new, s)) }
+    ensures done { (n : ℕ) (s : CoreState) → IfOk result (λ r. carried n s state.old (refused state.old current opener.now (shown_open_args args.now) confirmed status) ≡ (r.0, r.1, [], state.new, s)) }
 {
     let told = Told::Ended(status);
     if advances(status) {
@@ -102,7 +103,7 @@ fn refuse(
 }
 
 /// The owner has no open on the file: a new one takes the next number, and a delegation the one behind it.
-#[tactic(auto, using(crate::proofs::LeaveLaws::ready_less, crate::proofs::LeaveLaws::ready_then, crate::proofs::LeaveLaws::leaves_then))]
+#[tactic(auto, using(xl_plan::proofs::BudgetLaws::ready_less, xl_plan::proofs::BudgetLaws::ready_then, xl_plan::proofs::BudgetLaws::leaves_then))]
 fn grant_new(
     alloc: Global,
     state: &mut NfsState,
@@ -115,7 +116,7 @@ fn grant_new(
 ) -> Result<(Told, Option<u32>), AllocError>
     requires client { IsSome (find (is_client opener.now.client true) state.old.clients) }
     requires ready { IsReady 2 core.old }
-    ensures done { (n : ℕ) (current : Option ℕ) → IfOk result (λ r. carried n core.old state.old current (granted_new core.old state.old opener.now (shown_open_args args.now) file confirmed write) ≡ (r.0, r.1, [], state.new, core.new)) }
+    ensures done { (n : ℕ) → IfOk result (λ r. carried n core.old state.old (granted_new core.old state.old opener.now (shown_open_args args.now) file confirmed write) ≡ (r.0, r.1, [], state.new, core.new)) }
     ensures leaves { OnOk result (Leaves 2 core.old core.new) }
 {
     let owner = opener_number(state, opener);
@@ -134,7 +135,7 @@ fn grant_new(
 }
 
 /// It has one: that has the rights of both from then on.
-#[tactic(auto, using(crate::proofs::LeaveLaws::ready_less, crate::proofs::LeaveLaws::leaves_more))]
+#[tactic(auto, using(xl_plan::proofs::BudgetLaws::ready_less, xl_plan::proofs::BudgetLaws::leaves_more))]
 fn grant_more(
     alloc: Global,
     state: &mut NfsState,
@@ -150,7 +151,7 @@ fn grant_more(
     requires there { find (is_stateid row.now.number) state.old.stateids ≡ Some row.now }
     requires open { row.now.standing.closed ≡ false }
     requires ready { IsReady 2 core.old }
-    ensures done { (n : ℕ) (current : Option ℕ) → IfOk result (λ r. carried n core.old state.old current (granted_more core.old state.old opener.now (shown_open_args args.now) file confirmed write row.now) ≡ (r.0, r.1, [], state.new, core.new)) }
+    ensures done { (n : ℕ) → IfOk result (λ r. carried n core.old state.old (granted_more core.old state.old opener.now (shown_open_args args.now) file confirmed write row.now) ≡ (r.0, r.1, [], state.new, core.new)) }
     ensures leaves { OnOk result (Leaves 2 core.old core.new) }
 {
     let owner = opener_number(state, opener);
@@ -182,7 +183,7 @@ fn grant(
 ) -> Result<(Told, Option<u32>), AllocError>
     requires client { IsSome (find (is_client opener.now.client true) state.old.clients) }
     requires ready { IsReady 2 core.old }
-    ensures done { (n : ℕ) (current : Option ℕ) → IfOk result (λ r. carried n core.old state.old current (granted_by core.old state.old opener.now (shown_open_args args.now) file confirmed write (open_held state.old opener.now file)) ≡ (r.0, r.1, [], state.new, core.new)) }
+    ensures done { (n : ℕ) → IfOk result (λ r. carried n core.old state.old (granted_by core.old state.old opener.now (shown_open_args args.now) file confirmed write (open_held state.old opener.now file)) ≡ (r.0, r.1, [], state.new, core.new)) }
     ensures leaves { OnOk result (Leaves 2 core.old core.new) }
 {
     match open_held(state, opener, file) {
@@ -200,7 +201,7 @@ fn grant(
 }
 
 /// What becomes of the request by the core's answer.
-#[tactic(auto, using(crate::proofs::EndLaws::status_fails, crate::proofs::LeaveLaws::leaves_self, crate::proofs::LeaveLaws::leaves_more, crate::proofs::LeaveLaws::ready_less))]
+#[tactic(auto, using(crate::proofs::EndLaws::status_fails, xl_plan::proofs::BudgetLaws::leaves_self, xl_plan::proofs::BudgetLaws::leaves_more, xl_plan::proofs::BudgetLaws::ready_less))]
 fn answer(
     alloc: Global,
     state: &mut NfsState,
@@ -215,7 +216,7 @@ fn answer(
 ) -> Result<(Told, Option<u32>), AllocError>
     requires client { IsSome (find (is_client opener.now.client true) state.old.clients) }
     requires ready { IsReady 2 core.old }
-    ensures done { (n : ℕ) → IfOk result (λ r. carried n core.old state.old current (answered state.old current opener.now (shown_open_args args.now) file confirmed wish answer core.old) ≡ (r.0, r.1, [], state.new, core.new)) }
+    ensures done { (n : ℕ) → IfOk result (λ r. carried n core.old state.old (answered state.old current opener.now (shown_open_args args.now) file confirmed wish answer core.old) ≡ (r.0, r.1, [], state.new, core.new)) }
     ensures leaves { OnOk result (Leaves 2 core.old core.new) }
 {
     let reclaim = reclaims(&args.claim);
@@ -231,7 +232,7 @@ fn answer(
 }
 
 /// The share of the file is asked for, where there is room beside so many opens of others.
-#[tactic(auto, using(crate::proofs::LeaveLaws::ask_ready, crate::proofs::LeaveLaws::asked_leaves, crate::proofs::LeaveLaws::leaves_self, crate::proofs::LeaveLaws::leaves_more))]
+#[tactic(auto, using(crate::proofs::LeaveLaws::ask_ready, crate::proofs::LeaveLaws::asked_leaves, xl_plan::proofs::BudgetLaws::leaves_self, xl_plan::proofs::BudgetLaws::leaves_more))]
 fn open_on<K: Keeper>(
     alloc: Global,
     others: u32,
@@ -246,7 +247,7 @@ fn open_on<K: Keeper>(
 ) -> Result<Done, AllocError>
     requires client { IsSome (find (is_client opener.now.client true) state.old.clients) }
     requires ready { IsReady 4 core.old }
-    ensures done { (n : ℕ) → IfOk result (λ r. MayBe n core.new → carried n core.old state.old current (open_on others core.old state.old current opener.now (shown_open_args args.now) confirmed file) ≡ (r.0, r.1, r.2, state.new, core.new)) }
+    ensures done { (n : ℕ) → IfOk result (λ r. MayBe n core.new → carried n core.old state.old (open_on others core.old state.old current opener.now (shown_open_args args.now) confirmed file) ≡ (r.0, r.1, r.2, state.new, core.new)) }
     ensures leaves { OnOk result (Leaves 4 core.old core.new) }
     ensures keeper { keeper.new ≡ keeper.old }
 {
@@ -263,7 +264,7 @@ fn open_on<K: Keeper>(
 }
 
 /// OPEN by an owner that is confirmed, or new.
-#[tactic(auto, unfolding(crate::specs::Opens::open_as), using(crate::proofs::LeaveLaws::leaves_self, crate::proofs::LeaveLaws::leaves_more))]
+#[tactic(auto, unfolding(crate::specs::Opens::open_as), using(xl_plan::proofs::BudgetLaws::leaves_self, xl_plan::proofs::BudgetLaws::leaves_more))]
 fn open_as<K: Keeper>(
     alloc: Global,
     files: &[Sequence<u8>],
@@ -278,7 +279,7 @@ fn open_as<K: Keeper>(
 ) -> Result<Done, AllocError>
     requires client { IsSome (find (is_client opener.now.client true) state.old.clients) }
     requires ready { IsReady 4 core.old }
-    ensures done { (n : ℕ) → IfOk result (λ r. MayBe n core.new → carried n core.old state.old (Some at) (open_as files.now others core.old state.old (Some at) at opener.now (shown_open_args args.now) confirmed) ≡ (r.0, r.1, r.2, state.new, core.new)) }
+    ensures done { (n : ℕ) → IfOk result (λ r. MayBe n core.new → carried n core.old state.old (open_as files.now others core.old state.old (Some at) at opener.now (shown_open_args args.now) confirmed) ≡ (r.0, r.1, r.2, state.new, core.new)) }
     ensures leaves { OnOk result (Leaves 4 core.old core.new) }
     ensures keeper { keeper.new ≡ keeper.old }
 {
@@ -298,7 +299,7 @@ fn open_as<K: Keeper>(
 }
 
 /// OPEN by an owner that was never confirmed: it goes with its open, and is new.
-#[tactic(auto, using(crate::proofs::LeaveLaws::leaves_then, crate::proofs::LeaveLaws::ready_then, crate::proofs::LeaveLaws::ready_less))]
+#[tactic(auto, using(xl_plan::proofs::BudgetLaws::leaves_then, xl_plan::proofs::BudgetLaws::ready_then, xl_plan::proofs::BudgetLaws::ready_less))]
 fn open_anew<K: Keeper>(
     alloc: Global,
     files: &[Sequence<u8>],
@@ -313,7 +314,7 @@ fn open_anew<K: Keeper>(
 ) -> Result<Done, AllocError>
     requires client { IsSome (find (is_client opener.now.client true) state.old.clients) }
     requires ready { IsReady 4 core.old }
-    ensures done { (n : ℕ) → IfOk result (λ r. MayBe n core.new → carried n core.old state.old (Some at) (open_judged files.now others core.old state.old (Some at) at opener.now (shown_open_args args.now) (Judged.Anew number)) ≡ (r.0, r.1, r.2, state.new, core.new)) }
+    ensures done { (n : ℕ) → IfOk result (λ r. MayBe n core.new → carried n core.old state.old (open_judged files.now others core.old state.old (Some at) at opener.now (shown_open_args args.now) (Judged.Anew number)) ≡ (r.0, r.1, r.2, state.new, core.new)) }
     ensures leaves { OnOk result (Leaves 4 core.old core.new) }
     ensures keeper { keeper.new ≡ keeper.old }
 {
@@ -329,7 +330,7 @@ fn open_anew<K: Keeper>(
 }
 
 /// OPEN by what the owner's seqid says.
-#[tactic(auto, using(crate::proofs::LeaveLaws::leaves_self, crate::proofs::LeaveLaws::leaves_more))]
+#[tactic(auto, using(xl_plan::proofs::BudgetLaws::leaves_self, xl_plan::proofs::BudgetLaws::leaves_more))]
 fn open_judged<K: Keeper>(
     alloc: Global,
     files: &[Sequence<u8>],
@@ -344,7 +345,7 @@ fn open_judged<K: Keeper>(
 ) -> Result<Done, AllocError>
     requires client { IsSome (find (is_client opener.now.client true) state.old.clients) }
     requires ready { IsReady 4 core.old }
-    ensures done { (n : ℕ) → IfOk result (λ r. MayBe n core.new → carried n core.old state.old (Some at) (open_judged files.now others core.old state.old (Some at) at opener.now (shown_open_args args.now) judged) ≡ (r.0, r.1, r.2, state.new, core.new)) }
+    ensures done { (n : ℕ) → IfOk result (λ r. MayBe n core.new → carried n core.old state.old (open_judged files.now others core.old state.old (Some at) at opener.now (shown_open_args args.now) judged) ≡ (r.0, r.1, r.2, state.new, core.new)) }
     ensures leaves { OnOk result (Leaves 4 core.old core.new) }
     ensures keeper { keeper.new ≡ keeper.old }
 {
@@ -390,7 +391,7 @@ pub fn client_in<'a>(state: &'a NfsState, core: &Core, clientid: u64) -> Option<
 }
 
 /// OPEN where a file or the root is the current one.
-#[tactic(auto, using(crate::proofs::LeaveLaws::leaves_self, crate::proofs::LeaveLaws::leaves_more))]
+#[tactic(auto, using(xl_plan::proofs::BudgetLaws::leaves_self, xl_plan::proofs::BudgetLaws::leaves_more))]
 fn open_at<K: Keeper>(
     alloc: Global,
     files: &[Sequence<u8>],
@@ -402,7 +403,7 @@ fn open_at<K: Keeper>(
     current: Option<u32>,
 ) -> Result<Done, AllocError>
     requires ready { IsReady 4 core.old }
-    ensures done { (n : ℕ) → IfOk result (λ r. MayBe n core.new → carried n core.old state.old current (open_at files.now others core.old state.old (shown_open_args args.now) current) ≡ (r.0, r.1, r.2, state.new, core.new)) }
+    ensures done { (n : ℕ) → IfOk result (λ r. MayBe n core.new → carried n core.old state.old (open_at files.now others core.old state.old (shown_open_args args.now) current) ≡ (r.0, r.1, r.2, state.new, core.new)) }
     ensures leaves { OnOk result (Leaves 4 core.old core.new) }
     ensures keeper { keeper.new ≡ keeper.old }
 {
@@ -431,7 +432,7 @@ fn claim_client(state: &NfsState, core: &Core, claim: &OpenClaim) -> Option<u32>
 }
 
 /// OPEN, once the lease of the client is renewed.
-#[tactic(auto, unfolding(crate::specs::Opens::open_claimed), using(crate::proofs::LeaveLaws::leaves_then, crate::proofs::LeaveLaws::ready_then))]
+#[tactic(auto, unfolding(crate::specs::Opens::open_claimed), using(xl_plan::proofs::BudgetLaws::leaves_then, xl_plan::proofs::BudgetLaws::ready_then))]
 fn open_claimed<K: Keeper>(
     alloc: Global,
     files: &[Sequence<u8>],
@@ -443,7 +444,7 @@ fn open_claimed<K: Keeper>(
     args: &OpenArgs,
 ) -> Result<Done, AllocError>
     requires ready { IsReady 4 core.old }
-    ensures done { (n : ℕ) → IfOk result (λ r. MayBe n core.new → carried n core.old state.old current (open_claimed files.now others core.old state.old current (shown_open_args args.now)) ≡ (r.0, r.1, r.2, state.new, core.new)) }
+    ensures done { (n : ℕ) → IfOk result (λ r. MayBe n core.new → carried n core.old state.old (open_claimed files.now others core.old state.old current (shown_open_args args.now)) ≡ (r.0, r.1, r.2, state.new, core.new)) }
     ensures leaves { OnOk result (Leaves 4 core.old core.new) }
     ensures keeper { keeper.new ≡ keeper.old }
 {
@@ -454,7 +455,7 @@ fn open_claimed<K: Keeper>(
 }
 
 /// OPEN.
-#[tactic(auto, unfolding(crate::specs::Opens::open_file), using(crate::proofs::LeaveLaws::leaves_then, crate::proofs::LeaveLaws::ready_then))]
+#[tactic(auto, unfolding(crate::specs::Opens::open_file), using(xl_plan::proofs::BudgetLaws::leaves_then, xl_plan::proofs::BudgetLaws::ready_then))]
 pub fn open_file<K: Keeper>(
     alloc: Global,
     files: &[Sequence<u8>],
@@ -466,7 +467,7 @@ pub fn open_file<K: Keeper>(
     args: &OpenArgs,
 ) -> Result<Done, AllocError>
     requires ready { IsReady 4 core.old }
-    ensures done { (n : ℕ) → IfOk result (λ r. MayBe n core.new → carried n core.old state.old current (open_file files.now others core.old state.old current (shown_open_args args.now)) ≡ (r.0, r.1, r.2, state.new, core.new)) }
+    ensures done { (n : ℕ) → IfOk result (λ r. MayBe n core.new → carried n core.old state.old (open_file files.now others core.old state.old current (shown_open_args args.now)) ≡ (r.0, r.1, r.2, state.new, core.new)) }
     ensures leaves { OnOk result (Leaves 4 core.old core.new) }
     ensures keeper { keeper.new ≡ keeper.old }
 {

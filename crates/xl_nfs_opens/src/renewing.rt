@@ -2,7 +2,8 @@
 ghost use Rattle.std.specs.Prelude.{◌≡◌, ℕ, [], Some, OnOk};
 ghost use Rattle.xl_core.specs.Deeds.{all_done, all_told_of};
 ghost use Rattle.xl_nfs_opens.specs.Renewing.{number_of, renewals, renewed_for, same_stateid, state_client, stateid_of};
-ghost use Rattle.xl_nfs_opens.specs.Short.{IsReady, Leaves};
+ghost use Rattle.xl_plan.specs.Budgets.{IsReady};
+ghost use Rattle.xl_nfs_opens.specs.Short.{Leaves};
 
 use crate::leases::{lease_end, renewed};
 use std::alloc::{AllocError, Global};
@@ -55,7 +56,7 @@ pub fn state_client(state: &NfsState, core: &Core, stateid: &Stateid) -> Option<
 }
 
 /// Renews the lease of the client of this number, where it is confirmed.
-#[tactic(auto, using(crate::proofs::LeaveLaws::leaves_self, crate::proofs::RenewLaws::renewals_done, crate::proofs::RenewLaws::renewals_told))]
+#[tactic(auto, using(xl_plan::proofs::BudgetLaws::leaves_self, crate::proofs::RenewLaws::renewals_done, crate::proofs::RenewLaws::renewals_told))]
 pub fn renew_for(
     alloc: Global,
     state: &mut NfsState,

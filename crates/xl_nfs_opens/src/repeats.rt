@@ -55,7 +55,7 @@ pub fn repeat(
     current: Option<u32>,
     owner: u64,
 ) -> Result<Done, AllocError>
-    ensures done { (n : ℕ) → IfOk result (λ r. carried n core.now state.now current (repeated core.now state.now current (find (is_kept owner) state.now.kept)) ≡ (r.0, r.1, r.2, state.now, core.now)) }
+    ensures done { (n : ℕ) → IfOk result (λ r. carried n core.now state.now (repeated core.now state.now current (find (is_kept owner) state.now.kept)) ≡ (r.0, r.1, r.2, state.now, core.now)) }
 {
     let Some(bytes) = state.find_kept(owner) else {
         return Ok(ended_as(alloc, NfsStatus::BadSeqid, current));

@@ -10,7 +10,8 @@ ghost use Rattle.xl_core.specs.Settle.{share_has};
 ghost use Rattle.xl_core.specs.State.{MayBe};
 ghost use Rattle.xl_nfs.specs.Opens.{shown_open_args, shown_open_claim};
 ghost use Rattle.xl_nfs_opens.specs.Opens.{all_rooms, gives, gives_all, rights_of, share_ask, share_by, share_held, given_up, reclaims};
-ghost use Rattle.xl_nfs_opens.specs.Short.{IsReady, Leaves, IsNfsAsk};
+ghost use Rattle.xl_plan.specs.Budgets.{IsReady};
+ghost use Rattle.xl_nfs_opens.specs.Short.{Leaves, IsNfsAsk};
 
 use crate::delegating::wished_kinds;
 use crate::opener::Opener;
@@ -77,7 +78,7 @@ pub(crate) fn share_held(
 }
 
 /// Gives back a claim, which is held, if it is one.
-#[tactic(auto, using(crate::proofs::LeaveLaws::leaves_self, crate::proofs::LeaveLaws::give_told))]
+#[tactic(auto, using(xl_plan::proofs::BudgetLaws::leaves_self, crate::proofs::LeaveLaws::give_told))]
 pub(crate) fn give(alloc: Global, core: &mut Core, share: Option<Claim>)
     requires ready { IsReady 0 core.old }
     requires held { IfSome share (λ claim. IsIn claim core.old.claims) }
@@ -103,7 +104,7 @@ fn share_has(what: What, access: Rwd, deny: Rwd) -> bool
 }
 
 /// Makes a claim weaker, which is held, if it is one, where it is a share and has these rights.
-#[tactic(auto, using(crate::proofs::LeaveLaws::leaves_self))]
+#[tactic(auto, using(xl_plan::proofs::BudgetLaws::leaves_self))]
 pub(crate) fn weaken(alloc: Global, core: &mut Core, share: Option<Claim>, access: Rwd, deny: Rwd)
     requires ready { IsReady 0 core.old }
     requires held { IfSome share (λ claim. IsIn claim core.old.claims) }
@@ -120,7 +121,7 @@ pub(crate) fn weaken(alloc: Global, core: &mut Core, share: Option<Claim>, acces
 }
 
 /// Gives back the owner's shares on the files of these.
-#[tactic(auto, using(crate::proofs::LeaveLaws::leaves_self, crate::proofs::LeaveLaws::leaves_then, crate::proofs::LeaveLaws::ready_then))]
+#[tactic(auto, using(xl_plan::proofs::BudgetLaws::leaves_self, xl_plan::proofs::BudgetLaws::leaves_then, xl_plan::proofs::BudgetLaws::ready_then))]
 pub(crate) fn give_all(
     alloc: Global,
     core: &mut Core,
@@ -180,7 +181,7 @@ pub(crate) fn share_ask(
 }
 
 /// Asks the core for OPEN.
-#[tactic(auto, using(crate::proofs::LeaveLaws::ready_numbers))]
+#[tactic(auto, using(xl_plan::proofs::BudgetLaws::ready_numbers))]
 pub fn asked<K: Keeper>(
     alloc: Global,
     core: &mut Core,

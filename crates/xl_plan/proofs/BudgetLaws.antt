@@ -1,20 +1,25 @@
 -- Budgets: what calls of the core leave, one behind the other.
 use Rattle.std.proofs.Common.{◌≡◌, ℕ, ◌+◌, ◌<◌, ◌≤◌, ◌^◌, Bool, true, false, if◌then◌else◌, List, [], ◌∷◌, ◌++◌, Option, refl, sym, ap, subst, ◌∙◌, inl, inr, arith, append-nil, append_assoc}
 use Rattle.std.proofs.lemmas.Bool.{cases_Bool}
-use Rattle.xl_base.proofs.Members.{all_append}
+use Rattle.std.specs.List.{AllByRecursion}
+use Rattle.xl_base.proofs.Members.{all_append, all_weaker}
 use Rattle.xl_base.specs.Limits.{numbers_left}
+use Rattle.xl_base.specs.Lists.{IsIn}
 use Rattle.xl_base.specs.declared.name.Party.{Party}
+use Rattle.xl_matrix.specs.declared.claim.CacheKind.{CacheKind}
 use Rattle.xl_matrix.specs.declared.claim.Claim.{Claim}
 use Rattle.xl_matrix.specs.declared.claim.Rwd.{Rwd}
 use Rattle.xl_names.specs.Names.{entered, is_kept}
 use Rattle.xl_names.specs.declared.name.Name.{Name}
+use Rattle.xl_wait.specs.Waiting.{is_waiting}
 use Rattle.xl_wait.specs.declared.waiter.Rooms.{Rooms}
 use Rattle.xl_core.specs.Askers.{who_entered, both_entered, IsFit}
 use Rattle.xl_core.specs.Decide.{Answered, ask}
 use Rattle.xl_core.specs.Frames.{IsFrame, asks_to_hold, names_after}
 use Rattle.xl_core.specs.Good.{IsGood}
 use Rattle.xl_core.specs.Numbers.{numbers_of}
-use Rattle.xl_core.specs.Settle.{close_open, end_party, give_back, weaken}
+use Rattle.xl_core.specs.BreakAnswers.{ack, may_be_left}
+use Rattle.xl_core.specs.Settle.{cancel, close_open, end_party, give_back, weaken}
 use Rattle.xl_core.specs.State.{CoreState, GoesOn, MayBe, drawn}
 use Rattle.xl_core.specs.Ticks.{renew}
 use Rattle.xl_core.specs.declared.ask.Answer.{Answer}
@@ -23,8 +28,8 @@ use Rattle.xl_core.specs.declared.ask.Ask.{Ask}
 use Rattle.xl_core.specs.declared.ask.Effect.{Effect}
 use Rattle.xl_core.specs.declared.ask.Who.{Who}
 use Rattle.xl_core.specs.declared.ask.Who.TheVariants.{Named, Open}
-use Rattle.xl_core.proofs.FrameLaws.{ask_frame, close_open_frame, drawn_frame, end_party_frame, frame_goes_on, give_back_frame, goes_on_self, renew_frame, weaken_frame}
-use Rattle.xl_core.proofs.NumberLaws.{ask_numbers, close_open_numbers, drawn_numbers, end_party_numbers, give_back_numbers, renew_numbers, weaken_numbers}
+use Rattle.xl_core.proofs.FrameLaws.{ack_frame, ask_frame, cancel_frame, close_open_frame, drawn_frame, end_party_frame, frame_goes_on, give_back_frame, goes_on_self, renew_frame, weaken_frame}
+use Rattle.xl_core.proofs.NumberLaws.{ack_numbers, ask_numbers, cancel_numbers, close_open_numbers, drawn_numbers, end_party_numbers, give_back_numbers, renew_numbers, weaken_numbers}
 use Rattle.xl_plan.specs.Budgets.{Come, IsReady, Leaves, IsWho, IsAskOf}
 
 -- ---- names that come
@@ -41,6 +46,10 @@ come_then {P} xs ys zs first second = record {
   is = second.is ∙ ap (λ (x : List Name). x ++ second.more) first.is ∙ append_assoc xs first.more second.more;
   all = all_append P first.more second.more first.all second.all;
 }
+
+-- where Q holds of the names that were kept, and of each that P holds of, it holds of all
+pub all_come : {P : Name → Type 0} (Q : Name → Type 0) (old new : List Name) → ((name : Name) → P name → Q name) → Come P old new → AllByRecursion Q old → AllByRecursion Q new
+all_come {P} Q old new each come all = subst (λ (names : List Name). AllByRecursion Q names) (sym come.is) (all_append Q old come.more all (all_weaker P Q come.more each come.all))
 
 pub one_comes : {P : Name → Type 0} (name : Name) (names : List Name) → P name → Come P names (entered name names)
 one_comes name names is =
@@ -72,6 +81,14 @@ leaves_then s t u a b first second =
 
 pub leaves_more : {P : Name → Type 0} (s t : CoreState) (a b : ℕ) → a ≤ b → Leaves P a s t → Leaves P b s t
 leaves_more s t a b le leaves = record { on = leaves.on; good = leaves.good; numbers = omega (arith, le, leaves.numbers); names = leaves.names }
+
+pub leaves_weaker : {P : Name → Type 0} (Q : Name → Type 0) (s t : CoreState) (most : ℕ) → ((name : Name) → P name → Q name) → Leaves P most s t → Leaves Q most s t
+leaves_weaker {P} Q s t most each leaves = record {
+  on = leaves.on;
+  good = leaves.good;
+  numbers = leaves.numbers;
+  names = record { more = leaves.names.more; is = leaves.names.is; all = all_weaker P Q leaves.names.more each leaves.names.all };
+}
 
 pub ready_then : {P : Name → Type 0} (s t : CoreState) (a b : ℕ) → IsReady (a + b) s → Leaves P a s t → IsReady b t
 ready_then s t a b ready leaves = record { good = leaves.good; numbers = omega (arith, ready.numbers, leaves.numbers) }
@@ -106,11 +123,17 @@ call_leaves : {P : Name → Type 0} (s new : CoreState) (effects : List Effect) 
 call_leaves s new effects call e frame numbers good =
     frame_leaves s new effects 0 0 (subst (λ (r : List Effect × CoreState). IsFrame s r.0 r.1 0 s.names []) e frame) (subst (λ (r : List Effect × CoreState). numbers_of r.1 ≤ numbers_of s + 0) e (omega (arith, numbers))) good
 
+pub cancel_leaves : {P : Name → Type 0} (s new : CoreState) (id : ℕ) (effects : List Effect) → is_waiting id s.waiters ≡ true → cancel s id ≡ (effects, new) → IsGood new → Leaves P 0 s new
+cancel_leaves s new id effects waits e good = call_leaves s new effects (cancel s id) e (cancel_frame s id waits) (omega (arith, cancel_numbers s id)) good
+
 pub give_leaves : {P : Name → Type 0} (s new : CoreState) (claim : Claim) (effects : List Effect) → give_back s claim ≡ (effects, new) → IsGood new → Leaves P 0 s new
 give_leaves s new claim effects e good = call_leaves s new effects (give_back s claim) e (give_back_frame s claim) (omega (arith, give_back_numbers s claim)) good
 
 pub weaken_leaves : {P : Name → Type 0} (s new : CoreState) (claim : Claim) (access deny : Rwd) (effects : List Effect) → weaken s claim access deny ≡ (effects, new) → IsGood new → Leaves P 0 s new
 weaken_leaves s new claim access deny effects e good = call_leaves s new effects (weaken s claim access deny) e (weaken_frame s claim access deny) (omega (arith, weaken_numbers s claim access deny)) good
+
+pub ack_leaves : {P : Name → Type 0} (s new : CoreState) (cache : Claim) (to : Option CacheKind) (effects : List Effect) → ack s cache to ≡ (effects, new) → IsIn cache s.claims → may_be_left cache.what to ≡ true → IsGood new → Leaves P 0 s new
+ack_leaves s new cache to effects e held may good = call_leaves s new effects (ack s cache to) e (ack_frame s cache to) (omega (arith, ack_numbers s cache to held may)) good
 
 pub end_leaves : {P : Name → Type 0} (s new : CoreState) (party : Party) (effects : List Effect) → IsGood s → end_party s party ≡ (effects, new) → IsGood new → Leaves P 0 s new
 end_leaves s new party effects first e good = call_leaves s new effects (end_party s party) e (end_party_frame s party first) (omega (arith, end_party_numbers s party)) good

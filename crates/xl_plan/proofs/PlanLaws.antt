@@ -50,12 +50,16 @@ pub fit_at : (n : ℕ) (s : CoreState) (ds : List Deed) → AreFit n s ds → Al
 fit_at n s [] fit = tt
 fit_at n s (d ∷ ds) fit = (fit.0, fit_at n (done n s d) ds fit.1)
 
-at_each : (P : Deed → Type 0) (n : ℕ) (s : CoreState) (ds : List Deed) → AllAt (λ t d. P d) n s ds → AllByRecursion P ds
-at_each P n s [] all = tt
-at_each P n s (d ∷ ds) all = (all.0, at_each P n (done n s d) ds all.1)
+pub at_both : (P Q : CoreState → Deed → Type 0) (n : ℕ) (s : CoreState) (ds : List Deed) → AllAt P n s ds → AllAt Q n s ds → AllAt (λ t d. P t d × Q t d) n s ds
+at_both P Q n s [] first second = tt
+at_both P Q n s (d ∷ ds) first second = ((first.0, second.0), at_both P Q n (done n s d) ds first.1 second.1)
+
+pub at_each : (P : CoreState → Deed → Type 0) (Q : Deed → Type 0) (n : ℕ) (s : CoreState) (ds : List Deed) → ((t : CoreState) (d : Deed) → P t d → Q d) → AllAt P n s ds → AllByRecursion Q ds
+at_each P Q n s [] each all = tt
+at_each P Q n s (d ∷ ds) each all = (each s d all.0, at_each P Q n (done n s d) ds each all.1)
 
 pub plan_each : {F T : Type 0} (P : Deed → Type 0) (n : ℕ) (s : CoreState) (p : Plan F T) → AllDeeds (λ t d. P d) n s p → AllByRecursion P (deeds_of n s p)
-plan_each P n s p all = at_each P n s (deeds_of n s p) all
+plan_each P n s p all = at_each (λ t d. P d) P n s (deeds_of n s p) (λ t d is. is) all
 
 pub plan_fits : {F T : Type 0} (n : ℕ) (s : CoreState) (p : Plan F T) → AllDeeds IsFitDeed n s p → AreFit n s (deeds_of n s p)
 plan_fits n s p all = at_fit n s (deeds_of n s p) all

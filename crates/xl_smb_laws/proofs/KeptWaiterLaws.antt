@@ -1,5 +1,5 @@
 -- Each waiter of the core that asks for claims of an SMB open has its row.
-use Rattle.std.proofs.Common.{◌≡◌, ℕ, Bool, true, false, not, ◌&&◌, if◌then◌else◌, eqb, is_some, List, [], ◌∷◌, ◌++◌, Option, Some, None, refl, sym, ap, subst, ◌∙◌, inl, inr}
+use Rattle.std.proofs.Common.{◌≡◌, ℕ, Bool, true, false, not, ◌&&◌, if◌then◌else◌, eqb, is_some, List, [], ◌∷◌, ◌++◌, Option, Some, None, refl, sym, ap, subst, ◌∙◌, inl, inr, append-nil}
 use Rattle.std.specs.Prelude.{nat_eq, nat_lt}
 use Rattle.std.specs.List.{AllByRecursion, IsDistinct, list_any}
 use Rattle.std.specs.Map.{keys_of, lookup, remove_entry}
@@ -222,14 +222,15 @@ ask_silent n left u a k good client =
 
 ask_keeps : (n : ℕ) (left : Rooms) (u : CoreState) (a : Ask) (l m : Lists) (waiting : Waiting) → IsGood u → is_client a.owner a.party ≡ true → AsksFor a waiting.opened → AreKept u l
     → ((k : ℕ) (x : Waiting) → waiting_of k l ≡ Some x → waiting_of k m ≡ Some x) → ((id : ℕ) → (ask n left u a).0 ≡ answers.Queued id → waiting_of id m ≡ Some waiting)
-    → AreKept (ask n left u a).2 (all_dismissed (ask n left u a).1 m).1
+    → AreKept (ask n left u a).2 (all_dismissed ((ask n left u a).1 ++ []) m).1
 ask_keeps n left u a l m waiting good client asks kept rows new =
     let r = ask n left u a in
     let left_then : Lists = (all_dismissed r.1 m).1 in
-    all_from (IsKept left_then) r.2.waiters (λ w here. elim (in_append w u.waiters (come_by a r.0 u.names) (subst (λ (ws : List Waiter). IsIn w ws) (asked_waits n left u a good client) here)) [
+    subst (λ (told : List Effect). AreKept r.2 (all_dismissed told m).1) (sym (append-nil r.1))
+    (all_from (IsKept left_then) r.2.waiters (λ w here. elim (in_append w u.waiters (come_by a r.0 u.names) (subst (λ (ws : List Waiter). IsIn w ws) (asked_waits n left u a good client) here)) [
       | inl old ↦ kept_then r.1 l m w (ask_silent n left u a w.id good client) (λ row at. rows w.id row at) (all_in (IsKept l) w u.waiters kept old)
       | inr came ↦ kept_then r.1 m m w (ask_silent n left u a w.id good client) (λ row at. at) (new_kept m a waiting u.names w r.0 asks new came)
-    ])
+    ]))
 
 -- ---- a plan
 
@@ -247,7 +248,7 @@ ways_old n s l deeds lists w way here =
 drawn_kept : (s : CoreState) (l : Lists) → AreKept s l → AreKept (drawn s) l
 drawn_kept s l kept = subst (λ (ws : List Waiter). AllByRecursion (IsKept l) ws) (sym (drawn_waits s)) kept
 
-carried_keeps : (n : ℕ) (s : CoreState) (l : Lists) (plan : Plan) → IsGood s → AreDistinct l → AreAwaited s l → AreKept s l → AreFit n s (deeds_of plan) → Sorts s l plan
+carried_keeps : (n : ℕ) (s : CoreState) (l : Lists) (plan : Plan) → IsGood s → AreDistinct l → AreAwaited s l → AreKept s l → AreFit n s (deeds_of n s l plan) → Sorts s l plan
     → AreKept (carried n s l plan).3 (all_dismissed (carried n s l plan).1 (carried n s l plan).2).1
 carried_keeps n s l (Fails status) good distinct awaited kept fit sorts = all_from (IsKept (all_dismissed [] l).1) s.waiters (λ w here. kept_then [] l l w refl (λ row at. at) (all_in (IsKept l) w s.waiters kept here))
 carried_keeps n s l (Does deeds lists answer) good distinct awaited kept fit sorts =

@@ -1,65 +1,46 @@
 -- A message's step is what its deeds leave and tell, and so is the end of a connection.
-use Rattle.std.proofs.Common.{◌≡◌, ℕ, List, ◌++◌, Option, Some, None, refl, sym, append-nil}
+use Rattle.std.proofs.Common.{◌≡◌, ℕ, List, ◌++◌, Option, Some, None, refl, sym}
 use Rattle.xl_base.specs.declared.journal.Exports.{Exports}
 use Rattle.xl_smb.specs.Heads.{head_of}
 use Rattle.xl_smb.specs.declared.head.SmbHead.{SmbHead}
 use Rattle.xl_smb_state.specs.State.{Lists}
 use Rattle.xl_smb_state.specs.declared.row.Scope.TheVariants as scope
-use Rattle.xl_wait.specs.Waiting.{no_rows}
-use Rattle.xl_core.specs.Decide.{ask}
 use Rattle.xl_core.specs.Deeds.{all_done, all_told_of, answers_of}
-use Rattle.xl_core.specs.State.{CoreState, drawn}
+use Rattle.xl_core.specs.State.{CoreState}
 use Rattle.xl_front_smb.specs.Ending.{leavers_under, all_dismissed, smb_end_deeds, smb_end}
 use Rattle.xl_front_smb.specs.FrontSmb.{sent_by, head_heard, plan_for, deeds_for, smb_deeds, reply_for, smb_reply, finals_for, smb_replies, stepped, smb_step}
-use Rattle.xl_front_smb.specs.Plans.{Plan, Fails, Does, Opens, Locks, deeds_of, told_by, lists_by, carried}
+use Rattle.xl_front_smb.specs.Plans.{Plan, Fails, Does, Opens, Locks, as_plan, deeds_of, answered_by, carried}
+use Rattle.xl_plan.proofs.PlanLaws.{plan_does, plan_tells}
 use Rattle.xl_front_smb.specs.Replies.{reply_of}
 use Rattle.xl_front_smb.specs.State.{FrontSmb}
 use Rattle.xl_front_smb.proofs.EndLaws.{ended_done, ended_told}
 
 -- ---- a plan
 
-plan_does : (n : ℕ) (s : CoreState) (l : Lists) (plan : Plan) → (carried n s l plan).3 ≡ all_done n s (deeds_of plan)
-plan_does n s l (Fails status) = refl
-plan_does n s l (Does deeds lists told) = refl
-plan_does n s l (Opens left a number row id waiting) = refl
-plan_does n s l (Locks a row) = refl
-
-plan_tells : (n : ℕ) (s : CoreState) (l : Lists) (plan : Plan) → (carried n s l plan).1 ≡ all_told_of n s (deeds_of plan)
-plan_tells n s l (Fails status) = refl
-plan_tells n s l (Does deeds lists told) = refl
-plan_tells n s l (Opens left a number row id waiting) = sym (append-nil (ask n left (drawn s) a).1)
-plan_tells n s l (Locks a row) = sym (append-nil (ask n no_rows s a).1)
-
-plan_replies : (n : ℕ) (s : CoreState) (l : Lists) (plan : Plan) → (carried n s l plan).0 ≡ told_by (all_done n s (deeds_of plan)) plan (answers_of n s (deeds_of plan))
-plan_replies n s l (Fails status) = refl
-plan_replies n s l (Does deeds lists told) = refl
-plan_replies n s l (Opens left a number row id waiting) = refl
-plan_replies n s l (Locks a row) = refl
-
-plan_keeps : (n : ℕ) (s : CoreState) (l : Lists) (plan : Plan) → (carried n s l plan).2 ≡ lists_by l plan (answers_of n s (deeds_of plan))
-plan_keeps n s l (Fails status) = refl
-plan_keeps n s l (Does deeds lists told) = refl
-plan_keeps n s l (Opens left a number row id waiting) = refl
-plan_keeps n s l (Locks a row) = refl
+plan_answers : (n : ℕ) (s : CoreState) (l : Lists) (plan : Plan) → (let r = carried n s l plan in (r.0, r.2) ≡ answered_by (all_done n s (deeds_of n s l plan)) l plan (answers_of n s (deeds_of n s l plan)))
+plan_answers n s l (Fails status) = refl
+plan_answers n s l (Does deeds lists told) = refl
+plan_answers n s l (Opens left a number row id waiting) = refl
+plan_answers n s l (Locks a row) = refl
 
 -- ---- a message
 
-heard_does : (n : ℕ) (exports : Exports) (others : ℕ) (f : FrontSmb) (s : CoreState) (conn : ℕ) (bytes : List ℕ) (h : Option SmbHead) → (stepped n exports others f s conn bytes h).3 ≡ all_done n s (deeds_for exports others f s conn bytes h)
+heard_does : (n : ℕ) (exports : Exports) (others : ℕ) (f : FrontSmb) (s : CoreState) (conn : ℕ) (bytes : List ℕ) (h : Option SmbHead) → (stepped n exports others f s conn bytes h).3 ≡ all_done n s (deeds_for n exports others f s conn bytes h)
 heard_does n exports others f s conn bytes None = refl
-heard_does n exports others f s conn bytes (Some h) = plan_does n s f.state (plan_for exports others f s conn bytes h)
+heard_does n exports others f s conn bytes (Some h) = plan_does n s f.state (as_plan f.state (plan_for exports others f s conn bytes h))
 
-heard_tells : (n : ℕ) (exports : Exports) (others : ℕ) (f : FrontSmb) (s : CoreState) (conn : ℕ) (bytes : List ℕ) (h : Option SmbHead) → (stepped n exports others f s conn bytes h).1 ≡ all_told_of n s (deeds_for exports others f s conn bytes h)
+heard_tells : (n : ℕ) (exports : Exports) (others : ℕ) (f : FrontSmb) (s : CoreState) (conn : ℕ) (bytes : List ℕ) (h : Option SmbHead) → (stepped n exports others f s conn bytes h).1 ≡ all_told_of n s (deeds_for n exports others f s conn bytes h)
 heard_tells n exports others f s conn bytes None = refl
-heard_tells n exports others f s conn bytes (Some h) = plan_tells n s f.state (plan_for exports others f s conn bytes h)
+heard_tells n exports others f s conn bytes (Some h) = plan_tells n s f.state (as_plan f.state (plan_for exports others f s conn bytes h))
 
 heard_replies : (n : ℕ) (exports : Exports) (others : ℕ) (f : FrontSmb) (s : CoreState) (conn : ℕ) (bytes : List ℕ) (h : Option SmbHead)
     → (stepped n exports others f s conn bytes h).0
-    ≡ finals_for exports others f s conn bytes (answers_of n s (deeds_for exports others f s conn bytes h)) (all_told_of n s (deeds_for exports others f s conn bytes h)) h
-    ++ sent_by conn (reply_for exports others f s conn bytes (answers_of n s (deeds_for exports others f s conn bytes h)) (all_done n s (deeds_for exports others f s conn bytes h)) h)
+    ≡ finals_for exports others f s conn bytes (answers_of n s (deeds_for n exports others f s conn bytes h)) (all_told_of n s (deeds_for n exports others f s conn bytes h)) (all_done n s (deeds_for n exports others f s conn bytes h)) h
+    ++ sent_by conn (reply_for exports others f s conn bytes (answers_of n s (deeds_for n exports others f s conn bytes h)) (all_done n s (deeds_for n exports others f s conn bytes h)) h)
 heard_replies n exports others f s conn bytes None = refl
 heard_replies n exports others f s conn bytes (Some h) =
     let plan = plan_for exports others f s conn bytes h in
-    λ j. (all_dismissed (plan_tells n s f.state plan j) (plan_keeps n s f.state plan j)).0 ++ sent_by conn (reply_of h (plan_replies n s f.state plan j))
+    λ j. (all_dismissed (plan_tells n s f.state (as_plan f.state plan) j) (plan_answers n s f.state plan j).1).0 ++ sent_by conn (reply_of h (plan_answers n s f.state plan j).0)
 
 pub step_does : (n : ℕ) (exports : Exports) (others : ℕ) (f : FrontSmb) (s : CoreState) (conn : ℕ) (bytes : List ℕ) → (smb_step n exports others f s conn bytes).3 ≡ all_done n s (smb_deeds n exports others f s conn bytes)
 unfolding smb_step smb_deeds

@@ -75,7 +75,7 @@ use Rattle.xl_front_smb.proofs.LockLaws.{counted}
 
 -- the core takes the plan's deeds, and they are the connection's
 abbrev pub IsTheirs : ℕ → CoreState → Lists → ℕ → Plan → Type 0
-IsTheirs n s l conn plan = AreFit n s (deeds_of plan) × AllByRecursion (IsOwn s.names conn l s.counter) (deeds_of plan)
+IsTheirs n s l conn plan = AreFit n s (deeds_of n s l plan) × AllByRecursion (IsOwn s.names conn l s.counter) (deeds_of n s l plan)
 
 -- ---- checks, whatever holds of a plan
 
@@ -510,7 +510,7 @@ pub requested_theirs : (n : ℕ) (s : CoreState) (files : List (List ℕ)) (othe
 unfolding requested
 requested_theirs n s files others l conn bytes h = requested_by n s files others l conn (message_at bytes) (not (h.next_command == 0)) (nat_lt 18 h.command) (not (is_some (command_of h.command)))
 
-heard_theirs : (n : ℕ) (exports : Exports) (others : ℕ) (f : FrontSmb) (s : CoreState) (conn : ℕ) (bytes : List ℕ) (h : Option SmbHead) → AreFit n s (deeds_for exports others f s conn bytes h) × AreOwn f s conn (deeds_for exports others f s conn bytes h)
+heard_theirs : (n : ℕ) (exports : Exports) (others : ℕ) (f : FrontSmb) (s : CoreState) (conn : ℕ) (bytes : List ℕ) (h : Option SmbHead) → AreFit n s (deeds_for n exports others f s conn bytes h) × AreOwn f s conn (deeds_for n exports others f s conn bytes h)
 heard_theirs n exports others f s conn bytes None = (tt, tt)
 heard_theirs n exports others f s conn bytes (Some h) = requested_theirs n s exports.files others f.state conn bytes h
 

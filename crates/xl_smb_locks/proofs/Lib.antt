@@ -1,5 +1,4 @@
 pub mod LeaveLaws
-pub mod AskLaws
 pub mod FitLaws
 pub mod UnlockLaws
 pub mod FinalLaws

@@ -13,9 +13,10 @@ use Rattle.xl_core.specs.Askers.{IsFit}
 use Rattle.xl_core.specs.Deeds.{Deed, Asks, done, all_done, AreFit}
 use Rattle.xl_core.specs.declared.ask.Ask.{Ask}
 use Rattle.std.specs.List.{AllByRecursion}
-use Rattle.xl_smb_locks.proofs.AskLaws.{ask_leaves}
+use Rattle.xl_plan.proofs.BudgetLaws.{ask_leaves}
+use Rattle.xl_smb_locks.proofs.LeaveLaws.{open_names}
 use Rattle.xl_smb_locks.proofs.FitLaws.{unlock_fits}
-use Rattle.xl_core.specs.State.{CoreState}
+use Rattle.xl_core.specs.State.{CoreState, GoesOn}
 use Rattle.xl_core.specs.declared.ask.Answer.{Answer}
 use Rattle.xl_core.specs.declared.ask.Answer.TheVariants as answers
 use Rattle.xl_core.specs.Good.{IsGood}
@@ -69,9 +70,9 @@ unfolding unlock_ask decided
 unlock_numbers n s number row e =
     subst (λ (r : Answered). numbers_of r.2 ≤ numbers_of s) (sym (ask_there n no_rows s (unlock_ask number row e) (no_way s number row e))) (decided_numbers n s number row e)
 
-pub unlock_leaves : (n : ℕ) (s new : CoreState) (a : Ask) (number : ℕ) (row : Open) (e : LockElement) (answer : Answer) (effects : List Effect) → a ≡ unlock_ask number row e → ask n no_rows s a ≡ (answer, effects, new) → IsGood s → IsOpenAsk a → IsGood new → Leaves 0 s new
-unlock_leaves n s new a number row e answer effects is said good fits kept =
-    let leaves = ask_leaves n no_rows s new a answer effects said good fits kept in
+pub unlock_leaves : (n : ℕ) (s new : CoreState) (a : Ask) (number : ℕ) (row : Open) (e : LockElement) (answer : Answer) (effects : List Effect) → a ≡ unlock_ask number row e → ask n no_rows s a ≡ (answer, effects, new) → GoesOn s new → IsGood s → IsOpenAsk a → IsGood new → Leaves 0 s new
+unlock_leaves n s new a number row e answer effects is said on good fits kept =
+    let leaves : Leaves 2 s new = ask_leaves n no_rows s new a answer effects said on fits.fit good kept (open_names a fits) in
     record {
       on = leaves.on;
       good = kept;

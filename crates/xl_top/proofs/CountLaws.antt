@@ -26,7 +26,7 @@ use Rattle.xl_front_nlm.specs.State.{FrontState}
 use Rattle.xl_front_nlm.specs.declared.outcome.Outcome.TheVariants.{Answered}
 use Rattle.xl_house.specs.Journals.{entry, entries_of}
 use Rattle.xl_house.specs.declared.layers.Fronts.{Fronts}
-use Rattle.xl_house.specs.Machine.{Whole, Turn, Sent, framed, heard, heard_by, record_heard, with_nlm, front_done, kind_of, connected, with_connection, settled, settled_turn, turn_of, behind, rooms_of, begin, step}
+use Rattle.xl_house.specs.Machine.{Whole, Turn, Sent, framed, heard, message_given, record_given, sent_of, with_nlm, kind_of, connected, with_connection, settled, settled_turn, turn_of, behind, rooms_of, begin, step}
 use Rattle.xl_house.proofs.JournalLaws.{length-entries_of}
 use Rattle.xl_house.proofs.MachineLaws.{step_is}
 use Rattle.xl_house.proofs.SettleLaws.{none_settles}
@@ -72,11 +72,11 @@ heard_is : (s : Whole) (number : ℕ) (c : CallItem) (ok : IsMade s) (done : IsS
     → heard 0 s (Message 0 (record_of number c)) ≡ sent_by (told_by number c done.front done.core done.answer) (fronts_with s done.front) done.core
 unfolding heard nlm_step
 heard_is s number c ok done asked whole =
-    ap (λ k. heard_by 0 s.exports s.front (step_begun s.core) k 0 (record_of number c)) (kind_is s ok)
-    ∙ ap (record_heard 0 s.exports s.front (step_begun s.core) 0) asked
-    ∙ ap (λ count. front_done Rpc s.exports (with_nlm s.front (sent_with 0 (replied 0 count s.front.nlm (step_begun s.core) number (call_in (request number c)))))) (files_are s ok)
-    ∙ ap (λ o. front_done Rpc s.exports (with_nlm s.front (sent_with 0 (replied 0 8 s.front.nlm (step_begun s.core) number o)))) whole
-    ∙ ap (λ r. front_done Rpc s.exports (with_nlm s.front (sent_with 0 (with_results number c r)))) done.is
+    ap (λ k. sent_of s.exports (message_given 0 s.exports s.front (step_begun s.core) k 0 (record_of number c))) (kind_is s ok)
+    ∙ ap (λ incoming. sent_of s.exports (record_given 0 s.exports s.front (step_begun s.core) 0 incoming)) asked
+    ∙ ap (λ count. sent_of s.exports (with_nlm s.front (sent_with 0 (replied 0 count s.front.nlm (step_begun s.core) number (call_in (request number c)))))) (files_are s ok)
+    ∙ ap (λ o. sent_of s.exports (with_nlm s.front (sent_with 0 (replied 0 8 s.front.nlm (step_begun s.core) number o)))) whole
+    ∙ ap (λ r. sent_of s.exports (with_nlm s.front (sent_with 0 (with_results number c r)))) done.is
 
 no_turn : (n : ℕ) (left : Rooms) (s : CoreState) → s.waiters ≡ [] → settle n left s ≡ None
 unfolding settle

@@ -10,7 +10,6 @@ use Rattle.xl_nlm.specs.Arguments.{name}
 use Rattle.xl_format.specs.Formats.{optional}
 use Rattle.xl_nlm.specs.declared.item.NlmStatus.{NlmStatus}
 use Rattle.xl_nlm.specs.declared.item.NlmStatus.TheVariants as stats
-use Rattle.xl_core.specs.Deeds.{Asks}
 use Rattle.xl_core.specs.Decide.{ask}
 use Rattle.xl_core.specs.State.{CoreState}
 use Rattle.xl_core.specs.declared.ask.Act.TheVariants as acts
@@ -18,12 +17,13 @@ use Rattle.xl_core.specs.declared.ask.Answer.{Answer}
 use Rattle.xl_core.specs.declared.ask.Answer.TheVariants as answers
 use Rattle.xl_core.specs.declared.ask.Ask.{Ask}
 use Rattle.xl_core.specs.declared.ask.Effect.{Effect}
+use Rattle.xl_plan.specs.Plans.{Tells, carried}
 use Rattle.xl_front_nlm.specs.Aims.{aimed, aimed_in, aimed_at, last_of}
 use Rattle.xl_front_nlm.specs.Asks.{owner_of, test_ask, unlock_ask}
 use Rattle.xl_names.specs.Names.{number_of}
 use Rattle.xl_front_nlm.specs.Hosts.{rooms, host_rows, host_entered, hosts_after, makes_host}
 use Rattle.xl_front_nlm.specs.Results.{reply_of, answer_status, test_answer_status, test_result}
-use Rattle.xl_front_nlm.specs.Serving.{Plan, Tells, Does, planned, at_bytes, lock_plan, hosted, served, served_by}
+use Rattle.xl_front_nlm.specs.Serving.{asks, planned, at_bytes, lock_plan, hosted, served}
 use Rattle.xl_front_nlm.specs.Standing.{waiter_by, does_wait}
 use Rattle.xl_front_nlm.specs.State.{FrontState}
 use Rattle.xl_front_nlm.specs.declared.aim.Aim.{Aim}
@@ -123,21 +123,21 @@ nobody_waits s a at none =
 
 -- an ask is told so
 abbrev gives : ℕ → FrontState → CoreState → Option (List ℕ) → Ask → Outcome × List Effect × FrontState × CoreState
-gives n f s host a = (Answered (ask n (rooms f.hosts) s a).0, (ask n (rooms f.hosts) s a).1, hosted host (Some (ask n (rooms f.hosts) s a).0) f, (ask n (rooms f.hosts) s a).2)
+gives n f s host a = carried n s f (asks host f (rooms f.hosts) a)
 
 quietly : (n : ℕ) (f : FrontState) (s : CoreState) (host : Option (List ℕ)) (a : Ask) → (ask n (rooms f.hosts) s a).1 ≡ []
-    → gives n f s host a ≡ (Answered (ask n (rooms f.hosts) s a).0, [], hosted host (Some (ask n (rooms f.hosts) s a).0) f, (ask n (rooms f.hosts) s a).2)
+    → gives n f s host a ≡ (Answered (ask n (rooms f.hosts) s a).0, [], hosted host (ask n (rooms f.hosts) s a).0 f, (ask n (rooms f.hosts) s a).2)
 quietly n f s host a none =
-    ap (λ (es : List Effect). (Answered (ask n (rooms f.hosts) s a).0, es, hosted host (Some (ask n (rooms f.hosts) s a).0) f, (ask n (rooms f.hosts) s a).2)) none
+    ap (λ (es : List Effect). (Answered (ask n (rooms f.hosts) s a).0, es ++ [], hosted host (ask n (rooms f.hosts) s a).0 f, (ask n (rooms f.hosts) s a).2)) none
 
 lock_served : (n : ℕ) (f : FrontState) (s : CoreState) (exclusive : Bool) (b c d : ℕ) → IsMadeCore s → AreOurs f.hosts
     → IsServed n f s (Lock (record { cookie = []; block = false; exclusive = exclusive; lock = lock_by b c d; reclaim = false; state = pos 0 }))
 unfolding served planned reply_of
 lock_served n f s exclusive b c d core ours = record {
   answer = (ask n (rooms f.hosts) s a).0;
-  front = hosted (Some (codes "m")) (Some (ask n (rooms f.hosts) s a).0) f;
+  front = hosted (Some (codes "m")) (ask n (rooms f.hosts) s a).0 f;
   core = (ask n (rooms f.hosts) s a).2;
-  is = ap (λ (p : Plan). served_by n f s (Some (codes "m")) p) plan ∙ quietly n f s (Some (codes "m")) a (tells_nothing n (rooms f.hosts) s a core refl);
+  is = ap (carried n s f) plan ∙ quietly n f s (Some (codes "m")) a (tells_nothing n (rooms f.hosts) s a core refl);
   told = λ names. subst (λ (o : Option NlmStatus). IsTold o) (sym (res_status (answer_status (ask n (rooms f.hosts) s a).0))) (plain_told (ask n (rooms f.hosts) s a).0 well.plain);
   hosts = hosts_ours (ask n (rooms f.hosts) s a).0 f.hosts ours;
   kept = well.core;
@@ -151,10 +151,10 @@ lock_served n f s exclusive b c d core ours = record {
   well : IsDrawnWell s (ask n (rooms f.hosts) s a)
   well = lock_well n f.hosts s (c % 4) (1 + b % 8) (10 * (d % 16)) (10 * (d % 16) + 10 - 1) exclusive core ours (omega arith) (omega arith) (omega arith) (omega arith)
 
-  plan : planned 8 f.hosts s (Lock args) ≡ Does (Asks (rooms f.hosts) a)
+  plan : planned 8 f s (Lock args) ≡ asks (Some (codes "m")) f (rooms f.hosts) a
   plan =
-      ap (at_bytes (λ at. lock_plan f.hosts s args at)) (aimed_is b c d)
-      ∙ ap (λ (w : Bool). if w then Tells Waits else Does (Asks (rooms f.hosts) a)) (nobody_waits s args (aim_by b d) core.waiters)
+      ap (at_bytes (λ at. lock_plan f s args at)) (aimed_is b c d)
+      ∙ ap (λ (w : Bool). if w then Tells Waits else asks (Some (codes "m")) f (rooms f.hosts) a) (nobody_waits s args (aim_by b d) core.waiters)
 
 unlock_served : (n : ℕ) (f : FrontState) (s : CoreState) (b c d : ℕ) → IsMadeCore s → AreOurs f.hosts → IsServed n f s (Unlock (record { cookie = []; lock = lock_by b c d }))
 unfolding served planned reply_of
@@ -162,7 +162,7 @@ unlock_served n f s b c d core ours = record {
   answer = (ask n (rooms f.hosts) s a).0;
   front = f;
   core = (ask n (rooms f.hosts) s a).2;
-  is = ap (λ (p : Plan). served_by n f s None p) plan ∙ quietly n f s None a (tells_nothing n (rooms f.hosts) s a core refl);
+  is = ap (carried n s f) plan ∙ quietly n f s None a (tells_nothing n (rooms f.hosts) s a core refl);
   told = λ names. subst (λ (o : Option NlmStatus). IsTold o) (sym (res_status (answer_status (ask n (rooms f.hosts) s a).0))) (plain_told (ask n (rooms f.hosts) s a).0 well.plain);
   hosts = ours;
   kept = well.core;
@@ -173,8 +173,8 @@ unlock_served n f s b c d core ours = record {
   well : IsDrawnWell s (ask n (rooms f.hosts) s a)
   well = unlock_well n (rooms f.hosts) s (c % 4) (1 + b % 8) (10 * (d % 16)) (10 * (d % 16) + 10 - 1) (record { hosts = 0; owners = 0; opens = 0 }) core (omega arith) (omega arith) (omega arith) (omega arith)
 
-  plan : planned 8 f.hosts s (Unlock (record { cookie = []; lock = lock_by b c d })) ≡ Does (Asks (rooms f.hosts) a)
-  plan = ap (at_bytes (λ at. Does (Asks (rooms f.hosts) (unlock_ask (record { cookie = []; lock = lock_by b c d }) at)))) (aimed_is b c d)
+  plan : planned 8 f s (Unlock (record { cookie = []; lock = lock_by b c d })) ≡ asks None f (rooms f.hosts) a
+  plan = ap (at_bytes (λ at. asks None f (rooms f.hosts) (unlock_ask (record { cookie = []; lock = lock_by b c d }) at))) (aimed_is b c d)
 
 test_served : (n : ℕ) (f : FrontState) (s : CoreState) (exclusive : Bool) (b c d : ℕ) → IsMadeCore s → AreOurs f.hosts → IsServed n f s (Test (record { cookie = []; exclusive = exclusive; lock = lock_by b c d }))
 unfolding served planned reply_of
@@ -182,7 +182,7 @@ test_served n f s exclusive b c d core ours = record {
   answer = (ask n (rooms f.hosts) s a).0;
   front = f;
   core = (ask n (rooms f.hosts) s a).2;
-  is = ap (λ (p : Plan). served_by n f s None p) plan ∙ quietly n f s None a (tells_nothing n (rooms f.hosts) s a core refl);
+  is = ap (carried n s f) plan ∙ quietly n f s None a (tells_nothing n (rooms f.hosts) s a core refl);
   told = λ names. subst (λ (o : Option NlmStatus). IsTold o) (sym (test_status_is (test_result [] names (Answered (ask n (rooms f.hosts) s a).0)) refl)) (tested_told (ask n (rooms f.hosts) s a).0 well.plain);
   hosts = ours;
   kept = well.core;
@@ -196,8 +196,8 @@ test_served n f s exclusive b c d core ours = record {
   well : IsDrawnWell s (ask n (rooms f.hosts) s a)
   well = test_well n (rooms f.hosts) s (c % 4) (1 + b % 8) (10 * (d % 16)) (10 * (d % 16) + 10 - 1) exclusive (record { hosts = 0; owners = 0; opens = 0 }) core (omega arith) (omega arith)
 
-  plan : planned 8 f.hosts s (Test args) ≡ Does (Asks (rooms f.hosts) a)
-  plan = ap (at_bytes (λ at. Does (Asks (rooms f.hosts) (test_ask args at)))) (aimed_is b c d)
+  plan : planned 8 f s (Test args) ≡ asks None f (rooms f.hosts) a
+  plan = ap (at_bytes (λ at. asks None f (rooms f.hosts) (test_ask args at))) (aimed_is b c d)
 
 pub call_served : (n : ℕ) (f : FrontState) (s : CoreState) (choice : ℕ) (exclusive : Bool) (b c d : ℕ) → IsMadeCore s → AreOurs f.hosts → IsServed n f s (asked_by choice exclusive (lock_by b c d))
 call_served n f s choice exclusive b c d core ours =

@@ -11,5 +11,5 @@ note-requires-clause-fits g c =
 
 pub returns-clause-done : goal.returns-clause-done
 returns-clause-done g c = λ n may.
-    op_ran n c.args.files.now c.args.others (course_of c.args.state.now c.args.progress.now) (course_of c.serve.new.state c.note.new.progress) c.args.core.now c.serve.new.core c.serve.new.state c.in_ok-done.done.1 (shown_op c.args.op.now) c.number.result c.in_ok-done.done.0 c.in_ok-done.done.2 c.in_ok-more.more c.number.ensures
-    (c.in_ok-done.ensures.done n may) (c.in_ok-more.ensures.noted c.args.state.now c.serve.new.state c.serve.new.core)
+    op_ran n c.args.files.now c.args.others (course_of c.args.progress.now) (course_of c.note.new.progress) c.args.core.now c.serve.new.core c.args.state.now c.serve.new.state c.in_ok-done.done.1 (shown_op c.args.op.now) c.number.result c.in_ok-done.done.0 c.args.progress.now.effects c.in_ok-done.done.2 c.note.new.progress.effects c.number.ensures
+    (c.in_ok-done.ensures.done n may) c.in_ok-more.ensures.noted c.in_ok-more.ensures.told

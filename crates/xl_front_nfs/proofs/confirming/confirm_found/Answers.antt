@@ -10,6 +10,6 @@ pub returns-in-Some-clause-done : goal.returns-in-Some-clause-done
 returns-in-Some-clause-done c = λ n. IfOk-weaker c.confirm_beside.result _ _
     (λ r is.
     rw c.in-Some.is
-    (ap (λ (m : NfsLists). carried n c.args.core.now c.args.state.now c.args.current (confirm_beside c.args.core.now m c.args.current c.args.number c.in-Some.row)) (sym c.drop_number.ensures.lists)
+    (ap (λ (m : NfsLists). carried n c.args.core.now c.args.state.now (confirm_beside c.args.core.now m c.args.current c.args.number c.in-Some.row)) (sym c.drop_number.ensures.lists)
     ∙ confirm_apart n c.args.core.now c.args.state.now c.drop_number.new.state c.args.current c.args.number c.in-Some.row ∙ is))
     (c.confirm_beside.ensures.done n)

@@ -1,7 +1,7 @@
 use Rattle.xl_names.specs.declared.name.Name.TheVariants.{NfsParty}
 use Rattle.xl_core.specs.Askers.{party_named}
 use Rattle.xl_front_nfs.specs.Clients.{ends}
-use Rattle.xl_nfs_opens.proofs.LeaveLaws.{leaves_then}
+use Rattle.xl_plan.proofs.BudgetLaws.{leaves_then}
 use Rattle.xl_front_nfs.proofs.EndingLaws.{over_done, over_told}
 use Rattle.xl_front_nfs.proofs.confirming.ended_and_renewed.Goals as goal
 

@@ -1,4 +1,4 @@
-use Rattle.xl_front_nfs.proofs.EndingLaws.{end_leaves}
+use Rattle.xl_plan.proofs.BudgetLaws.{end_leaves}
 use Rattle.xl_front_nfs.proofs.ending.end_party.Goals as goal
 
 pub returns-clause-leaves : goal.returns-clause-leaves

@@ -11,6 +11,6 @@ pub returns-clause-done : goal.returns-clause-done
 unfolding set_client_id
 returns-clause-done c = λ n. IfOk-weaker c.set_beside.result _ _
     (λ r is.
-    ap (λ (m : NfsLists). carried n c.args.core.now c.args.state.now c.args.current (set_beside c.args.core.now m c.args.current (shown_set_client_id_args c.args.args.now))) (sym c.drop_named.ensures.lists)
+    ap (λ (m : NfsLists). carried n c.args.core.now c.args.state.now (set_beside c.args.core.now m c.args.current (shown_set_client_id_args c.args.args.now))) (sym c.drop_named.ensures.lists)
     ∙ set_apart n c.args.core.now c.args.state.now c.drop_named.new.state c.args.current (shown_set_client_id_args c.args.args.now) ∙ is)
     (c.set_beside.ensures.done n)

@@ -1,10 +1,16 @@
+use Rattle.std.proofs.Common.{List, ◌∙◌, sym, ap}
+use Rattle.xl_core.specs.declared.ask.Effect.{Effect}
+use Rattle.xl_plan.specs.Plans.{carried, told_behind}
 use Rattle.xl_front_nfs.specs.Courses.{course_of}
-use Rattle.xl_front_nfs.specs.Steps.{steps_in}
+use Rattle.xl_front_nfs.specs.Steps.{compound, steps_in}
 use Rattle.xl_front_nfs.proofs.StepLaws.{course_done}
 use Rattle.xl_front_nfs.proofs.step.done.Goals as goal
 
 pub returns-clause-done : goal.returns-clause-done
 returns-clause-done g c = λ n may.
-    course_done n c.args.files.now c.args.others c.args.front.now c.args.core.now c.run_ops.new.core c.args.xid c.args.head.now.tag.now (steps_in c.args.head.now.count c.args.args.now.rest.now)
-    (course_of c.args.front.now.state c.begun-progress.result) (course_of c.run_ops.new.state c.run_ops.new.progress) c.in_ok-reply.reply.items (c.begun-progress.ensures.begun c.args.front.now)
-    (c.in_ok-run_ops.ensures.course n may) (c.in_ok-run_ops.ensures.core n may) c.in_ok-reply.ensures.reply
+    let f = c.args.front.now in
+    let first = course_of c.begun-progress.result in
+    let steps = steps_in c.args.head.now.count c.args.args.now.rest.now in
+    course_done n c.args.files.now c.args.others f c.args.core.now c.run_ops.new.core c.args.xid c.args.head.now.tag.now steps first (course_of c.run_ops.new.progress) c.run_ops.new.progress.effects c.run_ops.new.state c.in_ok-reply.reply.items c.begun-progress.ensures.begun
+    (ap (λ (e : List Effect). told_behind e (carried n c.args.core.now f.state (compound c.args.files.now c.args.others first c.args.core.now f.state steps))) (sym c.begun-progress.ensures.none.2) ∙ c.in_ok-run_ops.ensures.course n may)
+    c.in_ok-reply.ensures.reply

@@ -1,4 +1,4 @@
-use Rattle.xl_smb_locks.proofs.LeaveLaws.{leaves_self}
+use Rattle.xl_plan.proofs.BudgetLaws.{leaves_self}
 use Rattle.xl_front_smb.proofs.creates.create.Goals as goal
 
 pub returns-in_default-clause-leaves : goal.returns-in_default-clause-leaves

@@ -1,4 +1,4 @@
-use Rattle.xl_smb_locks.proofs.LeaveLaws.{leaves_self}
+use Rattle.xl_plan.proofs.BudgetLaws.{leaves_self}
 use Rattle.xl_front_smb.proofs.creates.open_file.Goals as goal
 
 pub returns-then-not-has_room-clause-leaves : goal.returns-then-not-has_room-clause-leaves

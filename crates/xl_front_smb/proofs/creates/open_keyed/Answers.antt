@@ -1,4 +1,4 @@
-use Rattle.xl_smb_locks.proofs.LeaveLaws.{leaves_self}
+use Rattle.xl_plan.proofs.BudgetLaws.{leaves_self}
 use Rattle.xl_front_smb.proofs.creates.open_keyed.Goals as goal
 
 pub returns-then-is_key_elsewhere-clause-leaves : goal.returns-then-is_key_elsewhere-clause-leaves

@@ -1,7 +1,7 @@
 use Rattle.std.proofs.Common.{List, ap}
 use Rattle.xl_core.specs.Ticks.{behind_told}
 use Rattle.xl_core.specs.declared.ask.Effect.{Effect}
-use Rattle.xl_smb_locks.proofs.LeaveLaws.{leaves_self}
+use Rattle.xl_plan.proofs.BudgetLaws.{leaves_self}
 use Rattle.xl_front_smb.specs.Ending.{all_ended}
 use Rattle.xl_front_smb.proofs.ending.end_all.Goals as goal
 

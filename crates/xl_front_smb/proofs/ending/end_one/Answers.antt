@@ -1,4 +1,4 @@
-use Rattle.xl_smb_locks.proofs.LeaveLaws.{close_leaves}
+use Rattle.xl_plan.proofs.BudgetLaws.{close_leaves}
 use Rattle.xl_front_smb.proofs.ending.end_one.Goals as goal
 
 pub returns-clause-leaves : goal.returns-clause-leaves

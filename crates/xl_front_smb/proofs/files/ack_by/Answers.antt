@@ -1,6 +1,6 @@
 use Rattle.std.proofs.Common.{rules, None}
 use Rattle.xl_matrix.specs.declared.claim.What.TheVariants.{Cache}
-use Rattle.xl_smb_locks.proofs.LeaveLaws.{leaves_self}
+use Rattle.xl_plan.proofs.BudgetLaws.{leaves_self}
 use Rattle.xl_front_smb.proofs.AckLaws.{by_what}
 use Rattle.xl_front_smb.proofs.files.ack_by.Goals as goal
 

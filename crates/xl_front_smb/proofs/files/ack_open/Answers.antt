@@ -1,4 +1,4 @@
-use Rattle.xl_smb_locks.proofs.LeaveLaws.{leaves_self}
+use Rattle.xl_plan.proofs.BudgetLaws.{leaves_self}
 use Rattle.std.proofs.Common.{rules}
 use Rattle.xl_front_smb.specs.Checks.{id_of}
 use Rattle.xl_front_smb.proofs.AckLaws.{by_oplock}

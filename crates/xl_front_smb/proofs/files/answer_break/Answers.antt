@@ -1,4 +1,4 @@
-use Rattle.xl_front_smb.proofs.AckLaws.{ack_leaves}
+use Rattle.xl_plan.proofs.BudgetLaws.{ack_leaves}
 use Rattle.xl_front_smb.proofs.files.answer_break.Goals as goal
 
 pub returns-clause-leaves : goal.returns-clause-leaves

@@ -1,4 +1,4 @@
-use Rattle.xl_smb_locks.proofs.LeaveLaws.{leaves_self}
+use Rattle.xl_plan.proofs.BudgetLaws.{leaves_self}
 use Rattle.std.proofs.Common.{sym, ◌∙◌}
 use Rattle.xl_front_smb.proofs.PlanLaws.{close_done}
 use Rattle.xl_front_smb.proofs.files.close.Goals as goal

@@ -1,4 +1,4 @@
-use Rattle.xl_smb_locks.proofs.LeaveLaws.{leaves_self}
+use Rattle.xl_plan.proofs.BudgetLaws.{leaves_self}
 use Rattle.xl_front_smb.proofs.LockLaws.{cancel_leaves_by}
 use Rattle.xl_front_smb.proofs.locks.cancel.Goals as goal
 

@@ -1,4 +1,4 @@
-use Rattle.xl_smb_locks.proofs.LeaveLaws.{leaves_self}
+use Rattle.xl_plan.proofs.BudgetLaws.{leaves_self}
 use Rattle.xl_front_smb.proofs.locks.lock_on.Goals as goal
 
 pub returns-then-not-is_count-clause-leaves : goal.returns-then-not-is_count-clause-leaves

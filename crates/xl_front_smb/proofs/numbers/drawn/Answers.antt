@@ -1,4 +1,4 @@
-use Rattle.xl_smb_locks.proofs.LeaveLaws.{drawn_leaves}
+use Rattle.xl_plan.proofs.BudgetLaws.{drawn_leaves}
 use Rattle.xl_front_smb.proofs.numbers.drawn.Goals as goal
 
 pub returns-clause-leaves : goal.returns-clause-leaves

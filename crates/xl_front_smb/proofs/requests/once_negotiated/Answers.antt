@@ -1,4 +1,4 @@
-use Rattle.xl_smb_locks.proofs.LeaveLaws.{leaves_self}
+use Rattle.xl_plan.proofs.BudgetLaws.{leaves_self}
 use Rattle.xl_front_smb.proofs.requests.once_negotiated.Goals as goal
 
 pub returns-in-None-clause-leaves : goal.returns-in-None-clause-leaves

@@ -1,4 +1,4 @@
-use Rattle.xl_smb_locks.proofs.LeaveLaws.{leaves_self}
+use Rattle.xl_plan.proofs.BudgetLaws.{leaves_self}
 use Rattle.std.proofs.Common.{subst}
 use Rattle.xl_smb.specs.Calls.{shown_call}
 use Rattle.xl_smb.specs.Heads.{head_at}

@@ -1,4 +1,4 @@
-use Rattle.xl_smb_locks.proofs.LeaveLaws.{leaves_self}
+use Rattle.xl_plan.proofs.BudgetLaws.{leaves_self}
 use Rattle.xl_front_smb.proofs.PlanLaws.{set_up_done}
 use Rattle.xl_front_smb.proofs.sessions.set_up.Goals as goal
 

@@ -1,6 +1,6 @@
-use Rattle.std.proofs.Common.{◌≡◌, List, ap, ◌∙◌}
+use Rattle.std.proofs.Common.{◌≡◌, List, ap, ◌∙◌, arith}
 use Rattle.xl_core.specs.declared.ask.Effect.{Effect}
-use Rattle.xl_house.proofs.HearLaws.{tell_ready, tell_leaves}
+use Rattle.xl_house.proofs.HearLaws.{front_ready, front_leaves}
 use Rattle.xl_house.proofs.QuietLaws.{step_quiet}
 use Rattle.xl_house.specs.Machine.{grants}
 use Rattle.xl_programs.specs.Programs.{shown_request}
@@ -8,10 +8,10 @@ use Rattle.xl_house.proofs.machine.hear_nlm.Goals as goal
 
 pub sent_with-requires : goal.sent_with-requires
 sent_with-requires g c =
-    let quiet = step_quiet c.args.exports.now c.args.layers.now.front.nlm c.nlm_step.new.layers.0 c.args.layers.now.core c.nlm_step.new.layers.1.0 c.args.number (shown_request c.args.request.now) c.in_ok-reply.reply c.in_ok-reply.effects c.requires.ready.good c.in_ok-reply.ensures.state in
-    record { fits = c.in_ok-reply.ensures.little; ready = tell_ready _ _ c.in_ok-reply.effects quiet c.requires.ready c.in_ok-reply.ensures.leaves }
+    let quiet = step_quiet c.args.exports.now c.args.layers.now.front.nlm c.nlm_step.new.layers.0 c.args.layers.now.core c.nlm_step.new.layers.1.0 c.args.number (shown_request c.args.request.now) c.in_ok-reply.reply c.in_ok-reply.effects c.requires.ready.core.good c.in_ok-reply.ensures.state in
+    record { fits = c.in_ok-reply.ensures.little; ready = front_ready 2 _ _ c.in_ok-reply.effects (λ name is. is) (omega arith) quiet c.requires.ready c.in_ok-reply.ensures.leaves }
 
 pub returns-clause-leaves : goal.returns-clause-leaves
 returns-clause-leaves g c =
-    let quiet = step_quiet c.args.exports.now c.args.layers.now.front.nlm c.nlm_step.new.layers.0 c.args.layers.now.core c.nlm_step.new.layers.1.0 c.args.number (shown_request c.args.request.now) c.in_ok-reply.reply c.in_ok-reply.effects c.requires.ready.good c.in_ok-reply.ensures.state in
-    tell_leaves _ _ _ c.in_ok-reply.effects quiet c.in_ok-reply.ensures.leaves c.in_ok-outs.ensures.leaves
+    let quiet = step_quiet c.args.exports.now c.args.layers.now.front.nlm c.nlm_step.new.layers.0 c.args.layers.now.core c.nlm_step.new.layers.1.0 c.args.number (shown_request c.args.request.now) c.in_ok-reply.reply c.in_ok-reply.effects c.requires.ready.core.good c.in_ok-reply.ensures.state in
+    front_leaves 2 _ _ _ c.in_ok-reply.effects (λ name is. is) (omega arith) quiet c.in_ok-reply.ensures.leaves c.in_ok-outs.ensures.leaves

@@ -34,4 +34,4 @@ pub returns-clause-settled : goal.returns-clause-settled
 returns-clause-settled g c = ended_settled c.turns.layers.front c.turns.layers.core c.settle.new.self c.in_ok-effects.field-0 (λ n may. rw (← c.rooms.ensures) (c.in_ok-effects.ensures.state n may)) c.in_default.is (c.in_ok-effects.ensures.none (ap (λ (t : Option (List Effect)). Ok t) c.in_default.is))
 
 pub returns-clause-leaves : goal.returns-clause-leaves
-returns-clause-leaves g c = ended_leaves c.args.exports.now c.args.layers.now.front c.args.layers.now.core c.args.outs.now c.turns.layers.front c.turns.layers.core c.settle.new.self c.turns.outs c.turns.invariant.0 c.turns.invariant.1.0 (c.in_ok-effects.ensures.none (ap (λ (t : Option (List Effect)). Ok t) c.in_default.is)) c.requires.ready
+returns-clause-leaves g c = ended_leaves c.args.exports.now c.args.layers.now.front c.args.layers.now.core c.args.outs.now c.turns.layers.front c.turns.layers.core c.settle.new.self c.turns.outs c.turns.invariant.0 c.turns.invariant.1.0 (c.in_ok-effects.ensures.none (ap (λ (t : Option (List Effect)). Ok t) c.in_default.is))

@@ -1,13 +1,11 @@
-use Rattle.xl_nfs_laws.proofs.OpenOrderLaws.{carried_orderly}
-use Rattle.xl_nfs_laws.proofs.RequestOrderLaws.{item_keeps, request_orderly, shown_orderly, tick_orderly}
-use Rattle.xl_front_nfs.specs.Steps.{planned}
+use Rattle.xl_nfs_laws.proofs.RequestOrderLaws.{item_orderly, request_orderly, shown_orderly, tick_orderly}
 use Rattle.xl_nfs_laws.proofs.request_order.stateids_are_orderly.Goals as goal
 
 pub returns-clause-start : goal.returns-clause-start
 returns-clause-start c = record { rising = tt; apart = tt; held = tt }
 
 pub returns-clause-operations : goal.returns-clause-operations
-returns-clause-operations c = λ n files others s l current item orderly. carried_orderly n s l current (planned files others s l current item) orderly (item_keeps files others s l current item orderly)
+returns-clause-operations c = item_orderly
 
 pub returns-clause-requests : goal.returns-clause-requests
 returns-clause-requests c = request_orderly

@@ -3,7 +3,8 @@ use Rattle.xl_core.specs.Decide.{ask}
 use Rattle.xl_core.specs.declared.ask.Ask.{Ask}
 use Rattle.xl_nfs_opens.specs.Opens.{all_rooms}
 use Rattle.xl_nfs_opens.proofs.BehindLaws.{asking_done}
-use Rattle.xl_nfs_opens.proofs.LeaveLaws.{asked_leaves, may_before}
+use Rattle.xl_plan.proofs.BudgetLaws.{may_before}
+use Rattle.xl_nfs_opens.proofs.LeaveLaws.{asked_leaves}
 use Rattle.xl_nfs_locks.specs.FirstLocks.{join_answered}
 use Rattle.xl_nfs_locks.specs.Ranges.{lock_ask}
 use Rattle.xl_nfs_locks.proofs.joining.join_bytes.Goals as goal
@@ -15,7 +16,7 @@ returns-clause-done g c = λ n may.
     let l = c.args.state.now in
     let a = c.args.args.now in
     let before = may_before n 2 t c.join_answered.new.core c.in_ok-told.ensures.leaves may in
-    rw c.requires.room (asking_done n s t c.join_answered.new.core l c.join_answered.new.state c.args.current c.in_ok-told.handle all_rooms (lock_ask c.args.locker.now c.args.above.now.file a.kind a.reclaim a.offset c.args.last) (join_answered l c.args.current c.args.both c.args.locker.now c.args.above.now c.args.had a.reclaim) c.in_ok-said.said c.in_ok-told.told c.in_ok-said.effects
+    rw c.requires.room (asking_done n s t c.join_answered.new.core l c.join_answered.new.state c.in_ok-told.handle all_rooms (lock_ask c.args.locker.now c.args.above.now.file a.kind a.reclaim a.offset c.args.last) (join_answered l c.args.current c.args.both c.args.locker.now c.args.above.now c.args.had a.reclaim) c.in_ok-said.said c.in_ok-told.told c.in_ok-said.effects
     (ap (λ (q : Ask). ask n all_rooms s q) (sym c.in_ok-request.ensures.value) ∙ c.in_ok-said.ensures.state n before) (c.in_ok-told.ensures.done n))
 
 pub returns-clause-leaves : goal.returns-clause-leaves

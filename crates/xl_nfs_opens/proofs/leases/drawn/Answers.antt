@@ -1,4 +1,4 @@
-use Rattle.xl_nfs_opens.proofs.LeaveLaws.{drawn_leaves}
+use Rattle.xl_plan.proofs.BudgetLaws.{drawn_leaves}
 use Rattle.xl_nfs_opens.proofs.leases.drawn.Goals as goal
 
 pub returns-clause-leaves : goal.returns-clause-leaves

@@ -1,4 +1,4 @@
-use Rattle.xl_nfs_opens.proofs.LeaveLaws.{renew_leaves}
+use Rattle.xl_plan.proofs.BudgetLaws.{renew_leaves}
 use Rattle.xl_nfs_opens.proofs.leases.renewed.Goals as goal
 
 pub returns-clause-leaves : goal.returns-clause-leaves

@@ -1,7 +1,8 @@
 use Rattle.std.proofs.Common.{◌∙◌, sym}
 use Rattle.xl_nfs.specs.Opens.{shown_open_args}
 use Rattle.xl_nfs_opens.proofs.BehindLaws.{room_done}
-use Rattle.xl_nfs_opens.proofs.LeaveLaws.{may_before, asked_leaves}
+use Rattle.xl_plan.proofs.BudgetLaws.{may_before}
+use Rattle.xl_nfs_opens.proofs.LeaveLaws.{asked_leaves}
 use Rattle.xl_nfs_opens.proofs.opening.open_on.Goals as goal
 
 pub returns-clause-done : goal.returns-clause-done

@@ -1,4 +1,5 @@
-use Rattle.xl_nfs_opens.proofs.LeaveLaws.{ask_leaves, may_be_made}
+use Rattle.xl_plan.proofs.BudgetLaws.{ask_leaves}
+use Rattle.xl_nfs_opens.proofs.LeaveLaws.{may_be_made}
 use Rattle.xl_nfs_opens.proofs.shares.asked.Goals as goal
 
 pub returns-clause-leaves : goal.returns-clause-leaves

@@ -1,4 +1,5 @@
-use Rattle.xl_nfs_opens.proofs.LeaveLaws.{give_leaves, give_told}
+use Rattle.xl_plan.proofs.BudgetLaws.{give_leaves}
+use Rattle.xl_nfs_opens.proofs.LeaveLaws.{give_told}
 use Rattle.xl_nfs_opens.proofs.shares.give.Goals as goal
 
 pub returns-in-Some-clause-told : goal.returns-in-Some-clause-told

@@ -1,4 +1,5 @@
-use Rattle.xl_nfs_opens.proofs.LeaveLaws.{weaken_leaves, weakens_told}
+use Rattle.xl_plan.proofs.BudgetLaws.{weaken_leaves}
+use Rattle.xl_nfs_opens.proofs.LeaveLaws.{weakens_told}
 use Rattle.xl_nfs_opens.proofs.shares.weaken.Goals as goal
 
 pub returns-then-share_has-clause-told : goal.returns-then-share_has-clause-told

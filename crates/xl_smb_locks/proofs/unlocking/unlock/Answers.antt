@@ -1,5 +1,6 @@
 use Rattle.std.proofs.Common.{refl, sym, ◌∙◌}
-use Rattle.xl_smb_locks.proofs.LeaveLaws.{leaves_on, leaves_self}
+use Rattle.xl_plan.proofs.BudgetLaws.{leaves_self}
+use Rattle.xl_smb_locks.proofs.LeaveLaws.{leaves_on}
 use Rattle.xl_smb_locks.proofs.UnlockLaws.{come_self, one_more, missed_at}
 use Rattle.xl_smb_locks.proofs.unlocking.unlock.Goals as goal
 

@@ -8,4 +8,4 @@ returns-clause-state g c =
 
 pub returns-clause-leaves : goal.returns-clause-leaves
 returns-clause-leaves g c =
-    unlock_leaves c.ask.new.self.made _ _ _ _ _ _ _ _ c.unlock_ask-request.ensures.value (c.in_ok-answer.ensures.state c.ask.new.self.made (may_be_made c.ask.new.self)) c.requires.ready.good c.unlock_ask-request.ensures.open c.in_ok-answer.ensures.good
+    unlock_leaves c.ask.new.self.made _ _ _ _ _ _ _ _ c.unlock_ask-request.ensures.value (c.in_ok-answer.ensures.state c.ask.new.self.made (may_be_made c.ask.new.self)) c.in_ok-answer.ensures.on c.requires.ready.good c.unlock_ask-request.ensures.open c.in_ok-answer.ensures.good
