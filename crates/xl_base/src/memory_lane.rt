@@ -248,7 +248,6 @@ impl Lane for MemoryLane {
     {
         self.asked = self.asked.saturating_add(1);
         self.calls = self.calls.saturating_add(1);
-        self.given = 0;
         let outcome = if is_failing(&self.failing, self.calls) {
             NextOutcome::Failed
         } else {
@@ -260,6 +259,7 @@ impl Lane for MemoryLane {
             )
         };
         match outcome {
+            NextOutcome::Link(_) => self.given = 0,
             NextOutcome::Failed => {
                 self.faults = self.faults.saturating_add(1);
                 self.lost = self.lost.saturating_add(1);

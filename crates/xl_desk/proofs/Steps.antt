@@ -1,5 +1,5 @@
 -- Each step keeps the rule of the desk.
-use Rattle.std.proofs.Common.{◌≡◌, ◌≢◌, ◌≤◌, ◌<◌, ◌+◌, ◌^◌, ◌%◌, ◌/◌, ◌==◌, ℕ, zero, suc, Bool, true, false, List, [], ◌∷◌, ◌++◌, length, get_or, set, sym, refl, ap, ◌∙◌, subst, inl, inr, ⊎_elim, arith, Option, Some, None, IfSome, length-set, length-append, div-add-mod', mod-lt, get_or-set_other, get_or-set_same, eq-eqb, ne_eqb}
+use Rattle.std.proofs.Common.{◌≡◌, ◌≢◌, ◌≤◌, ◌<◌, ◌+◌, ◌^◌, ◌%◌, ◌/◌, ◌==◌, ℕ, zero, suc, Bool, true, false, List, [], ◌∷◌, ◌++◌, length, get_or, set, sym, refl, ap, ◌∙◌, subst, inl, inr, ⊎_elim, arith, Option, Some, None, IfSome, length-set, length-append, append_assoc, div-add-mod', mod-lt, get_or-set_other, get_or-set_same, eq-eqb, ne_eqb}
 use Rattle.std.proofs.Math.Nat.{mod-eq_of_lt}
 use mathlib.Core.Logic.{dite}
 use mathlib.Core.Option as opt
@@ -15,8 +15,10 @@ use Rattle.xl_base.specs.declared.event.Event.{Event}
 use Rattle.xl_base.specs.declared.halt.Halt.{Halt}
 use Rattle.xl_base.specs.declared.journal.Entry.{Entry}
 use Rattle.xl_desk.specs.declared.view.View.{View}
-use Rattle.xl_desk.specs.Turns.{total, bit, number_of, times, all_shares, AllStand, turn_of, made_of, shares_of, times_of, Fits, opened, with_turn, stopped, without_turn, after_call, halved, half, both, either_halt, spent, Is, OneTurn, Sat, HasInHand, Began, taken, checked, added, halted, given, seen_more, IsClosed}
-use Rattle.xl_desk.specs.Passes.{IsRooted, IsLawful}
+use Rattle.xl_desk.specs.Turns.{total, bit, number_of, times, all_shares, AllStand, turn_of, made_of, shares_of, times_of, Fits, opened, with_turn, stopped, without_turn, after_call, halved, half, both, looked, either_halt, spent, Is, OneTurn, Sat, HasInHand, HasTurn, Tells, Began, taken, checked, added, halted, given, seen_more, IsClosed}
+use Rattle.xl_desk.specs.declared.fault.DeskErr.{DeskErr}
+use Rattle.xl_desk.specs.declared.fault.DeskErr.TheVariants.{Halted, Stopped}
+use Rattle.xl_desk.specs.Passes.{IsRooted, IsLawful, IsHalted, IsRefused}
 use Rattle.xl_desk.proofs.Totals.{total_set, total_append, part_below, parts_below, alone_in}
 use Rattle.xl_desk.proofs.Grown.{whole, front_grows, last_stands, still_stand, one_more, together}
 
@@ -28,6 +30,13 @@ no_bit false low = refl
 
 pub same_some : {A : Type 0} (a b : A) (x : Option A) → x ≡ Some a → x ≡ Some b → a ≡ b
 same_some a b x one two = cc (one, two)
+
+some_same : {A : Type 0} (a b : A) → Some a ≡ Some b → a ≡ b
+some_same a b e = cc e
+
+same_last : {A : Type 0} (xs : List A) (a b : A) → xs ++ a ∷ [] ≡ xs ++ b ∷ [] → a ≡ b
+same_last [] a b e = cc e
+same_last (x ∷ xs) a b e = same_last xs a b (cc e)
 
 -- a halt is final for itself
 final_self : (x : Option Halt) → IfSome x (λ reason. x ≡ Some reason)
@@ -42,6 +51,19 @@ none_seen (Some reason) halt final runs = absurd (cc (final, runs))
 either_final : (a b halt : Option Halt) → IfSome a (λ reason. halt ≡ Some reason) → IfSome b (λ reason. halt ≡ Some reason) → IfSome (either_halt a b) (λ reason. halt ≡ Some reason)
 either_final None b halt one two = two
 either_final (Some reason) b halt one two = one
+
+either_is : (a b halt : Option Halt) → a ≡ halt → IfSome b (λ reason. halt ≡ Some reason) → either_halt a b ≡ halt
+either_is None None halt same two = same
+either_is None (Some reason) halt same two = absurd (cc (same, two))
+either_is (Some reason) b halt same two = same
+
+of_all : (x : Option Halt) (P : Type 0) → P → IfSome x (λ _. P)
+of_all None P p = tt
+of_all (Some reason) P p = p
+
+some_as : (x : Option Halt) (P Q : Type 0) → (P → Q) → IfSome x (λ _. P) → IfSome x (λ _. Q)
+some_as None P Q as_q p = tt
+some_as (Some reason) P Q as_q p = as_q p
 
 may_of : (P : Halt → Type 0) (x : Option Halt) → x ≡ None → IfSome x P
 may_of P None runs = tt
@@ -59,6 +81,61 @@ either_stays (Some reason) b = refl
 pub nothing_seen : (x halt : Option Halt) (reason : Halt) → IfSome x (λ seen. halt ≡ Some seen) → halt ≡ None → IfSome x (λ seen. Some reason ≡ Some seen)
 nothing_seen None halt reason final runs = tt
 nothing_seen (Some seen) halt reason final runs = absurd (cc (final, runs))
+
+pub nothing_grew : (x halt : Option Halt) (old new : List Entry) → IfSome x (λ seen. halt ≡ Some seen) → halt ≡ None → IfSome x (λ _. new ≡ old)
+nothing_grew None halt old new final runs = tt
+nothing_grew (Some seen) halt old new final runs = absurd (cc (final, runs))
+
+-- one halt behind another that was seen
+halt_on : (a b c : Option Halt) → IfSome a (λ reason. b ≡ Some reason) → IfSome b (λ reason. c ≡ Some reason) → IfSome a (λ reason. c ≡ Some reason)
+halt_on None b c one two = tt
+halt_on (Some reason) b c one two = subst (λ (z : Option Halt). IfSome z (λ seen. c ≡ Some seen)) one two
+
+-- and of a halt that was seen the whole journal was seen
+whole_on : (a b : Option Halt) (x y z : List Entry) → IfSome a (λ reason. b ≡ Some reason) → IfSome a (λ _. y ≡ x) → IfSome b (λ _. z ≡ y) → IfSome a (λ _. z ≡ x)
+whole_on None b x y z final one two = tt
+whole_on (Some reason) b x y z final one two = subst (λ (h : Option Halt). IfSome h (λ _. z ≡ y)) final two ∙ one
+
+prefix_on : {A : Type 0} (xs ys zs : List A) → IsPrefix xs ys → IsPrefix ys zs → IsPrefix xs zs
+prefix_on xs ys zs p q = (p.0 ++ q.0, sym (append_assoc xs p.0 q.0) ∙ ap (λ w. w ++ q.0) p.1 ∙ q.1)
+
+module _ {O : Type 0} (may_halt : List Entry → Halt → Type 0) where
+  -- this call's step halted the machine
+  pub halted_here : (v w : View O) (reason : Halt) (n : ℕ) → w ≡ stopped v reason → v.halt ≡ None → n ≡ length v.seen → may_halt v.seen reason → IsRefused may_halt v w (Halted reason n)
+  halted_here v w reason n now runs count may = subst (λ (z : View O). IsRefused may_halt v z (Halted reason n)) (sym now) record {
+    goes = record { seen = whole v.seen; origin = refl; first = refl; start = refl; halt = nothing_seen v.halt v.halt reason (final_self v.halt) runs; whole = of_all v.halt (v.seen ≡ v.seen) refl };
+    none = record { mine = refl; made = refl; shares = refl };
+    count = sym count;
+    may = may;
+    halt = refl;
+  }
+
+  -- the machine was found halted
+  pub stopped_here : (v w : View O) (reason : Halt) (n : ℕ) → w ≡ v → v.halt ≡ Some reason → n ≡ length v.seen → may_halt v.seen reason → IsRefused may_halt v w (Stopped reason n)
+  stopped_here v w reason n now halt count may = subst (λ (z : View O). IsRefused may_halt v z (Stopped reason n)) (sym now) record {
+    goes = record { seen = whole v.seen; origin = refl; first = refl; start = refl; halt = final_self v.halt; whole = of_all v.halt (v.seen ≡ v.seen) refl };
+    none = record { mine = refl; made = refl; shares = refl };
+    count = sym count;
+    may = may;
+    halt = halt;
+  }
+
+  halted_through : (v w : View O) (log : List Entry) (halt : Option Halt) (reason : Halt) (n : ℕ) → IsPrefix v.seen log → IfSome v.halt (λ seen. halt ≡ Some seen) → IfSome v.halt (λ _. log ≡ v.seen) → IsHalted may_halt (with_turn v log halt) w reason n → IsHalted may_halt v (without_turn w) reason n
+  halted_through v w log halt reason n begins final grew is = record {
+    goes = record { seen = prefix_on v.seen log w.seen begins is.goes.seen; origin = is.goes.origin; first = is.goes.first; start = is.goes.start; halt = halt_on v.halt halt w.halt final is.goes.halt; whole = whole_on v.halt halt v.seen log w.seen final grew is.goes.whole };
+    none = record { mine = is.none.mine; made = is.none.made; shares = is.none.shares };
+    count = is.count;
+    may = is.may;
+    halt = is.halt;
+  }
+
+  refused_through : (v w : View O) (log : List Entry) (halt : Option Halt) (e : DeskErr) → IsPrefix v.seen log → IfSome v.halt (λ seen. halt ≡ Some seen) → IfSome v.halt (λ _. log ≡ v.seen) → IsRefused may_halt (with_turn v log halt) w e → IsRefused may_halt v (without_turn w) e
+  refused_through v w log halt (Halted reason n) begins final grew is = halted_through v w log halt reason n begins final grew is
+  refused_through v w log halt (Stopped reason n) begins final grew is = halted_through v w log halt reason n begins final grew is
+
+  -- what was refused in a turn is refused
+  pub refused_in_turn : (v u w x : View O) (log : List Entry) (halt : Option Halt) (e : DeskErr) → u ≡ with_turn v log halt → x ≡ without_turn w → IsPrefix v.seen log → IfSome v.halt (λ seen. halt ≡ Some seen) → IfSome v.halt (λ _. log ≡ v.seen) → IsRefused may_halt u w e → IsRefused may_halt v x e
+  refused_in_turn v u w x log halt e begin end begins final grew is = subst (λ (z : View O). IsRefused may_halt v z e) (sym end) (refused_through v w log halt e begins final grew (subst (λ (z : View O). IsRefused may_halt z w e) begin is))
 
 module _ {H O : Type 0} (history : H → List Entry) (halt_of : H → Option Halt) (origin_of : H → O) (first : O → ℕ) (lawful : O → List Entry → Type 0) (may_halt : List Entry → Halt → Type 0) where
   abbrev St : Type 0
@@ -148,9 +225,9 @@ module _ {H O : Type 0} (history : H → List Entry) (halt_of : H → Option Hal
         subst (λ (z : ℕ). Rule (stepped s 2 z id m.1 w (takes 0 (Some h)))) (sym now)
             (quiet s r r.halt ws (set s.homes 0 none) id v w at (length-set s.words 2 1 ∙ wide) w0 (w1 ∙ r.halted) r.may (omega arith) (λ e. absurd (omega arith)) (λ _. set_here s.homes 0 none (omega arith)) (omega arith)
             (λ j u other there. r.each j u there)
-            record { seen = subst (λ (z : List Entry). IsPrefix z r.log) (sym is.0) (whole r.log); told = fits.told; whole = λ _. is.0; stops = λ _. is.1; final = subst (λ (z : Option Halt). IfSome z (λ reason. r.halt ≡ Some reason)) (sym is.1) (final_self r.halt); mine = fits.mine; based = fits.based; spent = λ e. absurd (omega arith) }
+            record { seen = subst (λ (z : List Entry). IsPrefix z r.log) (sym is.0) (whole r.log); told = fits.told; whole = λ _. is.0; stops = λ _. is.1; final = subst (λ (z : Option Halt). IfSome z (λ reason. r.halt ≡ Some reason)) (sym is.1) (final_self r.halt); heard = fits.heard; ends = of_all (halt_of h) (history h ≡ r.log) is.0; mine = fits.mine; based = fits.based; spent = λ e. absurd (omega arith) }
             refl refl refl),
-        ((λ _. (h, refl, subst (λ (z : List Entry). IsPrefix v.seen z) (sym is.0) fits.seen, subst (λ (z : O × List Entry). lawful z.0 z.1) (λ i. (sym is.2 i, sym is.0 i)) r.legal, (fits.based live).0 ∙ ap Some (sym is.2), (fits.based live).1 ∙ ap first (sym is.2), subst (λ (z : Option Halt). IfSome v.halt (λ reason. z ≡ Some reason)) (sym is.1) fits.final)), (λ e. absurd (e free))),
+        ((λ _. (h, refl, subst (λ (z : List Entry). IsPrefix v.seen z) (sym is.0) fits.seen, subst (λ (z : O × List Entry). lawful z.0 z.1) (λ i. (sym is.2 i, sym is.0 i)) r.legal, (fits.based live).0 ∙ ap Some (sym is.2), (fits.based live).1 ∙ ap first (sym is.2), subst (λ (z : Option Halt). IfSome v.halt (λ reason. z ≡ Some reason)) (sym is.1) fits.final, some_as v.halt (v.seen ≡ r.log) (history h ≡ v.seen) (λ e. is.0 ∙ sym e) fits.ends)), (λ e. absurd (e free))),
       ))
       (λ busy.
       let now : either (word2 == 0) 1 word2 ≡ word2 = ap (λ (b : Bool). either b 1 word2) (ne_eqb word2 0 busy) in (
@@ -193,8 +270,8 @@ module _ {H O : Type 0} (history : H → List Entry) (halt_of : H → Option Hal
         keeps,
         tt,
         quiet s r (Some reason) ws s.homes id v w at (length-set s.words 1 k ∙ wide) w0 (w1 ∙ is) (subst (λ (z : List Entry). may_halt z reason) (fits.whole turn) may) (omega arith) (λ e. absurd (omega arith)) (λ e. r.away (sym w2 ∙ e)) (omega arith)
-            (λ j u other there. let u_fits = r.each j u there in let idle = idle_else s r id v at turn j u other there in record { seen = u_fits.seen; told = u_fits.told; whole = u_fits.whole; stops = λ e. absurd (cc (idle, e)); final = may_of (λ other. Some reason ≡ Some other) u.halt (none_seen u.halt r.halt u_fits.final none_yet); mine = u_fits.mine; based = u_fits.based; spent = u_fits.spent })
-            record { seen = fits.seen; told = fits.told; whole = fits.whole; stops = λ _. refl; final = refl; mine = fits.mine; based = fits.based; spent = fits.spent }
+            (λ j u other there. let u_fits = r.each j u there in let idle = idle_else s r id v at turn j u other there in record { seen = u_fits.seen; told = u_fits.told; whole = u_fits.whole; stops = λ e. absurd (cc (idle, e)); final = may_of (λ other. Some reason ≡ Some other) u.halt (none_seen u.halt r.halt u_fits.final none_yet); heard = may_of (λ other. Some reason ≡ Some other) u.heard (none_seen u.heard r.halt u_fits.heard none_yet); ends = u_fits.ends; mine = u_fits.mine; based = u_fits.based; spent = u_fits.spent })
+            record { seen = fits.seen; told = fits.told; whole = fits.whole; stops = λ _. refl; final = refl; heard = may_of (λ other. Some reason ≡ Some other) v.heard (none_seen v.heard r.halt fits.heard none_yet); ends = fits.whole turn; mine = fits.mine; based = fits.based; spent = fits.spent }
             refl refl refl,
         (reason, hand, refl),
       )
@@ -222,7 +299,7 @@ module _ {H O : Type 0} (history : H → List Entry) (halt_of : H → Option Hal
             (quiet s r r.halt ws (set s.homes 0 (some (Some h))) id v w at (length-set s.words 2 0 ∙ wide) w0 (w1 ∙ r.halted) r.may (omega arith)
             (λ _. (h, set_here s.homes 0 (some (Some h)) (omega arith), (same ∙ fits.whole turn, stop ∙ fits.stops turn, same_some (origin_of h) r.origin v.origin began (fits.based live).0))) (λ e. absurd (omega arith)) (omega arith)
             (λ j u other there. r.each j u there)
-            record { seen = fits.seen; told = fits.told; whole = λ e. absurd (cc e); stops = λ e. absurd (cc e); final = fits.final; mine = fits.mine; based = fits.based; spent = λ e. (refl, (fits.spent e).1, (fits.spent e).2) }
+            record { seen = fits.seen; told = fits.told; whole = λ e. absurd (cc e); stops = λ e. absurd (cc e); final = fits.final; heard = fits.heard; ends = fits.ends; mine = fits.mine; based = fits.based; spent = λ e. (refl, (fits.spent e).1, (fits.spent e).2) }
             refl refl refl),
         refl,
       )
@@ -281,6 +358,8 @@ module _ {H O : Type 0} (history : H → List Entry) (halt_of : H → Option Hal
               whole = λ _. refl;
               stops = fits.stops;
               final = fits.final;
+              heard = fits.heard;
+              ends = may_of (λ _. log ≡ log) v.halt runs;
               mine = one_more log r.start v.mine c (still_stand v.seen entry r.start v.mine (subst (λ (z : List Entry). AllStand z r.start v.mine) (sym all) fits.mine)) start_in (omega arith) (last_stands v.seen entry);
               based = fits.based;
               spent = λ e. absurd (omega arith);
@@ -293,6 +372,8 @@ module _ {H O : Type 0} (history : H → List Entry) (halt_of : H → Option Hal
               whole = λ e. absurd (cc (e, idle));
               stops = λ e. absurd (cc (e, idle));
               final = u_fits.final;
+              heard = u_fits.heard;
+              ends = may_of (λ _. u.seen ≡ log) u.halt (none_seen u.halt r.halt u_fits.final none_yet);
               mine = still_stand v.seen entry r.start u.mine (subst (λ (z : List Entry). AllStand z r.start u.mine) (sym all) u_fits.mine);
               based = u_fits.based;
               spent = u_fits.spent;
@@ -314,16 +395,50 @@ module _ {H O : Type 0} (history : H → List Entry) (halt_of : H → Option Hal
         (entry, hand, refl),
       )
 
+  pub adds_put : (n id : ℕ) (v : View O) (m : Sat H O) (h : H) → m.0 ≡ v → m.1 ≡ (0, Some h) ∷ [] → v.turn ≡ true → v.halt ≡ None → 0 < v.shares → v.first + length v.seen + 1 < 2 ^ 64 → ((entry : Entry) × (history h ≡ v.seen ++ entry ∷ [])) → v.origin ≡ Some (origin_of h) → lawful (origin_of h) (history h)
+      → Allows Rule n id m 0 (λ n. (n + 1) % 2 ^ 64) (added history (step n 0 1 0 none) m)
+  adds_put n id v m h view hand turn runs live room grown began ok =
+      subst (λ (z : Sat H O). Allows Rule n id z 0 (λ n. (n + 1) % 2 ^ 64) (added history (step n 0 1 0 none) z)) (λ k. (sym view k, sym hand k))
+      (adds n id (v, (0, Some h) ∷ []) grown.0 turn runs live room (h, refl, grown.1) (subst (λ (z : Option O). IfSome z (λ origin. lawful origin (v.seen ++ grown.0 ∷ []))) (sym began) (subst (λ (z : List Entry). lawful (origin_of h) z) grown.1 ok)))
+
+  pub halts_put : (n id : ℕ) (v : View O) (m : Sat H O) (h : H) (k : ℕ) (reason : Halt) → m.0 ≡ v → m.1 ≡ (0, Some h) ∷ [] → v.turn ≡ true → v.halt ≡ None → halt_of h ≡ Some reason → k ≡ number_of (Some reason) → may_halt v.seen reason
+      → Allows Rule n id m 1 (λ _. k) (λ _. halted halt_of (step n 1 k 0 none) m k)
+  halts_put n id v m h k reason view hand turn runs stops is may =
+      subst (λ (z : Sat H O). Allows Rule n id z 1 (λ _. k) (λ _. halted halt_of (step n 1 k 0 none) z k)) (λ k. (sym view k, sym hand k))
+      (halts n id (v, (0, Some h) ∷ []) k reason turn runs (h, refl, stops) is may)
+
+  -- the machine in hand after its entry was counted, and after its halt was noted
+  pub has_added : (v : View O) (m new : Sat H O) (h : H) → m.0 ≡ v → m.1 ≡ (0, Some h) ∷ [] → v.turn ≡ true → v.halt ≡ None → 0 < v.shares → (halt_of h ≡ None) × (v.origin ≡ Some (origin_of h)) × (v.first ≡ first (origin_of h)) → ((entry : Entry) × HasInHand m (λ x. history x ≡ m.0.seen ++ entry ∷ []) × (new ≡ (after_call m.0 entry, m.1)))
+      → HasTurn history halt_of origin_of first new h × ((entry : Entry) → history h ≡ v.seen ++ entry ∷ [] → new.0 ≡ after_call v entry)
+  has_added v m new h view hand turn runs live tells done =
+      let at = subst (λ (z : Sat H O). (entry : Entry) × HasInHand z (λ x. history x ≡ z.0.seen ++ entry ∷ []) × (new ≡ (after_call z.0 entry, z.1))) (λ k. (view k, hand k)) done in
+      let same : h ≡ at.1.0 = some_same h at.1.0 at.1.1 in
+      let grown : history h ≡ v.seen ++ at.0 ∷ [] = ap history same ∙ at.1.2 in (
+        subst (λ (z : Sat H O). HasTurn history halt_of origin_of first z h) (sym at.2) (refl, (grown, tells.0 ∙ sym runs, tells.1, tells.2), turn, live),
+        (λ entry e. ap (λ (z : Sat H O). z.0) at.2 ∙ ap (after_call v) (same_last v.seen at.0 entry (sym grown ∙ e))),
+      )
+
+  pub has_stopped : (v : View O) (m new : Sat H O) (h : H) (reason : Halt) → m.0 ≡ v → m.1 ≡ (0, Some h) ∷ [] → v.turn ≡ true → 0 < v.shares → Tells history halt_of origin_of first (stopped v reason) h → ((why : Halt) × HasInHand m (λ x. halt_of x ≡ Some why) × (new ≡ (stopped m.0 why, m.1)))
+      → HasTurn history halt_of origin_of first new h × (new.0 ≡ stopped v reason)
+  has_stopped v m new h reason view hand turn live tells done =
+      let at = subst (λ (z : Sat H O). (why : Halt) × HasInHand z (λ x. halt_of x ≡ Some why) × (new ≡ (stopped z.0 why, z.1))) (λ k. (view k, hand k)) done in
+      let same : h ≡ at.1.0 = some_same h at.1.0 at.1.1 in
+      let why : at.0 ≡ reason = some_same at.0 reason (sym (ap halt_of same ∙ at.1.2) ∙ tells.1) in
+      let now : new ≡ (stopped v reason, (0, Some h) ∷ []) = at.2 ∙ ap {A = Halt} (λ z. (stopped v z, (0, Some h) ∷ [])) why in (
+        subst (λ (z : Sat H O). HasTurn history halt_of origin_of first z h) (sym now) (refl, tells, turn, live),
+        ap (λ (z : Sat H O). z.0) now,
+      )
+
   pub sees : (n id : ℕ) (m : Sat H O) → 0 < m.0.shares → Allows Rule n id m 0 (λ n. n) (seen_more lawful (step n 0 0 0 none) m)
   sees n id m live s r _ at _ =
       let v = m.0 in
       let fits = r.each id v at in
-      let w : View O = record v { seen = r.log } in (
+      let w : View O = looked v r.log in (
         w,
         keeps,
         tt,
-        unmoved s r 0 id m.1 v w at refl record { seen = whole r.log; told = fits.told; whole = λ _. refl; stops = fits.stops; final = fits.final; mine = fits.mine; based = fits.based; spent = fits.spent } refl refl refl,
-        (r.log, refl, fits.seen, fits.told, (let counted = r.counted in let based = (fits.based live).1 in omega arith), subst (λ (z : Option O). IfSome z (λ origin. lawful origin r.log)) (sym (fits.based live).0) r.legal),
+        unmoved s r 0 id m.1 v w at refl record { seen = whole r.log; told = fits.told; whole = λ _. refl; stops = λ e. either_is v.halt v.heard r.halt (fits.stops e) fits.heard; final = either_final v.halt v.heard r.halt fits.final fits.heard; heard = tt; ends = of_all (either_halt v.halt v.heard) (r.log ≡ r.log) refl; mine = fits.mine; based = fits.based; spent = fits.spent } refl refl refl,
+        (r.log, refl, fits.seen, fits.told, (let counted = r.counted in let based = (fits.based live).1 in omega arith), subst (λ (z : Option O). IfSome z (λ origin. lawful origin r.log)) (sym (fits.based live).0) r.legal, some_as v.halt (v.seen ≡ r.log) (r.log ≡ v.seen) (λ e. sym e) fits.ends),
       )
 
   pub opens : (n k : ℕ) (h : H) → n ≡ first (origin_of h) + length (history h) → k ≡ number_of (halt_of h) → IfSome (halt_of h) (λ reason. may_halt (history h) reason) → lawful (origin_of h) (history h)
@@ -350,7 +465,7 @@ module _ {H O : Type 0} (history : H → List Entry) (halt_of : H → Option Hal
   }
     where
       fits : (h : H) → Fits (origin_of h) (first (origin_of h)) (length (history h)) (history h) (halt_of h) (opened (origin_of h) (first (origin_of h)) (history h) (halt_of h))
-      fits h = record { seen = whole (history h); told = (history h, refl); whole = λ e. absurd (cc e); stops = λ e. absurd (cc e); final = final_self (halt_of h); mine = tt; based = λ _. (refl, refl, refl); spent = λ z. absurd (omega arith) }
+      fits h = record { seen = whole (history h); told = (history h, refl); whole = λ e. absurd (cc e); stops = λ e. absurd (cc e); final = final_self (halt_of h); heard = tt; ends = of_all (halt_of h) (history h ≡ history h) refl; mine = tt; based = λ _. (refl, refl, refl); spent = λ z. absurd (omega arith) }
 
       first_fits : (h : H) (j : ℕ) (u : View O) → get_elem? (opened (origin_of h) (first (origin_of h)) (history h) (halt_of h) ∷ []) j ≡ some u → Fits (origin_of h) (first (origin_of h)) (length (history h)) (history h) (halt_of h) u
       first_fits h zero u at = subst (λ (z : View O). Fits (origin_of h) (first (origin_of h)) (length (history h)) (history h) (halt_of h) z) (some-injective (opened (origin_of h) (first (origin_of h)) (history h) (halt_of h)) u at) (fits h)
@@ -366,8 +481,8 @@ module _ {H O : Type 0} (history : H → List Entry) (halt_of : H → Option Hal
       let odd : v.shares % 2 < 2 = mod-lt v.shares (omega arith) in
       let views : List (View O) = set s.views id w in
       let all_times : (p : ℕ) → total (times_of p) (views ++ u ∷ []) ≡ total (times_of p) s.views = λ p. let sums = total_set (times_of p) s.views id v w at in let more = total_append (times_of p) views (u ∷ []) in omega arith in
-      let w_fits : FitsIn s r w = record { seen = fits.seen; told = fits.told; whole = fits.whole; stops = fits.stops; final = fits.final; mine = fits.mine; based = λ _. fits.based (omega arith); spent = λ e. absurd (omega arith) } in
-      let u_fits : FitsIn s r u = record { seen = fits.seen; told = (r.log, refl); whole = λ e. absurd (cc e); stops = λ e. absurd (cc e); final = fits.final; mine = tt; based = λ _. fits.based (omega arith); spent = λ e. (refl, refl, refl) } in
+      let w_fits : FitsIn s r w = record { seen = fits.seen; told = fits.told; whole = fits.whole; stops = fits.stops; final = fits.final; heard = fits.heard; ends = fits.ends; mine = fits.mine; based = λ _. fits.based (omega arith); spent = λ e. absurd (omega arith) } in
+      let u_fits : FitsIn s r u = record { seen = fits.seen; told = (r.log, refl); whole = λ e. absurd (cc e); stops = λ e. absurd (cc e); final = fits.final; heard = fits.heard; ends = fits.ends; mine = tt; based = λ _. fits.based (omega arith); spent = λ e. (refl, refl, refl) } in
       record {
         log = r.log;
         start = r.start;
@@ -396,8 +511,8 @@ module _ {H O : Type 0} (history : H → List Entry) (halt_of : H → Option Hal
       let fits = r.each id v at in
       let was_there : get_elem? s.views other ≡ some w = sym (set_else s.views id other x apart) ∙ there in
       let w_fits = r.each other w was_there in
-      let x_fits : FitsIn s r x = record { seen = fits.seen; told = w_fits.seen; whole = fits.whole; stops = λ e. absurd (cc (idle, e)); final = either_final v.halt w.halt r.halt fits.final w_fits.final; mine = together r.log r.start v.mine w.mine fits.mine w_fits.mine; based = λ _. fits.based live; spent = λ e. absurd (omega arith) } in
-      let none_fits : FitsIn s r spent = record { seen = (r.log, refl); told = (r.log, refl); whole = λ e. absurd (cc e); stops = λ e. absurd (cc e); final = tt; mine = tt; based = λ e. absurd (omega arith); spent = λ e. (refl, refl, refl) } in
+      let x_fits : FitsIn s r x = record { seen = fits.seen; told = w_fits.seen; whole = fits.whole; stops = λ e. absurd (cc (idle, e)); final = fits.final; heard = w_fits.final; ends = fits.ends; mine = together r.log r.start v.mine w.mine fits.mine w_fits.mine; based = λ _. fits.based live; spent = λ e. absurd (omega arith) } in
+      let none_fits : FitsIn s r spent = record { seen = (r.log, refl); told = (r.log, refl); whole = λ e. absurd (cc e); stops = λ e. absurd (cc e); final = tt; heard = tt; ends = tt; mine = tt; based = λ e. absurd (omega arith); spent = λ e. (refl, refl, refl) } in
       let v_off : turn_of v ≡ 0 = ap bit idle in
       let w_off : turn_of w ≡ 0 = ap bit still in
       let all_times : (p : ℕ) → total (times_of p) (set views other spent) ≡ total (times_of p) s.views = λ p. let one = total_set (times_of p) s.views id v x at in let two = total_set (times_of p) views other w spent there in let more = total_append (λ (c : ℕ × Event). bit (c.0 == p)) v.mine w.mine in omega arith in

@@ -24,13 +24,15 @@ pub record Known (O : Type 0) : Type 0 where
   pub view : View O
 
 module _ {O : Type 0} where
-  -- the pass has seen at least as much as before, and is of the same machine; a halt that it has seen is final
+  -- The pass has seen at least as much as before, and is of the same machine. A halt that it has seen is final, and it has seen
+  -- the whole journal then (THREAD-11).
   pub record Goes (before after : View O) : Type 0 where
     pub seen : IsPrefix before.seen after.seen
     pub origin : after.origin ≡ before.origin
     pub first : after.first ≡ before.first
     pub start : after.start ≡ before.start
     pub halt : IfSome before.halt (λ reason. after.halt ≡ Some reason)
+    pub whole : IfSome before.halt (λ _. after.seen ≡ before.seen)
 
   -- no call of the pass more
   pub record MadeNone (before after : View O) : Type 0 where

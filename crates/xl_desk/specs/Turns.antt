@@ -75,13 +75,15 @@ module _ {O : Type 0} where
     pub whole : v.turn ≡ true → v.seen ≡ log
     pub stops : v.turn ≡ true → v.halt ≡ halt
     pub final : IfSome v.halt (λ reason. halt ≡ Some reason)
+    pub heard : IfSome v.heard (λ reason. halt ≡ Some reason)
+    pub ends : IfSome v.halt (λ _. v.seen ≡ log)
     pub mine : AllStand log start v.mine
     pub based : 0 < v.shares → (v.origin ≡ Some origin) × (v.first ≡ base) × (v.start ≡ start)
     pub spent : v.shares ≡ 0 → (v.turn ≡ false) × (v.made ≡ 0) × (v.mine ≡ [])
 
   -- the view of the first seat
   abbrev pub opened : O → ℕ → List Entry → Option Halt → View O
-  opened origin base log halt = record { origin = Some origin; first = base; start = length log; seen = log; told = []; mine = []; made = 0; shares = all_shares; turn = false; halt = halt }
+  opened origin base log halt = record { origin = Some origin; first = base; start = length log; seen = log; told = []; mine = []; made = 0; shares = all_shares; turn = false; halt = halt; heard = None }
 
   abbrev pub with_turn : View O → List Entry → Option Halt → View O
   with_turn v log halt = record v { seen = log; turn = true; halt = halt }
@@ -104,10 +106,14 @@ module _ {O : Type 0} where
 
   -- what the other seat has seen is told, until the next look
   abbrev pub both : View O → View O → View O
-  both v w = record v { told = w.seen; mine = v.mine ++ w.mine; made = v.made + w.made; shares = v.shares + w.shares; halt = either_halt v.halt w.halt }
+  both v w = record v { told = w.seen; mine = v.mine ++ w.mine; made = v.made + w.made; shares = v.shares + w.shares; heard = w.halt }
+
+  -- the whole journal is seen, and whatever halt was heard of
+  abbrev pub looked : View O → List Entry → View O
+  looked v log = record v { seen = log; halt = either_halt v.halt v.heard; heard = None }
 
   abbrev pub spent : View O
-  spent = record { origin = None; first = 0; start = 0; seen = []; told = []; mine = []; made = 0; shares = 0; turn = false; halt = None }
+  spent = record { origin = None; first = 0; start = 0; seen = []; told = []; mine = []; made = 0; shares = 0; turn = false; halt = None; heard = None }
 
 -- ---- the rule
 
@@ -163,7 +169,7 @@ module _ {H O : Type 0} where
 
   -- if the turn was free it is taken, and the machine with it; the seat sees the whole journal then (THREAD-2)
   abbrev pub taken : (H → List Entry) → (H → Option Halt) → (H → O) → (O → ℕ) → (O → List Entry → Type 0) → Step (Option H) → Sat H O → ℕ → Sat H O → Type 0
-  taken history halt_of origin_of first lawful st m r m' = (r ≡ 0 → (h : H) × (m' ≡ (with_turn m.0 (history h) (halt_of h), (0, Some h) ∷ m.1)) × IsPrefix m.0.seen (history h) × lawful (origin_of h) (history h) × (m.0.origin ≡ Some (origin_of h)) × (m.0.first ≡ first (origin_of h)) × IfSome m.0.halt (λ reason. halt_of h ≡ Some reason))
+  taken history halt_of origin_of first lawful st m r m' = (r ≡ 0 → (h : H) × (m' ≡ (with_turn m.0 (history h) (halt_of h), (0, Some h) ∷ m.1)) × IsPrefix m.0.seen (history h) × lawful (origin_of h) (history h) × (m.0.origin ≡ Some (origin_of h)) × (m.0.first ≡ first (origin_of h)) × IfSome m.0.halt (λ reason. halt_of h ≡ Some reason) × IfSome m.0.halt (λ _. history h ≡ m.0.seen))
       × (r ≢ 0 → m' ≡ m)
 
   -- the number is that of the halt in hand
@@ -183,7 +189,7 @@ module _ {H O : Type 0} where
 
   -- the whole journal is seen
   abbrev pub seen_more : (O → List Entry → Type 0) → Step (Option H) → Sat H O → ℕ → Sat H O → Type 0
-  seen_more lawful st m r m' = (log : List Entry) × (m' ≡ (record m.0 { seen = log }, m.1)) × IsPrefix m.0.seen log × IsPrefix m.0.told log × (m.0.first + length log ≡ r) × Began m.0 (λ origin. lawful origin log)
+  seen_more lawful st m r m' = (log : List Entry) × (m' ≡ (looked m.0 log, m.1)) × IsPrefix m.0.seen log × IsPrefix m.0.told log × (m.0.first + length log ≡ r) × Began m.0 (λ origin. lawful origin log) × IfSome m.0.halt (λ _. log ≡ m.0.seen)
 
 -- ---- who has the turn
 

@@ -7,8 +7,8 @@ ghost use Rattle.xl_desk.specs.Turns.{IsClosed, opened, halved, half, all_shares
 
 use crate::fault::DeskErr;
 use crate::outs::{Due, Found};
-use crate::plays::{Check, Halves, InTurns, See};
-use crate::turn::{Chair, base, give, number, read, report, search, step, take};
+use crate::plays::{Halves, InTurns, See};
+use crate::turn::{Chair, base, enter, give, number, read, search, take};
 use crate::view::View;
 use atomic_table::{Refused, Seat, Table};
 use std::alloc::{AllocError, Global};
@@ -67,6 +67,18 @@ pub struct NoRoom<H> {
     pub machine: H,
 }
 
+/// The one slot of a table, with the machine in it.
+fn slots_of<H>(alloc: Global, machine: H) -> Result<Vec<Option<H>>, NoRoom<H>>
+    ensures slots { IfOk result (λ slots. slots.items ≡ Some machine ∷ []) }
+    ensures back { IfErr result (λ e. e.machine ≡ machine) }
+{
+    let Ok(mut slots) = Vec::with_capacity(alloc, 1) else {
+        return Err(NoRoom { machine });
+    };
+    slots.push_reserved(Some(machine));
+    Ok(slots)
+}
+
 /// The machine in the one slot of a table.
 fn only<H>(mut slots: Vec<Option<H>>) -> H
     requires { (h : H) × (slots.items ≡ Some h ∷ []) }
@@ -81,7 +93,7 @@ impl<H: Serial> Desk<H> {
     /// One event, once the turn is free: the journal begins with all that the pass has seen, and ends with this call, at the
     /// place that is answered. Halted says that this call's step halted the machine, Stopped that it was halted before;
     /// nothing is entered then, and the pass has seen the whole journal. It takes no memory but the step's.
-    #[tactic(auto, using(crate::proofs::Steps::nothing_seen, crate::proofs::Steps::lawful_from))]
+    #[tactic(auto, using(crate::proofs::Steps::refused_in_turn, crate::proofs::Steps::nothing_grew, crate::proofs::Steps::lawful_from))]
     pub fn call<R: Wait>(
         &self,
         rt: &R,
@@ -99,18 +111,11 @@ impl<H: Serial> Desk<H> {
         let top = &self.table.shared;
         let seat = &mut pass.seat;
         take(rt, top, seat);
-        if top.load::<Check>(seat, 1) != 0 {
-            let (halt, count) = report(top, seat);
-            give(top, seat);
-            let Some(reason) = halt else { unreachable!() };
-            return Err(DeskErr::Stopped(reason, count));
-        }
-        let stepped = step(alloc, top, seat, event);
-        let (_, count) = report(top, seat);
+        let entered = enter(alloc, top, seat, event);
         give(top, seat);
-        match stepped {
+        match entered {
             Ok(place) => Ok(Receipt { place }),
-            Err(reason) => Err(DeskErr::Halted(reason, count)),
+            Err(why) => Err(why),
         }
     }
 
@@ -160,7 +165,7 @@ impl<H: Serial> Desk<H> {
     }
 
     /// The place past the journal's last entry. It neither waits for the turn nor takes memory.
-    #[tactic(auto, using(crate::proofs::Steps::lawful_from))]
+    #[tactic(auto, using(crate::proofs::Steps::either_stays, crate::proofs::Steps::lawful_from))]
     pub fn see(&self, pass: &mut Pass<H>) -> u64
         requires desk { pass.old.desk ≡ self.now }
         ensures desk { pass.new.desk ≡ pass.old.desk }
@@ -232,12 +237,9 @@ impl<H: Serial> Desk<H> {
         ensures pass { IfOk result (λ t. t.1.view ≡ opened (H.origin machine) (H.first (H.origin machine)) (H.history machine) (H.halt machine)) }
         ensures back { IfErr result (λ e. e.machine ≡ machine) }
     {
-        let Ok(mut slots) = Vec::with_capacity(alloc, 1) else {
-            return Err(NoRoom { machine });
-        };
         let words = [machine.next_place(), number(machine.halt()), 0];
         let about = Snapshot::of(&machine);
-        slots.push_reserved(Some(machine));
+        let slots = slots_of(alloc, machine)?;
         match Table::new(alloc, &words, slots, &about) {
             Ok((table, seat)) => Ok((Desk { table }, Pass { seat })),
             Err(Refused { slots }) => Err(NoRoom {

@@ -23,6 +23,8 @@ pub struct View<O> {
     pub shares: u64,
     /// Whether the pass has the turn.
     pub turn: bool,
-    /// The halt that the pass has seen the machine in, if any; it is final.
+    /// The halt that the pass has seen the machine in, if any; it is final, and the pass has seen the whole journal.
     pub halt: Option<Halt>,
+    /// A halt that another pass had seen, which was joined into this one, until the next look.
+    pub heard: Option<Halt>,
 }

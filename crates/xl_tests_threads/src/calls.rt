@@ -23,7 +23,7 @@ fn told_of(asked: &Asked) -> u64 {
 }
 
 /// Whether a caller was asked this, in this order.
-fn is_told(caller: &MemoryCaller, wanted: &[u64]) -> bool {
+pub(crate) fn is_told(caller: &MemoryCaller, wanted: &[u64]) -> bool {
     match caller.told() {
         Some(told) => told
             .iter()

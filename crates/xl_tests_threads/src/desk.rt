@@ -1,6 +1,5 @@
 //! The desk.
-ghost use Rattle.std.specs.Prelude.{◌≡◌, ◌≤◌, ◌+◌, ◌^◌, false, IfOk};
-ghost use Rattle.xl_tests_threads.specs.Echoes.{is_end};
+ghost use Rattle.std.specs.Prelude.{◌≡◌, ◌≤◌, ◌+◌, ◌^◌, IfOk};
 ghost use Rattle.xl_desk.specs.Turns.{all_shares};
 
 use crate::echo::Echo;
@@ -31,9 +30,7 @@ pub(crate) fn make(
     }
 }
 
-fn message(alloc: Global, conn: u64, text: &[u8]) -> Result<Event, AllocError>
-    ensures { IfOk result (λ event. is_end event ≡ false) }
-{
+fn message(alloc: Global, conn: u64, text: &[u8]) -> Result<Event, AllocError> {
     Ok(Event::Message(conn, Sequence::from_slice(alloc, text)?))
 }
 
@@ -151,6 +148,8 @@ fn calls_are_entered_in_their_order(rt: HostRuntime) -> Result<(), Fail> {
     let (sent, end) = desk.look(&rt, alloc, &mut pass, 5, 5)?;
     assert!(rt; sent.as_slice() == b"abcd".as_slice());
     assert_eq!(rt; end, 8);
+    let (sent, _) = desk.look(&rt, alloc, &mut pass, 5, 7)?;
+    assert!(rt; sent.as_slice() == b"cd".as_slice());
     assert_eq!(rt; desk.see(&mut other), 8);
     Ok(())
 }

@@ -2,14 +2,16 @@
 ghost use Rattle.std.specs.Prelude.{◌≡◌, ℕ, ◌≤◌, ◌+◌, ◌-◌, ◌^◌, ◌++◌, ◌∷◌, [], length, drop, true, false, None, Some, IfOk, IfErr, IfSome, OnOk};
 ghost use Rattle.std.specs.List.{AllByRecursion};
 ghost use Rattle.xl_base.specs.Serials.{Extends, IsInTime};
-ghost use Rattle.xl_tests_threads.specs.Echoes.{is_end, is_behind, IsEcho, MayStop};
+ghost use Rattle.xl_base.specs.declared.event.Dest.TheVariants.{Conn as TheConn, Back as TheBack};
+ghost use Rattle.xl_tests_threads.specs.Echoes.{ends, has_ended, may_go, IsEcho, MayStop};
 
 use std::alloc::{AllocError, Global};
 use std::marker::Model;
 use xl_base::{Dest, Entry, Event, Halt, Out, Sequence, Serial};
 
-/// A machine that sends each message back to its connection, and asks for a call at each reading of the clock, whose number
-/// is the moment. Its first entry has a place of choice, and it is full with so many entries. It takes no End.
+/// A machine that sends each message back to its connection while that is open. A message that begins with a question mark
+/// asks for a call too, whose number is its place, and so does each reading of the clock, with the moment as the number. The
+/// first entry has a place of choice, and the machine is full with so many entries.
 #[derive(Drop)]
 pub struct Echo {
     first: u64,
@@ -29,26 +31,70 @@ impl Model for Echo {
     ghost invariant = { λ e. (e.first + e.most ≤ 2 ^ 62) × (length e.entries ≤ e.most) × IsEcho e.first e.entries × IfSome e.halt (λ reason. MayStop e.entries reason) };
 }
 
-/// What an event is answered at this place.
-fn answer(alloc: Global, place: u64, event: &Event) -> Result<Sequence<Out>, AllocError>
-    ensures { IfOk result (λ outs. AllByRecursion (λ o. is_behind place o.dest ≡ true) outs) }
+/// Whether an event ends the connection.
+fn ends(event: &Event, conn: u64) -> bool
+    ensures { result ≡ ends conn event.now }
+{
+    match event {
+        Event::End(other) => *other == conn,
+        _ => false,
+    }
+}
+
+/// Whether one of the entries ends the connection.
+fn has_ended(entries: &[Entry], conn: u64) -> bool
+    ensures { result ≡ has_ended conn entries.now }
+{
+    'entries: for entry in entries {
+        if ends(&entry.event, conn) {
+            return true;
+        }
+    }
+    false
+}
+
+/// The message once more, to its connection.
+fn echo_of(alloc: Global, conn: u64, bytes: &[u8]) -> Result<Out, AllocError>
+    ensures { IfOk result (λ out. out.dest ≡ TheConn conn) }
+{
+    Ok(Out {
+        dest: Dest::Conn(conn),
+        to: Sequence::new(alloc),
+        bytes: Sequence::from_slice(alloc, bytes)?,
+    })
+}
+
+/// A call of this number to somebody.
+fn call_of(alloc: Global, number: u64) -> Result<Out, AllocError>
+    ensures { IfOk result (λ out. out.dest ≡ TheBack number) }
+{
+    Ok(Out {
+        dest: Dest::Back(number),
+        to: Sequence::from_slice(alloc, b"somebody")?,
+        bytes: Sequence::new(alloc),
+    })
+}
+
+/// What an event is answered at this place, behind these entries.
+fn answer(
+    alloc: Global,
+    place: u64,
+    entries: &[Entry],
+    event: &Event,
+) -> Result<Sequence<Out>, AllocError>
+    ensures { IfOk result (λ outs. AllByRecursion (λ o. may_go place entries.now o.dest ≡ true) outs) }
 {
     let mut outs = Sequence::new(alloc);
     match event {
-        Event::Message(conn, bytes) if *conn < place => {
-            outs.push(Out {
-                dest: Dest::Conn(*conn),
-                to: Sequence::new(alloc),
-                bytes: Sequence::from_slice(alloc, bytes.as_slice())?,
-            })?;
+        Event::Message(conn, bytes) => {
+            if *conn < place && !has_ended(entries, *conn) {
+                outs.push(echo_of(alloc, *conn, bytes.as_slice())?)?;
+            }
+            if let [b'?', ..] = bytes.as_slice() {
+                outs.push(call_of(alloc, place)?)?;
+            }
         }
-        Event::Tick(moment) => {
-            outs.push(Out {
-                dest: Dest::Back(moment.0),
-                to: Sequence::from_slice(alloc, b"somebody")?,
-                bytes: Sequence::new(alloc),
-            })?;
-        }
+        Event::Tick(moment) => outs.push(call_of(alloc, moment.0)?)?,
         _ => {}
     }
     Ok(outs)
@@ -88,7 +134,6 @@ fn enter(
     requires low { first + most ≤ 2 ^ 62 }
     requires few { length entries.old ≤ most }
     requires echo { IsEcho first entries.old }
-    requires goes_on { is_end event ≡ false }
     ensures few { length entries.new ≤ most }
     ensures echo { IsEcho first entries.new }
     ensures ok { IfOk result (λ place. Extends first entries.old entries.new event place) }
@@ -99,7 +144,7 @@ fn enter(
         return Err(Halt::JournalFull(count as u64));
     }
     let place = first + count as u64;
-    let Ok(outs) = answer(alloc, place, &event) else {
+    let Ok(outs) = answer(alloc, place, entries.as_slice(), &event) else {
         return Err(Halt::NoMemory);
     };
     let entry = Entry {
@@ -126,7 +171,7 @@ impl Serial for Echo {
 
     ghost lawful = { λ first log. IsInTime first log };
 
-    ghost takes = { λ event. is_end event ≡ false };
+    ghost takes = { λ event. Unit {0} };
 
     ghost may_halt = { λ log reason. MayStop log reason };
 
@@ -161,7 +206,7 @@ impl Serial for Echo {
     }
 
     fn step(&mut self, alloc: Global, event: Event) -> Result<u64, Halt>
-        requires takes { is_end event ≡ false }
+        requires takes { Unit {0} }
         requires runs { self.old.halt ≡ None }
         ensures origin { self.new.first ≡ self.old.first }
         ensures ok { IfOk result (λ place. Extends self.old.first self.old.entries self.new.entries event place) }

@@ -5,6 +5,9 @@
 mod calls;
 #[cfg(test)]
 mod desk;
+#[cfg(test)]
 mod echo;
-
-pub use echo::Echo;
+#[cfg(test)]
+mod lanes;
+#[cfg(test)]
+mod memory;

@@ -285,7 +285,7 @@ follows_then a None (Some z) p q r one two both = absurd two
 follows_then None (Some y) (Some z) p q r one two both = absurd one
 follows_then (Some x) (Some y) (Some z) p q r one two both = both x y z one two
 
-follows_as : {A : Type 0} (a b : Option A) (p r : A → A → Type 0) → Follows a b p → ((x y : A) → p x y → r x y) → Follows a b r
+pub follows_as : {A : Type 0} (a b : Option A) (p r : A → A → Type 0) → Follows a b p → ((x y : A) → p x y → r x y) → Follows a b r
 follows_as a None p r one as_r = tt
 follows_as None (Some y) p r one as_r = absurd one
 follows_as (Some x) (Some y) p r one as_r = as_r x y one
@@ -300,6 +300,10 @@ halt_stays : (a b c : Option Halt) → IfSome a (λ reason. b ≡ Some reason) �
 halt_stays None b c one two = tt
 halt_stays (Some reason) b c one two = subst (λ x. IfSome x (λ reason. c ≡ Some reason)) one two
 
+whole_then : (a b : Option Halt) (us vs ws : List Entry) → IfSome a (λ reason. b ≡ Some reason) → IfSome a (λ _. vs ≡ us) → IfSome b (λ _. ws ≡ vs) → IfSome a (λ _. ws ≡ us)
+whole_then None b us vs ws halt one two = tt
+whole_then (Some reason) b us vs ws halt one two = subst (λ x. IfSome x (λ _. ws ≡ vs)) halt two ∙ one
+
 pub goes_then : {O : Type 0} (u v w : View O) → Goes u v → Goes v w → Goes u w
 goes_then u v w one two = record {
   seen = both_fronts u.seen v.seen w.seen one.seen two.seen;
@@ -307,9 +311,10 @@ goes_then u v w one two = record {
   first = two.first ∙ one.first;
   start = two.start ∙ one.start;
   halt = halt_stays u.halt v.halt w.halt one.halt two.halt;
+  whole = whole_then u.halt v.halt u.seen v.seen w.seen one.halt one.whole two.whole;
 }
 
-all_more : {A : Type 0} (P : A → Type 0) (xs : List A) (x : A) → AllByRecursion P xs → P x → AllByRecursion P (xs ++ x ∷ [])
+pub all_more : {A : Type 0} (P : A → Type 0) (xs : List A) (x : A) → AllByRecursion P xs → P x → AllByRecursion P (xs ++ x ∷ [])
 all_more P [] x all here = (here, tt)
 all_more P (y ∷ ys) x all here = (all.0, all_more P ys x all.1 here)
 
@@ -422,11 +427,15 @@ going_begins post told v w first looked is = record {
     nothing_asked (Some list) = ([], sym (append-nil list), refl)
 
 pub goes_self : {O : Type 0} (v : View O) → Goes v v
-goes_self v = record { seen = ([], append-nil v.seen); origin = refl; first = refl; start = refl; halt = self v.halt }
+goes_self v = record { seen = ([], append-nil v.seen); origin = refl; first = refl; start = refl; halt = self v.halt; whole = same v.halt }
   where
     self : (x : Option Halt) → IfSome x (λ reason. x ≡ Some reason)
     self None = tt
     self (Some reason) = refl
+
+    same : (x : Option Halt) → IfSome x (λ _. v.seen ≡ v.seen)
+    same None = tt
+    same (Some reason) = refl
 
 pub none_made : {O : Type 0} (v : View O) → MadeNone v v
 none_made v = record { mine = refl; made = refl; shares = refl }

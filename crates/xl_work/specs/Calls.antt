@@ -14,6 +14,7 @@ use Rattle.xl_base.specs.declared.event.Event.{Event}
 use Rattle.xl_base.specs.declared.event.Event.TheVariants.{Called}
 use Rattle.xl_base.specs.declared.event.Out.{Out}
 use Rattle.xl_base.specs.declared.journal.Entry.{Entry}
+use Rattle.xl_base.specs.declared.halt.Halt.{Halt}
 use Rattle.xl_base.specs.declared.lane_end.LaneEnd.{LaneEnd}
 use Rattle.xl_base.specs.declared.lane_end.LaneEnd.TheVariants as lane_end
 use Rattle.xl_desk.specs.declared.view.View.{View}
@@ -132,16 +133,17 @@ pub record IsGoing {O : Type 0} (post : CallerPost) (told : Option (List Asked))
 abbrev pub RoseBy : ℕ → ℕ → ℕ → Type 0
 RoseBy n before now = now < 2 ^ 64 - 1 → now ≡ before + n
 
--- why a worker's turns were cut off: the machine is halted, and the pass has seen just so many entries; or memory ran out
-abbrev pub IsCut : {O : Type 0} → View O → LaneEnd → Type 0
-IsCut v (lane_end.Stopped reason count) = (v.halt ≡ Some reason) × (length v.seen ≡ count)
-IsCut v lane_end.NoMemory = Unit {0}
-IsCut v (lane_end.Turns n) = ⊥
-IsCut v lane_end.End = ⊥
-IsCut v (lane_end.Failed count) = ⊥
+-- why a worker's turns were cut off: the machine is halted for a reason that may come there, and the pass has seen just so many
+-- entries; or memory ran out
+abbrev pub IsCut : {O : Type 0} → (List Entry → Halt → Type 0) → View O → LaneEnd → Type 0
+IsCut may_halt v (lane_end.Stopped reason count) = (v.halt ≡ Some reason) × (length v.seen ≡ count) × may_halt v.seen reason
+IsCut may_halt v lane_end.NoMemory = Unit {0}
+IsCut may_halt v (lane_end.Turns n) = ⊥
+IsCut may_halt v lane_end.End = ⊥
+IsCut may_halt v (lane_end.Failed count) = ⊥
 
 -- why the calls ended: they were cut off, or all turns are done, in each of which the caller was asked something where the
 -- gate is open
-abbrev pub IsEnd : {O : Type 0} → Bool → ℕ → View O → ℕ → ℕ → LaneEnd → Type 0
-IsEnd open_gate turns v asked asked' (lane_end.Turns n) = (n ≡ turns) × (open_gate ≡ true → RoseBy turns asked asked')
-IsEnd open_gate turns v asked asked' end = IsCut v end
+abbrev pub IsEnd : {O : Type 0} → (List Entry → Halt → Type 0) → Bool → ℕ → View O → ℕ → ℕ → LaneEnd → Type 0
+IsEnd may_halt open_gate turns v asked asked' (lane_end.Turns n) = (n ≡ turns) × (open_gate ≡ true → RoseBy turns asked asked')
+IsEnd may_halt open_gate turns v asked asked' end = IsCut may_halt v end

@@ -1,11 +1,12 @@
 //! Callers: the calls that a journal asks for, made and answered.
-ghost use Rattle.std.specs.Prelude.{◌≡◌, ℕ, ◌<◌, ◌≤◌, ◌+◌, ◌*◌, ◌%◌, ◌^◌, List, Option, length, OnOk, OnErr, IfErr, IfSome};
+ghost use Rattle.std.specs.Prelude.{◌≡◌, ℕ, ◌<◌, ◌≤◌, ◌+◌, ◌^◌, List, Option, length, OnOk, OnErr, IfErr, IfSome};
 ghost use Rattle.xl_base.specs.Memory.{counted};
 ghost use Rattle.xl_base.specs.declared.caller.Asked.{Asked as TheAsked};
 ghost use Rattle.xl_base.specs.declared.event.Event.TheVariants.{Called};
 ghost use Rattle.xl_desk.specs.declared.view.View.{View as TheView};
-ghost use Rattle.xl_work.specs.Calls.{AreMade, IsGoing, IsCut, IsEnd, RoseBy, number_of, answer_of};
+ghost use Rattle.xl_work.specs.Calls.{AreMade, IsGoing, IsCut, IsEnd, number_of, answer_of};
 
+use crate::worker::call_number;
 use std::alloc::Global;
 use std::sync::Wait;
 use xl_base::{CallOutcome, Caller, Dest, Event, Gate, LaneEnd, Sequence, Serial};
@@ -62,14 +63,6 @@ fn answered(outcome: CallOutcome) -> Option<Option<Sequence<u8>>>
     }
 }
 
-/// The number of a worker's next call of the machine.
-fn call_number(place: u64, calls: u64) -> u64
-    requires { place < 2 ^ 32 }
-    ensures { result ≡ place * 2 ^ 32 + calls % 2 ^ 32 }
-{
-    place * 4_294_967_296 + calls % 4_294_967_296
-}
-
 /// One turn that the gate lets pass: the next call, or an idle where none is due. Whether a call was entered.
 fn turn<H: Serial, C: Caller, R: Wait>(
     rt: &R,
@@ -88,7 +81,7 @@ fn turn<H: Serial, C: Caller, R: Wait>(
     ensures going { (told : Option (List TheAsked)) (before : TheView H.Origin) → IsGoing post told before (C.told calling.old.caller) pass.old.view calling.old.from calling.old.last → OnOk result (IsGoing post told before (C.told calling.new.caller) pass.new.view calling.new.from calling.new.last) }
     ensures made { (told : Option (List TheAsked)) (before : TheView H.Origin) → IsGoing post told before (C.told calling.old.caller) pass.old.view calling.old.from calling.old.last → OnErr result (AreMade post told before (C.told calling.new.caller) pass.new.view) }
     ensures asked { OnOk result (C.asked calling.new.caller ≡ counted (C.asked calling.old.caller)) }
-    ensures cut { IfErr result (λ end. IsCut pass.new.view end) }
+    ensures cut { IfErr result (λ end. IsCut H.may_halt pass.new.view end) }
 {
     let due = Due {
         after: calling.last,
@@ -140,7 +133,7 @@ pub fn serve_calls<H: Serial, G: Gate, C: Caller, R: Wait>(
     requires place { post.place < 2 ^ 32 }
     ensures desk { pass.new.desk ≡ pass.old.desk }
     ensures made { AreMade post (C.told caller) pass.old.view (C.told result.caller) pass.new.view }
-    ensures end { IsEnd (G.is_open gate.now) post.turns pass.new.view (C.asked caller) (C.asked result.caller) result.end }
+    ensures end { IsEnd H.may_halt (G.is_open gate.now) post.turns pass.new.view (C.asked caller) (C.asked result.caller) result.end }
 {
     let from = desk.first(rt, pass);
     let mut calling = Calling {

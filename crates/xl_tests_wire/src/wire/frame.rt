@@ -1,13 +1,12 @@
 //! Frames of a byte stream, of ONC RPC (RFC 5531 11) and of SMB 2 (MS-SMB2 2.1).
 use crate::wire::{bytes_of, has_bytes};
-use std::alloc::Global;
-use std::test::*;
+use std::alloc::{AllocError, Global};
 use xl_base::{Kind, MOST_MESSAGE_BYTES};
 use xl_frame::*;
 
 /// Streams in pieces, and what comes of each piece: the messages with `7c` behind each, and then the fault, if any: 1 and
 /// how long the message is, 2 and how many fragments there are, 3 for an empty one, 4 and the marker.
-const STREAMS: &str = "\
+pub(crate) const STREAMS: &str = "\
 80|00000361 62|63 = 616263 7c
 00000001 61 8000|0002|6263 = 616263 7c
 00000003 616263|80000000| = 616263 7c
@@ -36,7 +35,7 @@ smb 00010001|| = 01 00010001 01 00010001 01 00010001
 |80000001 61|80000001 61 = 02 00000041 02 00000041";
 
 /// Messages and their frames.
-const FRAMES: &str = "\
+pub(crate) const FRAMES: &str = "\
 616263 = 80000003 616263
 smb 616263 = 00000003 616263
  = 80000000
@@ -64,18 +63,18 @@ fn shown(fault: FrameBad) -> (u8, u32) {
     }
 }
 
-fn put_fault(told: &mut Vec<u8>, fault: FrameBad) -> Result<(), Fail> {
+fn put_fault(told: &mut Vec<u8>, fault: FrameBad) -> Result<(), AllocError> {
     let (number, count) = shown(fault);
     told.push(number)?;
-    Ok(told.extend_from_slice(&count.to_be_bytes())?)
+    told.extend_from_slice(&count.to_be_bytes())
 }
 
-fn put_message(told: &mut Vec<u8>, message: &[u8]) -> Result<(), Fail> {
+fn put_message(told: &mut Vec<u8>, message: &[u8]) -> Result<(), AllocError> {
     told.extend_from_slice(message)?;
     Ok(told.push(0x7C)?)
 }
 
-fn put_messages(told: &mut Vec<u8>, cutter: &mut Cutter) -> Result<(), Fail> {
+fn put_messages(told: &mut Vec<u8>, cutter: &mut Cutter) -> Result<(), AllocError> {
     for _ in 0..5 {
         match cutter.next() {
             Some(message) => put_message(told, &message)?,
@@ -86,72 +85,80 @@ fn put_messages(told: &mut Vec<u8>, cutter: &mut Cutter) -> Result<(), Fail> {
 }
 
 /// Tells what comes of a piece.
-fn tell(alloc: Global, told: &mut Vec<u8>, cutter: &mut Cutter, piece: &[u8]) -> Result<(), Fail> {
+fn tell(
+    alloc: Global,
+    told: &mut Vec<u8>,
+    cutter: &mut Cutter,
+    piece: &[u8],
+) -> Result<(), AllocError> {
     match cutter.feed(alloc, piece) {
         Ok(()) => put_messages(told, cutter),
         Err(FeedErr::Bad(fault)) => {
             put_messages(told, cutter)?;
             put_fault(told, fault)
         }
-        Err(FeedErr::NoMemory) => Err("no memory")?,
+        Err(FeedErr::NoMemory) => Err(AllocError),
     }
 }
 
-fn tell_all(alloc: Global, told: &mut Vec<u8>, kind: Kind, pieces: &str) -> Result<(), Fail> {
-    let mut cutter = Cutter::new(alloc, kind);
+fn tell_piece(
+    alloc: Global,
+    told: &mut Vec<u8>,
+    cutter: &mut Cutter,
+    piece: &str,
+) -> Result<(), AllocError> {
+    tell(alloc, told, cutter, &bytes_of(alloc, piece)?)
+}
+
+fn tell_pieces(
+    alloc: Global,
+    told: &mut Vec<u8>,
+    cutter: &mut Cutter,
+    pieces: &str,
+) -> Result<(), AllocError> {
     for piece in pieces.split('|') {
-        tell(alloc, told, &mut cutter, &bytes_of(alloc, piece)?)?;
+        tell_piece(alloc, told, cutter, piece)?;
     }
     Ok(())
 }
 
-fn is_stream(alloc: Global, row: &str) -> Result<bool, Fail> {
+/// What comes of pieces.
+fn told_of(alloc: Global, kind: Kind, pieces: &str) -> Result<Vec<u8>, AllocError> {
+    let mut told = Vec::new(alloc);
+    tell_pieces(alloc, &mut told, &mut Cutter::new(alloc, kind), pieces)?;
+    Ok(told)
+}
+
+pub(crate) fn is_stream(alloc: Global, row: &str) -> Result<bool, AllocError> {
     match parts_of(row) {
-        Some((kind, pieces, wanted)) => {
-            let mut told = Vec::new(alloc);
-            tell_all(alloc, &mut told, kind, pieces)?;
-            has_bytes(alloc, wanted, &told)
-        }
+        Some((kind, pieces, wanted)) => has_bytes(alloc, wanted, &told_of(alloc, kind, pieces)?),
         None => Ok(false),
     }
-}
-
-#[test]
-fn streams(rt: HostRuntime) -> Result<(), Fail> {
-    for row in STREAMS.lines() {
-        assert!(rt; is_stream(rt.alloc(), row)?, "{row}");
-    }
-    Ok(())
 }
 
 /// The frame of a message that is not too long.
-fn wrapped(alloc: Global, kind: Kind, bytes: &[u8]) -> Result<Vec<u8>, Fail> {
+fn wrapped(alloc: Global, kind: Kind, bytes: &[u8]) -> Result<Vec<u8>, AllocError> {
     if bytes.len() > MOST_MESSAGE_BYTES {
-        return Err("a message that is too long")?;
+        return Err(AllocError);
     }
-    Ok(wrap(alloc, kind, bytes)?)
+    wrap(alloc, kind, bytes)
 }
 
-fn is_frame(alloc: Global, row: &str) -> Result<bool, Fail> {
+pub(crate) fn is_frame(alloc: Global, row: &str) -> Result<bool, AllocError> {
     match parts_of(row) {
         Some((kind, message, frame)) => {
-            let bytes = bytes_of(alloc, message)?;
-            has_bytes(alloc, frame, &wrapped(alloc, kind, &bytes)?)
+            has_bytes(
+                alloc,
+                frame,
+                &wrapped(alloc, kind, &bytes_of(alloc, message)?)?,
+            )
         }
         None => Ok(false),
     }
 }
 
-#[test]
-fn frames(rt: HostRuntime) -> Result<(), Fail> {
-    for row in FRAMES.lines() {
-        assert!(rt; is_frame(rt.alloc(), row)?, "{row}");
-    }
-    Ok(())
-}
-
 /// Whether the frame of the longest message has this header.
-fn is_long_frame(alloc: Global, kind: Kind, header: [u8; 4]) -> Result<bool, Fail> {
+fn is_long_frame(alloc: Global, kind: Kind, header: [u8; 4]) -> Result<bool, AllocError> {
     let mut bytes = Vec::new(alloc);
     bytes.resize(MOST_MESSAGE_BYTES, 7)?;
     let frame = wrapped(alloc, kind, &bytes)?;
@@ -159,8 +166,12 @@ fn is_long_frame(alloc: Global, kind: Kind, header: [u8; 4]) -> Result<bool, Fai
 }
 
 #[test]
-fn long_frames(rt: HostRuntime) -> Result<(), Fail> {
-    assert!(rt; is_long_frame(rt.alloc(), Kind::Rpc, [0x80, 1, 0, 0])?);
-    assert!(rt; is_long_frame(rt.alloc(), Kind::Smb, [0, 1, 0, 0])?);
-    Ok(())
+fn long_frames(rt: HostRuntime) {
+    assert!(rt;
+        matches!(
+            is_long_frame(rt.alloc(), Kind::Rpc, [0x80, 1, 0, 0]),
+            Ok(true)
+        )
+    );
+    assert!(rt; matches!(is_long_frame(rt.alloc(), Kind::Smb, [0, 1, 0, 0]), Ok(true)));
 }

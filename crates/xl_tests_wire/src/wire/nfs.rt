@@ -1,9 +1,8 @@
 //! Messages of NFS version 4.0 (RFC 7530, RFC 7531).
-use crate::wire::{WORD, bytes_of, has_bytes};
-use std::alloc::Global;
-use std::test::Fail;
+use crate::wire::{WORD, bytes_of, has_bytes, is_again, is_refused};
+use std::alloc::{AllocError, Global};
 use xl_nfs::*;
-use xl_rpc::Xdr;
+use xl_rpc::{Xdr, XdrOut};
 
 mod ops;
 mod recalls;
@@ -15,7 +14,7 @@ const VERIFIER: [u8; 8] = *b"\0\0\0\x08abcd";
 
 /// Whether a state is number 7 of epoch 2, the first of its kind: the words 1, 2, 0, 7.
 fn is_state(stateid: &Stateid) -> bool {
-    (stateid.seqid, stateid.other) == (1, *b"\0\0\0\x02\0\0\0\0\0\0\0\x07")
+    stateid.seqid == 1 && stateid.other.as_slice() == b"\0\0\0\x02\0\0\0\0\0\0\0\x07".as_slice()
 }
 
 /// Whether an owner is that of this name, of client 1 of epoch 2: the words 2, 1.
@@ -24,12 +23,12 @@ fn is_owner(owner: &Owner, name: &[u8]) -> bool {
 }
 
 fn is_confirmed(confirm: &ClientConfirm) -> bool {
-    (confirm.clientid, confirm.verifier) == (0x2_0000_0001, VERIFIER)
+    confirm.clientid == 0x2_0000_0001 && confirm.verifier.as_slice() == VERIFIER.as_slice()
 }
 
 /// Behind 00 an operation, behind 01 a result, behind 02 a reply to a recall, each behind the number of the fault that
 /// refuses it. What is read has 00, and a word behind it.
-const MESSAGES: &str = "\
+pub(crate) const MESSAGES: &str = "\
 00 01
 00 01 00000004 00000003 00000001 00000002 00000000
 # a lock of type 0 and of type 5, a reclaim of 2, a lock owner that is new in the manner of 2
@@ -158,25 +157,14 @@ const MESSAGES: &str = "\
 02 00 00002725 00000000 00000000 00000009
 02 00 0000273c 00000000 00000001 0000273c 0000273c 00000009";
 
-fn is_message(alloc: Global, row: &str) -> Result<bool, Fail> {
-    let bytes = bytes_of(alloc, row)?;
-    match bytes.as_slice() {
+pub(crate) fn is_message(out: &mut XdrOut, bytes: &[u8]) -> Result<bool, AllocError> {
+    match bytes {
         [] => Ok(true),
-        [0, number, op @ ..] => Ok(ops::is_op(op, *number) && ops::is_op_again(alloc, op)?),
-        [1, number, body @ ..] => {
-            Ok(results::is_result(body, *number) && results::is_result_again(alloc, body)?)
-        }
-        [_, number, body @ ..] => Ok(recalls::is_reply(body, *number)),
+        [0, number, op @ ..] => ops::is_op(out, *number, op),
+        [1, number, body @ ..] => results::is_result(out, *number, body),
+        [2, number, body @ ..] => Ok(recalls::is_reply(body, *number)),
         _ => Ok(false),
     }
-}
-
-#[test]
-fn messages(rt: HostRuntime) -> Result<(), Fail> {
-    for row in MESSAGES.lines() {
-        assert!(rt; is_message(rt.alloc(), row)?, "{row}");
-    }
-    Ok(())
 }
 
 /// Tag empty, minor version 0, three operations: PUTROOTFH, LOOKUP of `x`, GETFH.
@@ -185,7 +173,7 @@ const COMPOUND: &str = "\
 
 fn is_head(args: &mut Xdr) -> bool {
     match read_head(args) {
-        Ok(head) => (head.tag.len(), head.minorversion, head.count) == (0, 0, 3),
+        Ok(head) => head.tag.is_empty() && head.minorversion == 0 && head.count == 3,
         Err(_) => false,
     }
 }
@@ -204,14 +192,8 @@ fn is_compound(bytes: &[u8]) -> bool {
     is_head(&mut args) && has_ops(&mut args)
 }
 
-#[test]
-fn compound(rt: HostRuntime) -> Result<(), Fail> {
-    assert!(rt; is_compound(&bytes_of(rt.alloc(), COMPOUND)?));
-    Ok(())
-}
-
 /// The number of the fault of a COMPOUND whose tag has a length, 0 where it has none.
-fn fault_of_tag(alloc: Global, length: u32) -> Result<u32, Fail> {
+fn fault_of_tag(alloc: Global, length: u32) -> Result<u32, AllocError> {
     let mut bytes = Vec::from_slice(alloc, &length.to_be_bytes())?;
     bytes.resize(1036, 0)?;
     match read_head(&mut Xdr::new(&bytes)) {
@@ -220,18 +202,27 @@ fn fault_of_tag(alloc: Global, length: u32) -> Result<u32, Fail> {
     }
 }
 
-#[test]
-fn long_tags(rt: HostRuntime) -> Result<(), Fail> {
-    assert!(rt; fault_of_tag(rt.alloc(), 1024)? == 0);
-    assert!(rt; fault_of_tag(rt.alloc(), 1025)? == 4);
-    Ok(())
+fn are_words(mask: &Bitmap) -> bool {
+    matches!(mask.word(0), Some(0x12))
+        && matches!(mask.word(1), Some(0x8000_0000))
+        && mask.word(2).is_none()
+        && mask.word(usize::MAX).is_none()
+}
+
+const MASK: Bitmap<'static> = Bitmap {
+    words: &[0, 0, 0, 0x12, 0x80, 0, 0, 0],
+};
+
+fn are_compounds(alloc: Global) -> Result<bool, AllocError> {
+    Ok(
+        is_compound(&bytes_of(alloc, COMPOUND)?)
+            && fault_of_tag(alloc, 1024)? == 0
+            && fault_of_tag(alloc, 1025)? == 4,
+    )
 }
 
 #[test]
-fn words_of_a_bitmap(rt: HostRuntime) {
-    let mask = Bitmap {
-        words: &[0, 0, 0, 0x12, 0x80, 0, 0, 0],
-    };
-    assert!(rt; (mask.word(0), mask.word(1)) == (Some(0x12), Some(0x8000_0000)));
-    assert!(rt; (mask.word(2), mask.word(usize::MAX)) == (None, None));
+fn compounds_and_recalls(rt: HostRuntime) {
+    assert!(rt; are_words(&MASK) && matches!(are_compounds(rt.alloc()), Ok(true)));
+    assert!(rt; matches!(recalls::is_call(rt.alloc()), Ok(true)));
 }

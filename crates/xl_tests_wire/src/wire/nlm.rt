@@ -1,13 +1,12 @@
 //! Calls and results of the Network Lock Manager (XNFS C702, chapter 14).
-use crate::wire::{WORD, bytes_of, has_bytes};
-use std::alloc::Global;
-use std::test::Fail;
+use crate::wire::{has_bytes, is_again, is_refused};
+use std::alloc::{AllocError, Global};
 use xl_nlm::*;
 use xl_rpc::{Xdr, XdrOut};
 
 /// Behind 00 arguments, behind 01 results, each behind the procedure and the number of the fault that refuses them. Those
 /// that are read have 00, and a word behind them.
-const MESSAGES: &str = "\
+pub(crate) const MESSAGES: &str = "\
 00 01 01
 00 01 04 00000401
 00 01 01 00000400
@@ -48,13 +47,15 @@ const HANDLE: &[u8] = b"XLK1\0\0\0\x01";
 
 /// Whether a lock is that of the vectors in which it has names.
 fn is_named(lock: &Lock) -> bool {
-    (lock.caller_name, lock.fh, lock.oh) == (b"a".as_slice(), HANDLE, b"".as_slice())
+    [lock.caller_name, lock.fh, lock.oh] == [b"a".as_slice(), HANDLE, &[]]
         && (lock.svid, lock.l_offset, lock.l_len) == (7, 0, 10)
 }
 
 /// Whether a lock is that of the vectors in which it has no names.
 fn is_nameless(lock: &Lock) -> bool {
-    (lock.caller_name.len(), lock.fh.len(), lock.oh.len()) == (0, 0, 0)
+    lock.caller_name.is_empty()
+        && lock.fh.is_empty()
+        && lock.oh.is_empty()
         && (lock.svid, lock.l_offset, lock.l_len) == (-1, 1, 0)
 }
 
@@ -77,13 +78,7 @@ fn is_unlock(args: &UnlockArgs) -> bool {
 }
 
 fn is_share(args: &ShareArgs) -> bool {
-    (args.cookie, args.caller_name, args.fh, args.oh)
-        == (
-            b"".as_slice(),
-            b"".as_slice(),
-            b"".as_slice(),
-            b"o".as_slice(),
-        )
+    [args.cookie, args.caller_name, args.fh, args.oh] == [&[], &[], &[], b"o".as_slice()]
         && (args.mode.read, args.mode.write, args.reclaim) == (true, false, true)
         && (args.access.read, args.access.write) == (false, true)
 }
@@ -135,84 +130,51 @@ fn meaning_of_result(reply: &NlmReply) -> (u32, bool) {
     }
 }
 
-/// Whether arguments are read as what they mean, or refused for this fault and left.
-fn is_call(proc: u32, number: u8, bytes: &[u8]) -> bool {
+/// Whether arguments are read as what they mean and written as they are, or refused for this fault and left.
+fn is_call(out: &mut XdrOut, proc: u32, number: u8, bytes: &[u8]) -> Result<bool, AllocError> {
     if !is_known(proc) {
-        return false;
+        return Ok(false);
     }
     let mut args = Xdr::new(bytes);
     match read(proc, &mut args) {
-        Ok(call) => number == 0 && meaning_of(&call) == (proc, true) && args.left() == WORD,
-        Err(fault) => fault.number() == u32::from(number) && args.left() == bytes,
+        Ok(call) => {
+            write(out, &call)?;
+            Ok(
+                number == 0
+                    && meaning_of(&call) == (proc, true)
+                    && is_again(args.left(), out, bytes),
+            )
+        }
+        Err(fault) => Ok(is_refused(fault, number, &args, bytes)),
     }
 }
 
-/// Whether arguments that are read are written as they are.
-fn is_call_again(alloc: Global, proc: u32, bytes: &[u8]) -> Result<bool, Fail> {
+/// Whether results are read as what they mean and written as they are, or refused for this fault and left.
+fn is_result(out: &mut XdrOut, proc: u32, number: u8, bytes: &[u8]) -> Result<bool, AllocError> {
     if !is_known(proc) {
         return Ok(false);
-    }
-    match read(proc, &mut Xdr::new(bytes)) {
-        Ok(call) => {
-            let mut out = XdrOut::new(alloc);
-            write(&mut out, &call)?;
-            Ok(bytes.strip_suffix(WORD) == Some(out.as_slice()))
-        }
-        Err(_) => Ok(true),
-    }
-}
-
-/// Whether results are read as what they mean, or refused for this fault and left.
-fn is_result(proc: u32, number: u8, bytes: &[u8]) -> bool {
-    if !is_known(proc) {
-        return false;
     }
     let mut body = Xdr::new(bytes);
     match read_result(proc, &mut body) {
-        Ok(reply) => number == 0
-            && meaning_of_result(&reply) == (proc, true)
-            && body.left() == WORD,
-        Err(fault) => fault.number() == u32::from(number) && body.left() == bytes,
-    }
-}
-
-/// Whether results that are read are written as they are.
-fn is_result_again(alloc: Global, proc: u32, bytes: &[u8]) -> Result<bool, Fail> {
-    if !is_known(proc) {
-        return Ok(false);
-    }
-    match read_result(proc, &mut Xdr::new(bytes)) {
         Ok(reply) => {
-            let mut out = XdrOut::new(alloc);
-            write_result(&mut out, &reply)?;
-            Ok(bytes.strip_suffix(WORD) == Some(out.as_slice()))
+            write_result(out, &reply)?;
+            Ok(
+                number == 0
+                    && meaning_of_result(&reply) == (proc, true)
+                    && is_again(body.left(), out, bytes),
+            )
         }
-        Err(_) => Ok(true),
+        Err(fault) => Ok(is_refused(fault, number, &body, bytes)),
     }
 }
 
-fn is_message(alloc: Global, row: &str) -> Result<bool, Fail> {
-    let bytes = bytes_of(alloc, row)?;
-    match bytes.as_slice() {
+pub(crate) fn is_message(out: &mut XdrOut, bytes: &[u8]) -> Result<bool, AllocError> {
+    match bytes {
         [] => Ok(true),
-        [0, proc, number, args @ ..] => {
-            let proc = u32::from(*proc);
-            Ok(is_call(proc, *number, args) && is_call_again(alloc, proc, args)?)
-        }
-        [_, proc, number, body @ ..] => {
-            let proc = u32::from(*proc);
-            Ok(is_result(proc, *number, body) && is_result_again(alloc, proc, body)?)
-        }
+        [0, proc, number, args @ ..] => is_call(out, u32::from(*proc), *number, args),
+        [1, proc, number, body @ ..] => is_result(out, u32::from(*proc), *number, body),
         _ => Ok(false),
     }
-}
-
-#[test]
-fn messages(rt: HostRuntime) -> Result<(), Fail> {
-    for row in MESSAGES.lines() {
-        assert!(rt; is_message(rt.alloc(), row)?, "{row}");
-    }
-    Ok(())
 }
 
 /// Call 2, of RPC version 2, of NLM version 4 and GRANTED, without a credential and a verifier, and with cookie 2.
@@ -229,10 +191,12 @@ const WAITING: Lock<'static> = Lock {
     l_len: 10,
 };
 
-#[test]
 #[tactic(auto, unfolding(xl_nlm::specs::Arguments::lock))]
-fn granted(rt: HostRuntime) -> Result<(), Fail> {
-    let bytes = granted_call(rt.alloc(), 2, true, &WAITING)?;
-    assert!(rt; has_bytes(rt.alloc(), GRANTED, &bytes)?);
-    Ok(())
+fn is_granted(alloc: Global) -> Result<bool, AllocError> {
+    has_bytes(alloc, GRANTED, &granted_call(alloc, 2, true, &WAITING)?)
+}
+
+#[test]
+fn granted(rt: HostRuntime) {
+    assert!(rt; matches!(is_granted(rt.alloc()), Ok(true)));
 }

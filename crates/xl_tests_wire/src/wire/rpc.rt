@@ -1,12 +1,12 @@
 //! Calls and replies of ONC RPC (RFC 5531), and the items of XDR (RFC 4506).
 use crate::wire::{WORD, bytes_of, has_bytes};
-use std::alloc::Global;
+use std::alloc::{AllocError, Global};
 use std::test::*;
 use xl_rpc::*;
 
 /// Behind 00 a call, behind 01 a reply, each behind the number of the fault that refuses it. A call that is read has 00,
 /// and a word behind it; a reply that is read has 10 and the number of its verdict.
-const MESSAGES: &str = "\
+pub(crate) const MESSAGES: &str = "\
 00 06 00000007 00000001
 00 05 00000007 00000000 00000003
 00 05 00000007 00000000 00000001 00000009
@@ -64,25 +64,18 @@ fn is_verdict(verdict: Verdict, number: u8) -> bool {
     }
 }
 
-/// Whether the bytes are read as a reply of this verdict, or refused for this fault.
-fn is_reply(bytes: &[u8], number: u8) -> bool {
+/// Whether the bytes are read as a reply of this verdict, which is written as they are, or refused for this fault.
+fn is_reply(out: &mut XdrOut, number: u8, bytes: &[u8]) -> Result<bool, AllocError> {
     match read_reply(bytes) {
         Ok(reply) => {
-            is_verdict(reply.verdict, number) && (reply.xid, reply.body.left().len()) == (7, 0)
+            write_reply(out, reply.xid, reply.verdict)?;
+            Ok(
+                is_verdict(reply.verdict, number)
+                    && (reply.xid, reply.body.left().len()) == (7, 0)
+                    && out.as_slice() == bytes,
+            )
         }
-        Err(fault) => fault.number() == u32::from(number),
-    }
-}
-
-/// Whether a reply that is read is written as the bytes.
-fn is_reply_again(alloc: Global, bytes: &[u8]) -> Result<bool, Fail> {
-    match read_reply(bytes) {
-        Ok(reply) => {
-            let mut out = XdrOut::new(alloc);
-            write_reply(&mut out, reply.xid, reply.verdict)?;
-            Ok(out.as_slice() == bytes)
-        }
-        Err(_) => Ok(true),
+        Err(fault) => Ok(fault.number() == u32::from(number)),
     }
 }
 
@@ -99,87 +92,81 @@ fn is_head(head: &CallHead) -> bool {
     is_known && (head.xid, head.prog, head.vers, head.proc) == (7, 100_021, 4, 2)
 }
 
-/// Whether the bytes are read as a call with a word behind it, or refused for this fault.
-fn is_call(bytes: &[u8], number: u8) -> bool {
-    match read_call(bytes) {
-        Ok(call) => number == 0 && is_head(&call.head) && call.args.left() == WORD,
-        Err(fault) => {
-            fault.number() == u32::from(number)
-                && !matches!(fault, RpcBad::Version(xid) if xid != 7)
-        }
-    }
+fn is_fault(fault: RpcBad, number: u8) -> bool {
+    fault.number() == u32::from(number) && !matches!(fault, RpcBad::Version(xid) if xid != 7)
 }
 
-/// Whether a call that is read is written as the bytes, and every beginning of it is cut.
-fn is_call_again(alloc: Global, bytes: &[u8]) -> Result<bool, Fail> {
-    match (read_call(bytes), bytes.strip_suffix(WORD)) {
-        (Ok(call), Some(head)) => {
-            let mut out = XdrOut::new(alloc);
-            write_call(&mut out, &call.head)?;
-            Ok(out.as_slice() == head && is_cut(head))
-        }
-        _ => Ok(true),
-    }
-}
-
+/// Whether each beginning of a call's head is cut.
 fn is_cut(head: &[u8]) -> bool {
-    head.iter()
-        .enumerate()
-        .all(|(n, _)| is_call(head.split_at(n).0, 1))
+    for (n, _) in head.iter().enumerate() {
+        if !matches!(read_call(head.split_at(n).0), Err(fault) if is_fault(fault, 1)) {
+            return false;
+        }
+    }
+    true
 }
 
-fn is_message(alloc: Global, row: &str) -> Result<bool, Fail> {
-    let bytes = bytes_of(alloc, row)?;
-    match bytes.as_slice() {
+/// Whether the head of a call was written as it stands, before the word.
+fn is_whole(out: &XdrOut, bytes: &[u8]) -> bool {
+    match bytes.strip_suffix(WORD) {
+        Some(head) => out.as_slice() == head && is_cut(head),
+        None => false,
+    }
+}
+
+/// Whether the bytes are read as a call with a word behind it, whose head is written as it stands, or refused for this
+/// fault.
+fn is_call(out: &mut XdrOut, number: u8, bytes: &[u8]) -> Result<bool, AllocError> {
+    match read_call(bytes) {
+        Ok(call) => {
+            write_call(out, &call.head)?;
+            Ok(
+                number == 0
+                    && is_head(&call.head)
+                    && call.args.left() == WORD
+                    && is_whole(out, bytes),
+            )
+        }
+        Err(fault) => Ok(is_fault(fault, number)),
+    }
+}
+
+pub(crate) fn is_message(out: &mut XdrOut, bytes: &[u8]) -> Result<bool, AllocError> {
+    match bytes {
         [] => Ok(true),
-        [0, number, call @ ..] => Ok(is_call(call, *number) && is_call_again(alloc, call)?),
-        [_, number, reply @ ..] => Ok(is_reply(reply, *number) && is_reply_again(alloc, reply)?),
+        [0, number, call @ ..] => is_call(out, *number, call),
+        [1, number, reply @ ..] => is_reply(out, *number, reply),
         _ => Ok(false),
     }
-}
-
-#[test]
-fn messages(rt: HostRuntime) -> Result<(), Fail> {
-    for row in MESSAGES.lines() {
-        assert!(rt; is_message(rt.alloc(), row)?, "{row}");
-    }
-    Ok(())
 }
 
 /// One item of each kind.
 const ITEMS: &str = "\
 01020304 0102030405060708 fffffffe 00000001 00000005 6162636465 000000 78797a 00";
 
-fn put_numbers(out: &mut XdrOut) -> Result<(), Fail> {
+fn put_numbers(out: &mut XdrOut) -> Result<(), AllocError> {
     out.u32(0x0102_0304)?;
     out.u64(0x0102_0304_0506_0708)?;
     out.i32(-2)?;
-    Ok(out.boolean(true)?)
+    out.boolean(true)
 }
 
-fn put_texts(out: &mut XdrOut) -> Result<(), Fail> {
-    out.opaque(b"abcde")?;
-    Ok(out.fixed(b"xyz")?)
-}
-
-fn put_items(out: &mut XdrOut) -> Result<(), Fail> {
+fn put_items(out: &mut XdrOut) -> Result<(), AllocError> {
     put_numbers(out)?;
-    put_texts(out)
+    out.opaque(b"abcde")?;
+    out.fixed(b"xyz")
 }
 
 /// What was written, written once more beside it.
-fn again(out: &XdrOut) -> Result<Vec<u8>, Fail> {
+fn again(out: &XdrOut) -> Result<Vec<u8>, AllocError> {
     let mut whole = out.new_beside();
     whole.append(out)?;
     Ok(whole.done())
 }
 
-#[test]
-fn items_written(rt: HostRuntime) -> Result<(), Fail> {
-    let mut out = XdrOut::new(rt.alloc());
-    put_items(&mut out)?;
-    assert!(rt; has_bytes(rt.alloc(), ITEMS, &again(&out)?)?);
-    Ok(())
+fn are_put(alloc: Global, out: &mut XdrOut) -> Result<bool, AllocError> {
+    put_items(out)?;
+    has_bytes(alloc, ITEMS, &again(out)?)
 }
 
 fn has_numbers(xdr: &mut Xdr) -> bool {
@@ -202,9 +189,8 @@ fn has_texts(xdr: &mut Xdr) -> bool {
         && is_text(xdr.fixed(3), b"xyz")
 }
 
-fn has_items(bytes: &[u8]) -> bool {
-    let mut xdr = Xdr::new(bytes);
-    has_numbers(&mut xdr) && has_texts(&mut xdr) && xdr.left().is_empty()
+fn has_items(xdr: &mut Xdr) -> bool {
+    has_numbers(xdr) && has_texts(xdr) && xdr.left().is_empty()
 }
 
 fn is_no_bool(bytes: &[u8]) -> bool {
@@ -214,9 +200,16 @@ fn is_no_bool(bytes: &[u8]) -> bool {
     }
 }
 
+/// Whether the items are written and read as the bytes.
+fn are_items(alloc: Global) -> Result<bool, AllocError> {
+    Ok(
+        are_put(alloc, &mut XdrOut::new(alloc))?
+            && has_items(&mut Xdr::new(&bytes_of(alloc, ITEMS)?))
+            && is_no_bool(&[0, 0, 0, 2]),
+    )
+}
+
 #[test]
-fn items_read(rt: HostRuntime) -> Result<(), Fail> {
-    assert!(rt; has_items(&bytes_of(rt.alloc(), ITEMS)?));
-    assert!(rt; is_no_bool(&[0, 0, 0, 2]));
-    Ok(())
+fn items(rt: HostRuntime) {
+    assert!(rt; matches!(are_items(rt.alloc()), Ok(true)));
 }

@@ -1,7 +1,6 @@
 //! Messages of SMB 2.1, laid out by hand from MS-SMB2 2.2.
 use crate::wire::{bytes_of, has_bytes};
-use std::alloc::Global;
-use std::test::Fail;
+use std::alloc::{AllocError, Global};
 use xl_smb::*;
 
 mod meaning;
@@ -15,7 +14,7 @@ mod meaning;
 /// Behind c1: whether a header is a reply's (01), its command and its flags.
 ///
 /// Behind c2: whether the lease is found (01), how many bytes the context of another name has, and the contexts.
-const MESSAGES: &str = "\
+pub(crate) const MESSAGES: &str = "\
 # NEGOTIATE
 fe534d42 40000000 00000000 00000100 00000000 00000000 0000000000000000 00000000 00000000 0000000000000000 \
 0000000000000000 0000000000000000 2400 0100 0100 0000 00000000 11111111111111111111111111111111 0000000000000000 1002
@@ -136,7 +135,7 @@ const HEADER: [u8; 64] = [
 ];
 
 /// The header with a command and flags, and the body behind them.
-fn with_header(alloc: Global, bytes: &[u8]) -> Result<Vec<u8>, Fail> {
+fn with_header(alloc: Global, bytes: &[u8]) -> Result<Vec<u8>, AllocError> {
     let mut frame = Vec::from_slice(alloc, &HEADER)?;
     if let [command, flags, body @ ..] = bytes {
         frame[12] = *command;
@@ -147,28 +146,18 @@ fn with_header(alloc: Global, bytes: &[u8]) -> Result<Vec<u8>, Fail> {
 }
 
 /// The frame of a command, flags and a body.
-fn frame_of(alloc: Global, row: &str) -> Result<Vec<u8>, Fail> {
+fn frame_of(alloc: Global, row: &str) -> Result<Vec<u8>, AllocError> {
     with_header(alloc, &bytes_of(alloc, row)?)
 }
 
-/// Whether a frame is read as what it means.
-fn is_read(frame: &[u8]) -> bool {
+/// Whether a frame is read as what it means, and the message is written as the frame.
+fn is_message(alloc: Global, frame: &[u8]) -> Result<bool, AllocError> {
     match read(frame) {
-        Ok(message) => meaning::is_meant(&message),
-        Err(_) => false,
-    }
-}
-
-/// Whether the message that is read is written as the frame.
-fn is_written(alloc: Global, frame: &[u8]) -> Result<bool, Fail> {
-    match read(frame) {
-        Ok(message) => Ok(write(alloc, &message)?.as_slice() == frame),
+        Ok(message) => Ok(
+            meaning::is_meant(&message) && write(alloc, &message)?.as_slice() == frame,
+        ),
         Err(_) => Ok(false),
     }
-}
-
-fn is_message(alloc: Global, frame: &[u8]) -> Result<bool, Fail> {
-    Ok(is_read(frame) && is_written(alloc, frame)?)
 }
 
 fn is_fault(found: SmbBad, fault: &[u8]) -> bool {
@@ -198,7 +187,7 @@ fn leads_to(frame: &mut [u8], place: u8, byte: u8, fault: &[u8]) -> bool {
     has_fault(frame, fault)
 }
 
-fn frame_at(alloc: Global, which: u8) -> Result<Vec<u8>, Fail> {
+fn frame_at(alloc: Global, which: u8) -> Result<Vec<u8>, AllocError> {
     match FRAMES.get(usize::from(which)) {
         Some(row) => frame_of(alloc, row),
         None => Ok(Vec::new(alloc)),
@@ -229,33 +218,37 @@ fn is_header(frame: &[u8], reply: u8) -> bool {
     }
 }
 
-fn is_row(alloc: Global, row: &str) -> Result<bool, Fail> {
-    let bytes = bytes_of(alloc, row)?;
-    match bytes.as_slice() {
+/// Whether a change of one of `FRAMES` leads to a fault, or to none.
+fn is_change(alloc: Global, change: &[u8]) -> Result<bool, AllocError> {
+    match change {
+        [which, place, byte, fault @ ..] => Ok(leads_to(
+            &mut frame_at(alloc, *which)?,
+            *place,
+            *byte,
+            fault,
+        )),
+        _ => Ok(false),
+    }
+}
+
+pub(crate) fn is_row(alloc: Global, row: &[u8]) -> Result<bool, AllocError> {
+    match row {
         [] => Ok(true),
-        [0xFE, ..] => is_message(alloc, &bytes),
-        [0xC0, which, place, byte, fault @ ..] => {
-            Ok(leads_to(&mut frame_at(alloc, *which)?, *place, *byte, fault))
-        }
+        [0xFE, ..] => is_message(alloc, row),
+        [0xC0, change @ ..] => is_change(alloc, change),
         [0xC1, reply, head @ ..] => Ok(is_header(&with_header(alloc, head)?, *reply)),
         [0xC2, found, size, contexts @ ..] => Ok(are_contexts(contexts, *found, *size)),
-        _ => is_message(alloc, &with_header(alloc, &bytes)?),
+        _ => is_message(alloc, &with_header(alloc, row)?),
     }
 }
 
-#[test]
-fn messages(rt: HostRuntime) -> Result<(), Fail> {
-    for row in MESSAGES.lines() {
-        assert!(rt; is_row(rt.alloc(), row)?, "{row}");
-    }
-    Ok(())
-}
-
-#[test]
-fn cut_frames(rt: HostRuntime) -> Result<(), Fail> {
-    assert!(rt; has_fault(&[0], &[1]) && has_fault(&[0; 63], &[1]) && has_fault(&[0; 64], &[2]));
-    assert!(rt; has_fault(&frame_of(rt.alloc(), "02 00")?, &[3, 2, 0]));
-    Ok(())
+fn are_cut(alloc: Global) -> Result<bool, AllocError> {
+    Ok(
+        has_fault(&[0], &[1])
+            && has_fault(&[0; 63], &[1])
+            && has_fault(&[0; 64], &[2])
+            && has_fault(&frame_of(alloc, "02 00")?, &[3, 2, 0]),
+    )
 }
 
 /// The lease's context.
@@ -263,11 +256,8 @@ const LEASE: &str = "\
 00000000 1000 0400 0000 1800 20000000 52714c73 00000000 22222222222222222222222222222222 07000000 00000000 \
 0000000000000000";
 
-#[test]
-fn leases(rt: HostRuntime) -> Result<(), Fail> {
-    let context = lease_context(rt.alloc(), meaning::LEASE)?;
-    assert!(rt; has_bytes(rt.alloc(), LEASE, &context)?);
-    Ok(())
+fn is_lease(alloc: Global) -> Result<bool, AllocError> {
+    has_bytes(alloc, LEASE, &lease_context(alloc, meaning::LEASE)?)
 }
 
 fn offers(dialects: Dialects, dialect: u16) -> (usize, bool, bool) {
@@ -278,19 +268,24 @@ fn offers(dialects: Dialects, dialect: u16) -> (usize, bool, bool) {
     )
 }
 
-#[test]
-fn dialects(rt: HostRuntime) {
-    let offered = Dialects(&[2, 2, 0x10, 2, 0]);
-    assert!(rt; offers(offered, 0x0210) == (2, false, true));
-    assert!(rt; offers(offered, 0x0010) == (2, false, false));
-    assert!(rt; offers(Dialects(&[]), 0) == (0, true, false));
+fn are_dialects(offered: Dialects) -> bool {
+    offers(offered, 0x0210) == (2, false, true)
+        && offers(offered, 0x0010) == (2, false, false)
+        && offers(Dialects(&[]), 0) == (0, true, false)
+}
+
+fn are_numbers() -> bool {
+    SmbBad::Short.number() == 1
+        && SmbBad::Magic.number() == 2
+        && SmbBad::Size(1, 2).number() == 3
+        && SmbBad::Offset.number() == 4
+        && matches!(Command::of(18), Some(command) if command.number() == 18)
+        && Command::of(7).is_none()
 }
 
 #[test]
-fn numbers(rt: HostRuntime) {
-    let first = (SmbBad::Short.number(), SmbBad::Magic.number());
-    let last = (SmbBad::Size(1, 2).number(), SmbBad::Offset.number());
-    assert!(rt; first == (1, 2) && last == (3, 4));
-    assert!(rt; matches!(Command::of(18), Some(command) if command.number() == 18));
-    assert!(rt; Command::of(7).is_none());
+fn parts_of_messages(rt: HostRuntime) {
+    assert!(rt; are_dialects(Dialects(&[2, 2, 0x10, 2, 0])) && are_numbers());
+    assert!(rt; matches!(are_cut(rt.alloc()), Ok(true)));
+    assert!(rt; matches!(is_lease(rt.alloc()), Ok(true)));
 }

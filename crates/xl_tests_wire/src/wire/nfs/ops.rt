@@ -1,14 +1,8 @@
 //! Operations of a COMPOUND.
 use super::*;
-use xl_rpc::XdrOut;
 
 fn is_named(args: &SetClientIdArgs) -> bool {
-    (args.id, args.netid, args.address)
-        == (
-            b"c".as_slice(),
-            b"tcp".as_slice(),
-            b"192.0.2.1.0.111".as_slice(),
-        )
+    [args.id, args.netid, args.address] == [b"c".as_slice(), b"tcp", b"192.0.2.1.0.111"]
         && (args.verifier, args.program, args.callback_ident) == (VERIFIER, 0x4000_0000, 5)
 }
 
@@ -41,11 +35,8 @@ fn is_unlock(args: &UnlockArgs) -> bool {
 }
 
 fn has_attributes(attributes: &Attributes) -> bool {
-    (attributes.mask.words, attributes.values)
-        == (
-            b"\0\0\0\x12\0\0\x34\0".as_slice(),
-            [1, 2, 3, 4, 5].as_slice(),
-        )
+    [attributes.mask.words, attributes.values]
+        == [b"\0\0\0\x12\0\0\x34\0".as_slice(), &[1, 2, 3, 4, 5]]
 }
 
 fn has_none(attributes: &Attributes) -> bool {
@@ -101,23 +92,18 @@ fn meaning_of(op: &NfsOp) -> (u32, bool) {
     }
 }
 
-/// Whether an operation is read as what it means, or refused for this fault and left.
-pub(crate) fn is_op(bytes: &[u8], number: u8) -> bool {
+/// Whether an operation is read as what it means and written as it is, or refused for this fault and left.
+pub(crate) fn is_op(out: &mut XdrOut, number: u8, bytes: &[u8]) -> Result<bool, AllocError> {
     let mut args = Xdr::new(bytes);
     match next_op(&mut args) {
-        Ok(op) => number == 0 && meaning_of(&op) == (op.number(), true) && args.left() == WORD,
-        Err(fault) => fault.number() == u32::from(number) && args.left() == bytes,
-    }
-}
-
-/// Whether an operation that is read is written as it is.
-pub(crate) fn is_op_again(alloc: Global, bytes: &[u8]) -> Result<bool, Fail> {
-    match next_op(&mut Xdr::new(bytes)) {
         Ok(op) => {
-            let mut out = XdrOut::new(alloc);
-            write_op(&mut out, &op)?;
-            Ok(bytes.strip_suffix(WORD) == Some(out.as_slice()))
+            write_op(out, &op)?;
+            Ok(
+                number == 0
+                    && meaning_of(&op) == (op.number(), true)
+                    && is_again(args.left(), out, bytes),
+            )
         }
-        Err(_) => Ok(true),
+        Err(fault) => Ok(is_refused(fault, number, &args, bytes)),
     }
 }

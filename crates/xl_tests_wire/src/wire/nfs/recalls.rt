@@ -12,11 +12,12 @@ const DELEGATION: Stateid = Stateid {
     other: *b"\0\0\0\x02\0\0\0\0\0\0\0\x07",
 };
 
-#[test]
-fn call(rt: HostRuntime) -> Result<(), Fail> {
-    let bytes = recall_call(rt.alloc(), 2, 0x4000_0000, 5, &DELEGATION, 1)?;
-    assert!(rt; has_bytes(rt.alloc(), CALL, &bytes)?);
-    Ok(())
+pub(crate) fn is_call(alloc: Global) -> Result<bool, AllocError> {
+    has_bytes(
+        alloc,
+        CALL,
+        &recall_call(alloc, 2, 0x4000_0000, 5, &DELEGATION, 1)?,
+    )
 }
 
 /// The operation that was done, 0 where it is none, and the number of its status.
@@ -44,6 +45,6 @@ pub(crate) fn is_reply(bytes: &[u8], number: u8) -> bool {
     let mut body = Xdr::new(bytes);
     match read_recall_reply(&mut body) {
         Ok(reply) => number == 0 && is_meant(&reply) && body.left() == WORD,
-        Err(fault) => fault.number() == u32::from(number) && body.left() == bytes,
+        Err(fault) => is_refused(fault, number, &body, bytes),
     }
 }

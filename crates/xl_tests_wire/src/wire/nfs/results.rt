@@ -1,6 +1,5 @@
 //! Results of operations.
 use super::*;
-use xl_rpc::XdrOut;
 
 fn is_lock(locked: &Result<Stateid, LockFault>) -> bool {
     match locked {
@@ -27,12 +26,8 @@ fn is_lock_test(free: &Result<(), LockFault>) -> bool {
 }
 
 fn is_permission(permissions: &Ace) -> bool {
-    (
-        permissions.kind,
-        permissions.flag,
-        permissions.mask,
-        permissions.who.len(),
-    ) == (0, 0, 0, 0)
+    (permissions.kind, permissions.flag, permissions.mask) == (0, 0, 0)
+        && permissions.who.is_empty()
 }
 
 fn is_delegation(delegation: &Delegation) -> bool {
@@ -103,28 +98,19 @@ fn is_status(status: NfsStatus, bytes: &[u8]) -> bool {
     }
 }
 
-/// Whether a result is read as what it means, or refused for this fault and left.
-pub(crate) fn is_result(bytes: &[u8], number: u8) -> bool {
+/// Whether a result is read as what it means and written as it is, or refused for this fault and left.
+pub(crate) fn is_result(out: &mut XdrOut, number: u8, bytes: &[u8]) -> Result<bool, AllocError> {
     let mut body = Xdr::new(bytes);
     match read_result(&mut body) {
         Ok(answer) => {
-            number == 0
-                && meaning_of(&answer) == (answer.number(), true)
-                && is_status(answer.status(), bytes)
-                && body.left() == WORD
+            write_result(out, &answer)?;
+            Ok(
+                number == 0
+                    && meaning_of(&answer) == (answer.number(), true)
+                    && is_status(answer.status(), bytes)
+                    && is_again(body.left(), out, bytes),
+            )
         }
-        Err(fault) => fault.number() == u32::from(number) && body.left() == bytes,
-    }
-}
-
-/// Whether a result that is read is written as it is.
-pub(crate) fn is_result_again(alloc: Global, bytes: &[u8]) -> Result<bool, Fail> {
-    match read_result(&mut Xdr::new(bytes)) {
-        Ok(answer) => {
-            let mut out = XdrOut::new(alloc);
-            write_result(&mut out, &answer)?;
-            Ok(bytes.strip_suffix(WORD) == Some(out.as_slice()))
-        }
-        Err(_) => Ok(true),
+        Err(fault) => Ok(is_refused(fault, number, &body, bytes)),
     }
 }

@@ -11,6 +11,15 @@ pub(crate) const LEASE: Lease = Lease {
     duration: 0,
 };
 
+fn are_all(bytes: &[u8], wanted: u8) -> bool {
+    for byte in bytes {
+        if *byte != wanted {
+            return false;
+        }
+    }
+    true
+}
+
 /// Whether a header is as in the vectors, but for its command and its status.
 pub(crate) fn is_head(head: &SmbHead) -> bool {
     let numbers = (head.flags & 2, head.message_id, head.session_id);
@@ -21,12 +30,8 @@ pub(crate) fn is_head(head: &SmbHead) -> bool {
         _ => false,
     };
     is_routed
-        && (
-            head.credit_charge,
-            head.credits,
-            head.next_command,
-            head.signature,
-        ) == (0, 1, 0, [0; 16])
+        && (head.credit_charge, head.credits, head.next_command) == (0, 1, 0)
+        && are_all(&head.signature, 0)
 }
 
 fn is_file(file_id: &FileId) -> bool {
@@ -45,7 +50,7 @@ fn is_status(status: &FileStatus) -> bool {
 }
 
 fn is_lease(lease: &Lease, state: u32, flags: u32) -> bool {
-    (lease.key, lease.state, lease.flags, lease.duration) == (KEY, state, flags, 0)
+    (lease.state, lease.flags, lease.duration) == (state, flags, 0) && are_all(&lease.key, 0x22)
 }
 
 /// Whether the lease for all three is among the contexts.
@@ -57,22 +62,15 @@ pub(crate) fn has_lease(contexts: Contexts) -> bool {
 }
 
 fn is_negotiate(call: &NegotiateCall) -> bool {
-    (
-        call.security_mode,
-        call.capabilities,
-        call.client_guid,
-        call.dialects.0,
-    ) == (1, 0, [0x11; 16], [0x10, 2].as_slice())
+    (call.security_mode, call.capabilities) == (1, 0)
+        && are_all(&call.client_guid, 0x11)
+        && call.dialects.0 == [0x10, 2].as_slice()
 }
 
 fn is_agreed(reply: &NegotiateReply) -> bool {
     let sizes = (reply.max_transact, reply.max_read, reply.max_write);
-    (
-        reply.security_mode,
-        reply.dialect,
-        reply.server_guid,
-        reply.capabilities,
-    ) == (1, 0x0210, [0; 16], 2)
+    (reply.security_mode, reply.dialect, reply.capabilities) == (1, 0x0210, 2)
+        && are_all(&reply.server_guid, 0)
         && sizes == (65536, 65536, 65536)
         && (reply.system_time, reply.start_time, reply.buffer.len()) == (0, 0, 0)
 }
@@ -120,7 +118,9 @@ fn is_break(held: &Break) -> bool {
 fn is_notice(notice: &Notice) -> bool {
     match notice {
         Notice::Oplock(level, file_id) => *level == 1 && is_file(file_id),
-        Notice::Lease(told) => (told.flags, told.key, told.current, told.new) == (1, KEY, 7, 1),
+        Notice::Lease(told) => {
+            (told.flags, told.current, told.new) == (1, 7, 1) && are_all(&told.key, 0x22)
+        }
     }
 }
 
