@@ -9,7 +9,7 @@ use xl_base::{
 };
 
 /// Bytes, and the number of the file whose handle they are; a dash where they are none.
-const HANDLES: &str = "\
+pub(super) const HANDLES: &str = "\
 XLK1\0\0\0\x01 1
 XLK1\x01\x02\x03\x04 16909060
 XLK1\0\0\0\x07 7
@@ -19,24 +19,17 @@ XLK1\0\0\x07 -
 XLK1\0\0\0\x07\0 -
  -";
 
-fn are_of(bytes: &[u8], file: u32) -> bool {
-    handle_of(file).as_slice() == bytes
-}
-
-fn is_handle(row: &str) -> bool {
-    let mut words = row.split(' ');
-    let bytes = next(&mut words).as_bytes();
-    let file = next(&mut words);
+fn is_file(bytes: &[u8], file: &str) -> bool {
     match file_of(bytes) {
-        Some(found) => found as u64 == number(file) && are_of(bytes, found),
+        Some(found) => found as u64 == number(file) && handle_of(found).as_slice() == bytes,
         None => file == "-",
     }
 }
 
-#[test]
-fn handles(rt: HostRuntime) {
-    for row in HANDLES.lines() {
-        assert!(rt; is_handle(row));
+pub(super) fn is_handle(row: &str) -> bool {
+    match row.split_once(' ') {
+        Some((bytes, file)) => is_file(bytes.as_bytes(), file),
+        None => false,
     }
 }
 
@@ -105,14 +98,14 @@ fn are_three(record: &Record) -> bool {
     record.names().len() == 3 && record.epoch() == 3
 }
 
-#[test]
-fn records(rt: HostRuntime) {
-    let mut record = Record::new(rt.alloc());
+fn are_recorded(alloc: Global, record: &mut Record) -> bool {
     record.set_epoch(3);
     for row in NAMES.lines() {
-        assert!(rt; is_added(rt.alloc(), &mut record, row));
+        if !is_added(alloc, record, row) {
+            return false;
+        }
     }
-    assert!(rt; are_three(&record));
+    are_three(record)
 }
 
 /// How many bytes a read gives; 9 where it fails.
@@ -168,12 +161,6 @@ fn sources(alloc: Global) -> Result<bool, AllocError> {
 fn sinks(alloc: Global) -> Result<bool, AllocError> {
     let mut sink = MemorySink::new(alloc, Vec::from_slice(alloc, &[2])?);
     Ok(are_written(&mut sink))
-}
-
-#[test]
-fn sources_and_sinks(rt: HostRuntime) {
-    assert!(rt; matches!(sources(rt.alloc()), Ok(true)));
-    assert!(rt; matches!(sinks(rt.alloc()), Ok(true)));
 }
 
 fn is_name(name: &Recorded, text: &str) -> bool {
@@ -247,11 +234,8 @@ fn keeps(alloc: Global, record: &mut Record) -> Result<bool, AllocError> {
     Ok(keeps_copy(alloc, copy, failing, record))
 }
 
-#[test]
-fn keepers(rt: HostRuntime) {
-    let mut record = Record::new(rt.alloc());
-    assert!(rt; add(rt.alloc(), &mut record, Protocol::Nlm, "c").is_ok());
-    assert!(rt; matches!(keeps(rt.alloc(), &mut record), Ok(true)));
+fn is_keeper(alloc: Global, record: &mut Record) -> Result<bool, AllocError> {
+    Ok(add(alloc, record, Protocol::Nlm, "c").is_ok() && keeps(alloc, record)?)
 }
 
 fn pushes(list: &mut Sequence<u8>, item: u8, want: &str) -> bool {
@@ -272,9 +256,25 @@ fn grows(alloc: Global, list: &mut Sequence<u8>) -> bool {
         && !is_same(alloc, list, "a")
 }
 
+fn is_list(alloc: Global) -> bool {
+    let mut list: Sequence<u8> = Sequence::new(alloc);
+    list.is_empty() && grows(alloc, &mut list) && are(list.into_vec().as_slice(), "ab")
+}
+
 #[test]
-fn sequences(rt: HostRuntime) {
-    let mut list: Sequence<u8> = Sequence::new(rt.alloc());
-    assert!(rt; list.is_empty() && grows(rt.alloc(), &mut list));
-    assert!(rt; are(list.into_vec().as_slice(), "ab"));
+fn the_outside_in_memory(rt: HostRuntime) {
+    assert!(rt; matches!(sources(rt.alloc()), Ok(true)));
+    assert!(rt; matches!(sinks(rt.alloc()), Ok(true)));
+    assert!(rt;
+        matches!(
+            is_keeper(rt.alloc(), &mut Record::new(rt.alloc())),
+            Ok(true)
+        )
+    );
+}
+
+#[test]
+fn records_and_sequences(rt: HostRuntime) {
+    assert!(rt; are_recorded(rt.alloc(), &mut Record::new(rt.alloc())));
+    assert!(rt; is_list(rt.alloc()));
 }

@@ -23,7 +23,7 @@ fn is_same_kind(a: Option<CacheKind>, b: Option<CacheKind>) -> bool {
 }
 
 /// A kind, who has it, why it is broken, what is left, and whether its party has to answer.
-const TARGETS: &str = "\
+pub(super) const TARGETS: &str = "\
 R lease share R asked
 R lease covered R asked
 R lease range - told
@@ -55,7 +55,7 @@ write client share - asked
 write client covered - asked
 write client range - asked";
 
-fn is_target(row: &str) -> bool {
+pub(super) fn is_target(row: &str) -> bool {
     let mut words = row.split(' ');
     let broken = kind(next(&mut words));
     let holder = next(&mut words);
@@ -70,18 +70,10 @@ fn is_target(row: &str) -> bool {
         && answer_needed(broken, left) == (next(&mut words) == "asked")
 }
 
-#[test]
-fn targets(rt: HostRuntime) {
-    for row in TARGETS.lines() {
-        assert!(rt; is_target(row));
-    }
-    leaves_what_all_leave();
-}
-
 /// What is asked; what is held; the places there of the caches that are broken, with what is left; the place of the
 /// cache whose break runs already and is waited for; and the place of the one that is recalled. `open` and `lease` have
 /// leases, `other` is an open without one.
-const PLANS: &str = "\
+pub(super) const PLANS: &str = "\
 nfs share r -|other share rw -;other cache RWH|1>R|-|1
 nfs share r -|open share rw -;open cache RWH|1>RH|-|1
 nfs share r -|open share r r;open cache RWH|1>R|-|1
@@ -151,7 +143,7 @@ fn is_plan(held: &[Claim], plan: &BreakPlan, words: &mut Split<'_, char>) -> boo
         && is_at(held, recalled(plan), next(words))
 }
 
-fn plans(alloc: Global, row: &str) -> Result<bool, AllocError> {
+pub(super) fn plans(alloc: Global, row: &str) -> Result<bool, AllocError> {
     let mut words = row.split('|');
     let ask = claim_in(next(&mut words));
     let held = claims_in(alloc, next(&mut words))?;
@@ -159,15 +151,8 @@ fn plans(alloc: Global, row: &str) -> Result<bool, AllocError> {
     Ok(is_plan(&held, &plan, &mut words))
 }
 
-#[test]
-fn plans_of_breaks(rt: HostRuntime) {
-    for row in PLANS.lines() {
-        assert!(rt; matches!(plans(rt.alloc(), row), Ok(true)));
-    }
-}
-
 /// What is asked, what is held, and whether the claim that stands first there blocks, is covered, and blocks for good.
-const COVERED: &str = "\
+pub(super) const COVERED: &str = "\
 nfs share w -|open share r w;open cache RH|yes|yes|no
 nfs share w -|open share r w;lease cache RH|yes|no|yes
 nfs share w -|open share r w;open cache RW|yes|no|yes
@@ -187,7 +172,7 @@ fn is_blocker(ask: &Claim, held: &[Claim], words: &mut Split<'_, char>) -> bool 
     }
 }
 
-fn blocks(alloc: Global, row: &str) -> Result<bool, AllocError> {
+pub(super) fn blocks(alloc: Global, row: &str) -> Result<bool, AllocError> {
     let mut words = row.split('|');
     let ask = claim_in(next(&mut words));
     let held = claims_in(alloc, next(&mut words))?;
@@ -211,16 +196,8 @@ fn has_words(share: &Claim, cache: &Claim) -> bool {
         && !is_oplock_party(share.party)
 }
 
-#[test]
-fn covered_shares(rt: HostRuntime) {
-    for row in COVERED.lines() {
-        assert!(rt; matches!(blocks(rt.alloc(), row), Ok(true)));
-    }
-    assert!(rt; has_words(&claim_in("nfs share r w"), &claim_in("other cache R")));
-}
-
 /// Who wishes, the choices, what is held, and the kind that the party gets, `-` where nothing changes.
-const WISHES: &str = "\
+pub(super) const WISHES: &str = "\
 open|RWH RH R||RWH
 open|RWH RH R|open share rw -|RWH
 open|RWH RH R|client share r -|RH
@@ -262,7 +239,7 @@ fn wish(alloc: Global, who: &str, choices: &str) -> Result<Wish, AllocError> {
     })
 }
 
-fn gets(alloc: Global, row: &str) -> Result<bool, AllocError> {
+pub(super) fn gets(alloc: Global, row: &str) -> Result<bool, AllocError> {
     let mut words = row.split('|');
     let who = next(&mut words);
     let wanted = wish(alloc, who, next(&mut words))?;
@@ -280,16 +257,8 @@ fn best_of_each(alloc: Global) -> Result<bool, AllocError> {
     )
 }
 
-#[test]
-fn wishes(rt: HostRuntime) {
-    for row in WISHES.lines() {
-        assert!(rt; matches!(gets(rt.alloc(), row), Ok(true)));
-    }
-    assert!(rt; matches!(best_of_each(rt.alloc()), Ok(true)));
-}
-
 /// Two kinds, and the least that both lie within.
-const JOINS: &str = "\
+pub(super) const JOINS: &str = "\
 R R R
 R RH RH
 RW R RW
@@ -300,7 +269,7 @@ read read read
 read R -
 RW write -";
 
-fn is_join(row: &str) -> bool {
+pub(super) fn is_join(row: &str) -> bool {
     let mut words = row.split(' ');
     let a = kind(next(&mut words));
     let b = kind(next(&mut words));
@@ -309,7 +278,7 @@ fn is_join(row: &str) -> bool {
 }
 
 /// A lease state or an oplock level, the kind that it stands for, and the choices of one who asks for it.
-const LEVELS: &str = "\
+pub(super) const LEVELS: &str = "\
 lease|0|-|
 lease|1|R|R
 lease|2|-|
@@ -362,7 +331,7 @@ fn is_level(
     Ok((shown.is_none() || oplock_level(shown) == level) && are_choices(choices.as_slice(), row))
 }
 
-fn is_numbered(alloc: Global, row: &str) -> Result<bool, AllocError> {
+pub(super) fn is_numbered(alloc: Global, row: &str) -> Result<bool, AllocError> {
     let mut words = row.split('|');
     let is_lease = next(&mut words) == "lease";
     let value = next(&mut words);
@@ -375,15 +344,15 @@ fn is_numbered(alloc: Global, row: &str) -> Result<bool, AllocError> {
     }
 }
 
+fn are_levels() -> bool {
+    lease_state(Some(CacheKind::ReadDeleg)) == 0 && oplock_level(None) == 0
+}
+
 #[test]
-fn joins_and_levels(rt: HostRuntime) {
-    for row in JOINS.lines() {
-        assert!(rt; is_join(row));
-    }
-    for row in LEVELS.lines() {
-        assert!(rt; matches!(is_numbered(rt.alloc(), row), Ok(true)));
-    }
-    assert!(rt; lease_state(Some(CacheKind::ReadDeleg)) == 0 && oplock_level(None) == 0);
+fn caches(rt: HostRuntime) {
+    assert!(rt; are_levels() && has_words(&claim_in("nfs share r w"), &claim_in("other cache R")));
+    assert!(rt; matches!(best_of_each(rt.alloc()), Ok(true)));
+    leaves_what_all_leave();
     lease_kinds_have_states();
     kinds_go_by_party();
 }

@@ -2,6 +2,7 @@
 
 use super::{next, number};
 use std::alloc::{AllocError, Global};
+use std::str::Split;
 use xl_exact::{Element, Exact};
 
 /// What is done, one row after the other, and what is answered: `lock` asks for a range of the open itself and locks it
@@ -97,36 +98,43 @@ fn undo(exact: &mut Exact, k: usize) -> bool {
     true
 }
 
-/// What one row's act answers, and the word that it is to be.
-fn act<'a>(exact: &mut Exact, row: &'a str) -> (bool, &'a str) {
+fn is_element_held(exact: &Exact, element: &Element, words: &mut Split<'_, char>) -> bool {
+    is_held(exact, element, number(next(words)) as usize)
+}
+
+fn element(words: &mut Split<'_, char>) -> Element {
+    Element {
+        exclusive: is_exclusive(next(words)),
+        first: number(next(words)),
+        len: number(next(words)),
+    }
+}
+
+/// What the act answers, with what a row tells of it.
+fn is_done(exact: &mut Exact, act: &str, words: &mut Split<'_, char>) -> bool {
+    match act {
+        "undo" => undo(exact, number(next(words)) as usize),
+        "unlock" => exact.unlock(number(next(words)), number(next(words))),
+        _ => is_asked(exact, act, &element(words), words),
+    }
+}
+
+/// What an act on this range answers.
+fn is_asked(exact: &mut Exact, act: &str, of: &Element, words: &mut Split<'_, char>) -> bool {
+    match act {
+        "lock" => matches!(lock(exact, of.first, of.len, of.exclusive), Ok(true)),
+        "other" => exact
+            .first_conflict(of.first, of.len, of.exclusive)
+            .is_none(),
+        _ => is_element_held(exact, of, words),
+    }
+}
+
+/// Whether one row's act answers as the row says; of `held` a row says no more.
+fn is_act(exact: &mut Exact, row: &str) -> bool {
     let mut words = row.split(' ');
     let act = next(&mut words);
-    let mode = if act == "unlock" || act == "undo" {
-        ""
-    } else {
-        next(&mut words)
-    };
-    let first = number(next(&mut words));
-    if act == "undo" {
-        return (undo(exact, first as usize), next(&mut words));
-    }
-    let len = number(next(&mut words));
-    let exclusive = is_exclusive(mode);
-    let last = next(&mut words);
-    let answer = match act {
-        "lock" => matches!(lock(exact, first, len, exclusive), Ok(true)),
-        "other" => exact.first_conflict(first, len, exclusive).is_none(),
-        "unlock" => exact.unlock(first, len),
-        _ => {
-            let element = Element {
-                first,
-                len,
-                exclusive,
-            };
-            return (is_held(exact, &element, number(last) as usize), "yes");
-        }
-    };
-    (answer, last)
+    is_done(exact, act, &mut words) == (act == "held" || next(&mut words) == "yes")
 }
 
 fn begins_anew(alloc: Global, exact: &mut Exact) -> bool {
@@ -141,15 +149,27 @@ fn passes(alloc: Global, exact: &mut Exact, row: &str) -> bool {
     if row == "new" {
         return begins_anew(alloc, exact);
     }
-    let (answer, word) = act(exact, row);
-    answer == (word == "yes")
+    is_act(exact, row)
+}
+
+/// The first row that is answered otherwise.
+fn wrong_row(alloc: Global, exact: &mut Exact) -> Option<&'static str> {
+    for row in ROWS.lines() {
+        if !passes(alloc, exact, row) {
+            return Some(row);
+        }
+    }
+    None
+}
+
+/// Whether nothing is left at the end.
+fn is_ended(exact: Exact) -> bool {
+    exact.into_vec().is_empty()
 }
 
 #[test]
 fn exact_ranges_answer_as_the_rows_say(rt: HostRuntime) {
     let mut exact = Exact::from_vec(Vec::new(rt.alloc()));
-    for row in ROWS.lines() {
-        assert!(rt; passes(rt.alloc(), &mut exact, row), "{row}");
-    }
-    assert!(rt; exact.into_vec().is_empty());
+    let wrong = wrong_row(rt.alloc(), &mut exact);
+    assert!(rt; wrong.is_none() && is_ended(exact), "{wrong:?}");
 }

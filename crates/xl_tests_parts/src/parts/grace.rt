@@ -140,11 +140,6 @@ fn goes_on(alloc: Global) -> Result<bool, AllocError> {
     are_steps(alloc, &stable)
 }
 
-#[test]
-fn steps_of_grace(rt: HostRuntime) {
-    assert!(rt; matches!(goes_on(rt.alloc()), Ok(true)));
-}
-
 /// Where grace begins, how long it is, a moment before it may end, and the moment from which on it may.
 const ENDS: [(u64, u64, u64, u64); 4] = [
     (0, 90_000, 89_999, 90_000),
@@ -169,11 +164,6 @@ fn are_ends(alloc: Global) -> Result<bool, AllocError> {
     Ok(true)
 }
 
-#[test]
-fn ends_of_grace(rt: HostRuntime) {
-    assert!(rt; matches!(are_ends(rt.alloc()), Ok(true)));
-}
-
 /// With an empty record none runs, and who asks anew enters at once.
 fn is_none(alloc: Global) -> Result<bool, AllocError> {
     let stable = record_of(alloc, "")?;
@@ -187,6 +177,8 @@ fn is_none(alloc: Global) -> Result<bool, AllocError> {
 }
 
 #[test]
-fn no_grace_for_nobody(rt: HostRuntime) {
+fn grace_runs_and_ends(rt: HostRuntime) {
+    assert!(rt; matches!(goes_on(rt.alloc()), Ok(true)));
+    assert!(rt; matches!(are_ends(rt.alloc()), Ok(true)));
     assert!(rt; matches!(is_none(rt.alloc()), Ok(true)));
 }

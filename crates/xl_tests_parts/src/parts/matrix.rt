@@ -13,7 +13,7 @@ use xl_matrix::{
 
 /// A word, two claims, and whether it holds of them: that they fit together, that the first lies within the second, or
 /// that they, their owners or their parties are the same. A claim is whose it is, its sort, and two words more.
-const PAIRS: &str = "\
+pub(super) const PAIRS: &str = "\
 fit open share rw w nfs share w - no
 fit open share rw w nfs share r - yes
 fit open share r - nfs share d r no
@@ -170,12 +170,12 @@ fn claim(who: &str, what: What) -> Claim {
     }
 }
 
+fn next_what(words: &mut Split<'_, char>) -> What {
+    what(next(words), next(words), next(words))
+}
+
 fn next_claim(words: &mut Split<'_, char>) -> Claim {
-    let who = next(words);
-    let sort = next(words);
-    let one = next(words);
-    let two = next(words);
-    claim(who, what(sort, one, two))
+    claim(next(words), next_what(words))
 }
 
 /// The claim that a row describes: whose it is, its sort, and two words more.
@@ -194,21 +194,20 @@ fn holds(word: &str, a: &Claim, b: &Claim) -> bool {
     }
 }
 
-/// Whether the row's word holds of its claims exactly where it says so; most hold both ways round.
-fn is_right(row: &str) -> bool {
-    let mut words = row.split(' ');
-    let word = next(&mut words);
-    let a = next_claim(&mut words);
-    let b = next_claim(&mut words);
-    let want = next(&mut words) == "yes";
-    holds(word, &a, &b) == want && (word == "within" || holds(word, &b, &a) == want)
+fn is_held(word: &str, a: &Claim, b: &Claim, want: bool) -> bool {
+    holds(word, a, b) == want && (word == "within" || holds(word, b, a) == want)
 }
 
-#[test]
-fn pairs(rt: HostRuntime) {
-    for row in PAIRS.lines() {
-        assert!(rt; is_right(row));
-    }
+/// Whether the row's word holds of its claims exactly where it says so; most hold both ways round.
+pub(super) fn is_pair(row: &str) -> bool {
+    let mut words = row.split(' ');
+    let word = next(&mut words);
+    is_held(
+        word,
+        &next_claim(&mut words),
+        &next_claim(&mut words),
+        next(&mut words) == "yes",
+    )
 }
 
 const NLM: Owner = Owner::Name(Protocol::Nlm, 1);

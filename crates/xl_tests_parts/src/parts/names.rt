@@ -37,7 +37,7 @@ fn named(alloc: Global, kind: u64, one: &str, svid: i32, two: &str) -> Name {
 }
 
 /// A name's kind, its bytes, its svid, more bytes, and its text.
-const TEXTS: &str = "\
+pub(super) const TEXTS: &str = "\
 0 61 7 - nlm:61/7/-
 0 5a39 -2147483648 00ff nlm:5a39/-2147483648/00ff
 1 61 0 - nlm:61/-
@@ -63,7 +63,7 @@ fn is_text(text: Result<String, AllocError>, want: &str) -> bool {
     }
 }
 
-fn is_right(alloc: Global, row: &str) -> bool {
+pub(super) fn is_right(alloc: Global, row: &str) -> bool {
     let mut words = row.split(' ');
     let name = name_in(alloc, &mut words);
     is_text(text_of(alloc, &name), next(&mut words))
@@ -75,14 +75,6 @@ fn puts(alloc: Global, text: &mut String, bytes: &[u8]) -> bool {
 
 fn has_words(alloc: Global, text: &mut String) -> bool {
     puts(alloc, text, &[0, 0xab, 0x10]) && puts(alloc, text, &[]) && text.as_str() == "00ab10-"
-}
-
-#[test]
-fn names_have_texts(rt: HostRuntime) {
-    for row in TEXTS.lines() {
-        assert!(rt; is_right(rt.alloc(), row));
-    }
-    assert!(rt; has_words(rt.alloc(), &mut String::new(rt.alloc())));
 }
 
 fn enters(names: &mut Names, name: &Name) -> bool {
@@ -109,11 +101,8 @@ fn is_client(alloc: Global, names: &mut Names, client: &Name) -> bool {
         && is_party(alloc, names, Party::Open(3), "smb:3")
 }
 
-#[test]
-fn owners_have_texts(rt: HostRuntime) {
-    let mut names = Names::new(rt.alloc());
-    let client = named(rt.alloc(), 5, "63", 0, "-");
-    assert!(rt; names.is_empty() && is_client(rt.alloc(), &mut names, &client));
+fn are_owners(alloc: Global, names: &mut Names) -> bool {
+    names.is_empty() && is_client(alloc, names, &named(alloc, 5, "63", 0, "-"))
 }
 
 /// One of 84 names, with few parts.
@@ -153,19 +142,31 @@ fn are_same(names: &Names, list: &[Name]) -> bool {
 }
 
 /// 300 names come, most of them again and again, to the kept names and to the plain list.
-#[test]
-fn numbers_agree_with_plain_programs(rt: HostRuntime) {
-    let mut names = Names::new(rt.alloc());
-    let mut list: Vec<Name> = Vec::new(rt.alloc());
+fn all_agree(alloc: Global, names: &mut Names, list: &mut Vec<Name>) -> bool {
     let mut draw: u64 = 1;
     for _ in 0..300 {
         draw = draw.wrapping_mul(1103515245).wrapping_add(12345) % 2147483648;
-        assert!(rt; agree(rt.alloc(), &mut names, &mut list, draw / 65536));
+        if !agree(alloc, names, list, draw / 65536) {
+            return false;
+        }
     }
-    assert!(rt; are_same(&names, &list));
+    are_same(names, list)
 }
 
 #[test]
-fn laws_of_texts() {
+fn names_agree_with_plain_programs(rt: HostRuntime) {
+    assert!(rt;
+        all_agree(
+            rt.alloc(),
+            &mut Names::new(rt.alloc()),
+            &mut Vec::new(rt.alloc())
+        )
+    );
     laws::equal_texts_are_of_equal_names();
+}
+
+#[test]
+fn owners_have_texts(rt: HostRuntime) {
+    assert!(rt; has_words(rt.alloc(), &mut String::new(rt.alloc())));
+    assert!(rt; are_owners(rt.alloc(), &mut Names::new(rt.alloc())));
 }

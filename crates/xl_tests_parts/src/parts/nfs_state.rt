@@ -5,6 +5,7 @@ ghost use Rattle.xl_nfs_state.specs.declared.stateid.Holder.TheVariants.{Lock};
 
 use super::next;
 use std::alloc::{AllocError, Global};
+use std::str::Split;
 use xl_base::{Moment, Sequence};
 use xl_nfs_state::{
     Callback, ClientDetails, ClientRow, Holder, KeptRow, MOST_CLIENTS, MOST_OPENS, NfsState,
@@ -13,7 +14,7 @@ use xl_nfs_state::{
 };
 
 /// The operation and seqid of the last request (a dash for a new owner), those of the request, and the verdict.
-const SEQIDS: &str = "\
+pub(super) const SEQIDS: &str = "\
 - - 18 0 new
 - - 18 4294967295 new
 18 0 18 1 next
@@ -59,20 +60,17 @@ fn is_verdict(found: SeqidVerdict, word: &str) -> bool {
     }
 }
 
-fn is_judged(row: &str) -> bool {
-    let mut words = row.split(' ');
-    let op = next(&mut words);
-    let last = seqids(op, next(&mut words));
-    let op = small(next(&mut words));
-    let seqid = small(next(&mut words));
-    is_verdict(verdict(last, op, seqid), next(&mut words))
+fn next_seqids(words: &mut Split<'_, char>) -> Option<SeqidState> {
+    seqids(next(words), next(words))
 }
 
-#[test]
-fn seqids_are_judged(rt: HostRuntime) {
-    for row in SEQIDS.lines() {
-        assert!(rt; is_judged(row), "{row}");
-    }
+fn next_verdict(words: &mut Split<'_, char>) -> SeqidVerdict {
+    verdict(next_seqids(words), small(next(words)), small(next(words)))
+}
+
+pub(super) fn is_judged(row: &str) -> bool {
+    let mut words = row.split(' ');
+    is_verdict(next_verdict(&mut words), next(&mut words))
 }
 
 /// What is done to a state, or looked for in it. A number of 0 that is looked for stands for none; owners and stateids are those

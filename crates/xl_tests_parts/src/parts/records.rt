@@ -7,43 +7,53 @@ use xl_base::{
     record_length,
 };
 
-/// The bytes of a file, and what is read of it: the epoch with the names, or the fault.
-const FILES: &str = "\
-584c52310000000000000000 0
-584c5231ffffffff00000000 4294967295
-584c5231000000020000000101000163 2 nfs:63
-584c523100000002000000020100016302000163 2 nfs:63 nlm:63
-584c5231000000020000000302000001000002000200ff 2 nlm: nfs: nlm:00ff
-- no mark of a record file
-584c52 no mark of a record file
-584c523200000000 no mark of a record file
-594c52310000000000000000 no mark of a record file
-584c5231 the record file is cut
-584c5231000000 the record file is cut
-584c523100000002000000 the record file is cut
-584c52310000000200000001 the record file is cut
-584c5231000000020000000101 the record file is cut
-584c523100000002000000010100 the record file is cut
-584c52310000000200000001010001 the record file is cut
-584c5231000000020000000101000263 the record file is cut
-584c5231000000020000000201000163 the record file is cut
-584c523100000002ffffffff01000163 the record file is cut
-584c5231000000020000000100 a name of the kind 0
-584c5231000000020000000103000163 a name of the kind 3
-584c52310000000200000002010001630301 a name of the kind 3
-584c523100000002000000010100016303 bytes stand behind the last name
-584c523100000002000000020100016301000163 a name stands twice
-584c52310000000200000003010001630100016304 a name stands twice
-584c52310000000200000002020000020000ff a name stands twice
-5a4c5231000000020000000201000163 no mark of a record file
-584c5231000000000000000000 bytes stand behind the last name
-584c5231000000020000000101000163010001 bytes stand behind the last name";
+/// How a file begins, how many bytes it has at least, with zeros behind, and what is read of it: the epoch with the names,
+/// `whole` for a record that is not told, or the fault.
+pub(super) const FILES: &str = "\
+584c52310000000000000000 0 0
+584c5231ffffffff00000000 0 4294967295
+584c5231000000020000000101000163 0 2 nfs:63
+584c523100000002000000020100016302000163 0 2 nfs:63 nlm:63
+584c5231000000020000000302000001000002000200ff 0 2 nlm: nfs: nlm:00ff
+- 0 no mark of a record file
+584c52 0 no mark of a record file
+584c523200000000 0 no mark of a record file
+594c52310000000000000000 0 no mark of a record file
+584c5231 0 the record file is cut
+584c5231000000 0 the record file is cut
+584c523100000002000000 0 the record file is cut
+584c52310000000200000001 0 the record file is cut
+584c5231000000020000000101 0 the record file is cut
+584c523100000002000000010100 0 the record file is cut
+584c52310000000200000001010001 0 the record file is cut
+584c5231000000020000000101000263 0 the record file is cut
+584c5231000000020000000201000163 0 the record file is cut
+584c523100000002ffffffff01000163 0 the record file is cut
+584c5231000000020000000100 0 a name of the kind 0
+584c5231000000020000000103000163 0 a name of the kind 3
+584c52310000000200000002010001630301 0 a name of the kind 3
+584c523100000002000000010100016303 0 bytes stand behind the last name
+584c523100000002000000020100016301000163 0 a name stands twice
+584c52310000000200000003010001630100016304 0 a name stands twice
+584c52310000000200000002020000020000ff 0 a name stands twice
+5a4c5231000000020000000201000163 0 no mark of a record file
+584c5231000000000000000000 0 bytes stand behind the last name
+584c5231000000020000000101000163010001 0 bytes stand behind the last name
+584c5231000000020000000101fff1 65536 whole
+584c5231000000020000000101fff1 65535 the record file is cut
+584c5231000000020000000101fff0 65536 bytes stand behind the last name
+584c5231000000020000000101fff2 65536 the record file is cut
+584c5231000000020000000101fff2 65537 a record file of 65537 bytes
+584c523200000002 65536 no mark of a record file
+584c523200000002 65537 a record file of 65537 bytes";
 
-fn bytes(alloc: Global, word: &str) -> Result<Vec<u8>, AllocError> {
-    match hex::decode(alloc, word) {
-        Ok(bytes) => Ok(bytes),
-        Err(_) => Ok(Vec::new(alloc)),
+/// The bytes of a file; none where the word has no bytes.
+fn bytes(alloc: Global, word: &str, total: usize) -> Result<Vec<u8>, AllocError> {
+    let mut bytes = hex::decode(alloc, word).unwrap_or(Vec::new(alloc));
+    if bytes.len() < total {
+        bytes.resize(total, 0)?;
     }
+    Ok(bytes)
 }
 
 fn protocol(name: &Recorded) -> &'static str {
@@ -78,54 +88,18 @@ fn is_file(alloc: Global, stable: &Record, file: &[u8]) -> bool {
 /// Whether this is read of the file; what is read is written as it again.
 fn is_read(alloc: Global, file: &[u8], want: &str) -> Result<bool, AllocError> {
     match read_record(alloc, file) {
-        Ok(stable) => Ok(is_file(alloc, &stable, file) && shown(alloc, &stable)?.as_str() == want),
+        Ok(stable) => Ok(
+            is_file(alloc, &stable, file)
+                && (want == "whole" || shown(alloc, &stable)?.as_str() == want),
+        ),
         Err(bad) => Ok(format!(in alloc; "{bad}")?.as_str() == want),
     }
 }
 
-fn is_as_told(alloc: Global, row: &str) -> Result<bool, AllocError> {
-    let (word, want) = row.split_once(' ').unwrap_or(("", ""));
-    let file = bytes(alloc, word)?;
-    is_read(alloc, &file, want)
-}
-
-#[test]
-fn record_files(rt: HostRuntime) {
-    for row in FILES.lines() {
-        assert!(rt; matches!(is_as_told(rt.alloc(), row), Ok(true)));
-    }
-}
-
-/// How a file begins, how many bytes it has with zeros behind, and what is read of it.
-const LARGE_FILES: &str = "\
-584c5231000000020000000101fff1 65536 whole
-584c5231000000020000000101fff1 65535 the record file is cut
-584c5231000000020000000101fff0 65536 bytes stand behind the last name
-584c5231000000020000000101fff2 65536 the record file is cut
-584c5231000000020000000101fff2 65537 a record file of 65537 bytes
-584c523200000002 65536 no mark of a record file
-584c523200000002 65537 a record file of 65537 bytes";
-
-fn is_whole_or(alloc: Global, file: &[u8], want: &str) -> Result<bool, AllocError> {
-    match read_record(alloc, file) {
-        Ok(stable) => Ok(want == "whole" && is_file(alloc, &stable, file)),
-        Err(bad) => Ok(format!(in alloc; "{bad}")?.as_str() == want),
-    }
-}
-
-fn is_large_as_told(alloc: Global, row: &str) -> Result<bool, AllocError> {
+pub(super) fn is_as_told(alloc: Global, row: &str) -> Result<bool, AllocError> {
     let (word, rest) = row.split_once(' ').unwrap_or(("", ""));
     let (total, want) = rest.split_once(' ').unwrap_or(("", ""));
-    let mut file = bytes(alloc, word)?;
-    file.resize(number(total) as usize, 0)?;
-    is_whole_or(alloc, &file, want)
-}
-
-#[test]
-fn large_record_files(rt: HostRuntime) {
-    for row in LARGE_FILES.lines() {
-        assert!(rt; matches!(is_large_as_told(rt.alloc(), row), Ok(true)));
-    }
+    is_read(alloc, &bytes(alloc, word, number(total) as usize)?, want)
 }
 
 /// A record with one name of so many bytes.
@@ -151,10 +125,14 @@ fn length_with_one(alloc: Global, count: usize) -> u64 {
 }
 
 /// A record is as long as its file would be, also if it is too long for one.
+fn are_lengths(alloc: Global) -> bool {
+    record_length(&Record::new(alloc)) == 12
+        && length_with_one(alloc, 65_521) == MOST_RECORD_BYTES as u64
+        && length_with_one(alloc, 65_522) == 65_537
+        && length_with_one(alloc, 70_000) == 70_015
+}
+
 #[test]
 fn record_lengths(rt: HostRuntime) {
-    assert!(rt; record_length(&Record::new(rt.alloc())) == 12);
-    assert!(rt; length_with_one(rt.alloc(), 65_521) == MOST_RECORD_BYTES as u64);
-    assert!(rt; length_with_one(rt.alloc(), 65_522) == 65_537);
-    assert!(rt; length_with_one(rt.alloc(), 70_000) == 70_015);
+    assert!(rt; are_lengths(rt.alloc()));
 }

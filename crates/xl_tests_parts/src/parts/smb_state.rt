@@ -122,8 +122,8 @@ fn set_up(
     number: u32,
     connection: u64,
 ) -> Result<bool, AllocError> {
-    let sessions = state.sessions_on(alloc, connection)?;
-    if state.find_session(number).is_some() || sessions.len() >= SESSIONS {
+    let count = state.sessions_on(alloc, connection)?.len();
+    if state.find_session(number).is_some() || count >= SESSIONS {
         return Ok(false);
     }
     match state.find_connection(connection) {
@@ -141,8 +141,8 @@ fn connect_tree(
     number: u32,
     row: Tree,
 ) -> Result<bool, AllocError> {
-    let trees = state.trees_on(alloc, row.connection)?;
-    if state.find_tree(number).is_some() || trees.len() >= TREES {
+    let count = state.trees_on(alloc, row.connection)?.len();
+    if state.find_tree(number).is_some() || count >= TREES {
         return Ok(false);
     }
     match state.find_session(row.session) {
@@ -246,8 +246,8 @@ fn close(state: &mut SmbState, alloc: Global, number: u32) -> bool {
 }
 
 fn disconnect_tree(state: &mut SmbState, alloc: Global, number: u32) -> Result<bool, AllocError> {
-    let opens = state.under(alloc, Scope::Tree(number))?;
-    if state.find_tree(number).is_none() || !opens.is_empty() {
+    let count = state.under(alloc, Scope::Tree(number))?.len();
+    if state.find_tree(number).is_none() || count > 0 {
         return Ok(false);
     }
     state.drop_tree(number);
@@ -255,8 +255,8 @@ fn disconnect_tree(state: &mut SmbState, alloc: Global, number: u32) -> Result<b
 }
 
 fn log_off(state: &mut SmbState, alloc: Global, number: u32) -> Result<bool, AllocError> {
-    let trees = state.trees_of(alloc, number)?;
-    if state.find_session(number).is_none() || !trees.is_empty() {
+    let count = state.trees_of(alloc, number)?.len();
+    if state.find_session(number).is_none() || count > 0 {
         return Ok(false);
     }
     state.drop_session(number);

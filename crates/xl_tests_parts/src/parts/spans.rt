@@ -2,7 +2,7 @@
 
 ghost use Rattle.std.specs.Prelude.{◌≡◌, ◌<◌};
 
-use std::alloc::AllocError;
+use std::alloc::{AllocError, Global};
 use std::marker::Brand;
 use std::sync::ledger::{Blank, Ledger};
 use xl_spans::{Mode, Span, Spans, plain};
@@ -97,21 +97,31 @@ fn reach_the_last_byte(spans: &mut Spans) -> bool {
 }
 
 /// Byte 50 is free, between two spans of one mode.
-#[test]
-fn looks_find_a_mode(rt: HostRuntime) {
-    let mut spans = Spans::new(rt.alloc());
-    assert!(rt; make_four(&mut spans) && mode_by_looks(&spans, 50).is_none());
-    assert!(rt; same_mode(mode_by_looks(&spans, 49), Some(Mode::Shared)));
-    assert!(rt; same_mode(mode_by_looks(&spans, 99), Some(Mode::Exclusive)));
-    assert!(rt; mode_by_looks(&spans, 100).is_none());
+fn are_found(spans: &Spans) -> bool {
+    mode_by_looks(spans, 50).is_none()
+        && same_mode(mode_by_looks(spans, 49), Some(Mode::Shared))
+        && same_mode(mode_by_looks(spans, 99), Some(Mode::Exclusive))
+        && mode_by_looks(spans, 100).is_none()
+}
+
+fn are_four(spans: &mut Spans) -> bool {
+    make_four(spans) && are_found(spans)
+}
+
+/// Whether these are the bytes from 7 on.
+fn is_whole(spans: Spans) -> bool {
+    same_spans(&spans.into_vec(), &WHOLE)
+}
+
+fn reaches_the_last_byte(alloc: Global) -> bool {
+    let mut spans = Spans::from_vec(Vec::new(alloc));
+    spans.spare() == 0 && reach_the_last_byte(&mut spans) && is_whole(spans)
 }
 
 #[test]
 fn locks_make_runs(rt: HostRuntime) {
-    assert!(rt; make_four(&mut Spans::new(rt.alloc())));
-    let mut spans = Spans::from_vec(Vec::new(rt.alloc()));
-    assert!(rt; spans.spare() == 0 && reach_the_last_byte(&mut spans));
-    assert!(rt; same_spans(&spans.into_vec(), &WHOLE));
+    assert!(rt; are_four(&mut Spans::new(rt.alloc())));
+    assert!(rt; reaches_the_last_byte(rt.alloc()));
 }
 
 /// Byte k of eight: the first four are those from 0 on, the others those up to 2^64 - 1.
@@ -168,18 +178,38 @@ fn asked(number: u64) -> (u64, u64, Option<Mode>) {
     (one.min(other), one.max(other), mode)
 }
 
+/// Asks both bodies for what a drawn number asks for, and tells whether they agree then.
+fn agree(alloc: Global, spans: &mut Spans, held: &mut Vec<Span>, number: u64) -> bool {
+    let (first, last, mode) = asked(number);
+    if relock(spans, first, last, mode).is_err() {
+        return false;
+    }
+    match plain::relocked(alloc, held, first, last, mode) {
+        Ok(next) => *held = next,
+        Err(_) => return false,
+    }
+    same_answers(spans, held, first, last)
+}
+
 /// 400 locks and unlocks of ranges among eight bytes, each by the fast body and by the plain program.
-#[test]
-fn bodies_agree_with_plain_programs(rt: HostRuntime) {
-    let mut spans = Spans::new(rt.alloc());
-    let mut held: Vec<Span> = Vec::new(rt.alloc());
+fn all_agree(alloc: Global, spans: &mut Spans, held: &mut Vec<Span>) -> bool {
     let mut draw: u64 = 1;
     for _ in 0..400 {
         draw = draw.wrapping_mul(1103515245).wrapping_add(12345) % 2147483648;
-        let (first, last, mode) = asked(draw / 65536);
-        assert!(rt; relock(&mut spans, first, last, mode).is_ok());
-        let next = plain::relocked(rt.alloc(), &held, first, last, mode);
-        held = next.expect(&rt, "the spans");
-        assert!(rt; same_answers(&spans, &held, first, last));
+        if !agree(alloc, spans, held, draw / 65536) {
+            return false;
+        }
     }
+    true
+}
+
+#[test]
+fn bodies_agree_with_plain_programs(rt: HostRuntime) {
+    assert!(rt;
+        all_agree(
+            rt.alloc(),
+            &mut Spans::new(rt.alloc()),
+            &mut Vec::new(rt.alloc())
+        )
+    );
 }

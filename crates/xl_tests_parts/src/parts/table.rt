@@ -285,12 +285,13 @@ fn block_asks(alloc: Global, table: &Table) -> bool {
         && !table.is_blocked(&claim_in("lease read 40 41"))
 }
 
-#[test]
-fn claims_stand_in_order_and_block_asks(rt: HostRuntime) {
-    let mut table = Table::new(rt.alloc());
-    assert!(rt; table.is_empty() && fills(rt.alloc(), &mut table));
-    assert!(rt; are_in_order(rt.alloc(), &table) && block_asks(rt.alloc(), &table));
-    assert!(rt; are_sections(rt.alloc(), &table) && are_spans(rt.alloc(), &table));
+fn stand_in_order_and_block_asks(alloc: Global, table: &mut Table) -> bool {
+    table.is_empty()
+        && fills(alloc, table)
+        && are_in_order(alloc, table)
+        && block_asks(alloc, table)
+        && are_sections(alloc, table)
+        && are_spans(alloc, table)
 }
 
 fn breaks(table: &mut Table, row: &str, to: &str) -> bool {
@@ -319,11 +320,6 @@ fn breaks_end(alloc: Global, table: &mut Table) -> bool {
         && is_due(alloc, table, 9, "")
 }
 
-#[test]
-fn answers_are_due_by_their_deadlines(rt: HostRuntime) {
-    assert!(rt; breaks_end(rt.alloc(), &mut Table::new(rt.alloc())));
-}
-
 /// The lease's party goes, and the others' claims stay.
 fn party_goes(alloc: Global, table: &mut Table) -> bool {
     table.remove_leaver(Leaver::Party(Party::Name(Protocol::Smb, 5)));
@@ -335,9 +331,11 @@ fn party_goes(alloc: Global, table: &mut Table) -> bool {
 }
 
 #[test]
-fn claims_change_and_go(rt: HostRuntime) {
+fn claims_stand_change_and_go(rt: HostRuntime) {
     let mut table = Table::new(rt.alloc());
-    assert!(rt; fills(rt.alloc(), &mut table) && change_and_go(rt.alloc(), &mut table));
+    assert!(rt; stand_in_order_and_block_asks(rt.alloc(), &mut table));
+    assert!(rt; change_and_go(rt.alloc(), &mut table));
+    assert!(rt; breaks_end(rt.alloc(), &mut Table::new(rt.alloc())));
 }
 
 // ---- grants of shares
@@ -403,15 +401,21 @@ fn grants_shares(alloc: Global, table: &mut Table) -> bool {
         && shares(alloc, table, Protocol::Nlm, 1, WRITE, READ)
 }
 
-/// A second share is united with the first of an NFSv4 open owner (RFC 7530 9.9), and takes the place of an NLM owner's.
-#[test]
-fn a_second_share(rt: HostRuntime) {
-    let mut table = Table::new(rt.alloc());
-    assert!(rt; grants_shares(rt.alloc(), &mut table) && table.len() == 2);
-    let united = table.share_of(1, Owner::Name(Protocol::Nfs, 1));
-    let replaced = table.share_of(1, Owner::Name(Protocol::Nlm, 1));
-    assert!(rt; has(united, &[true, true], &[true, true]));
-    assert!(rt; has(replaced, &[false, true], &[true, false]));
+/// Whether a second share is united with the first of an NFSv4 open owner (RFC 7530 9.9), and takes the place of an NLM
+/// owner's.
+fn are_united(alloc: Global, table: &mut Table) -> bool {
+    grants_shares(alloc, table)
+        && table.len() == 2
+        && has(
+            table.share_of(1, Owner::Name(Protocol::Nfs, 1)),
+            &[true, true],
+            &[true, true],
+        )
+        && has(
+            table.share_of(1, Owner::Name(Protocol::Nlm, 1)),
+            &[false, true],
+            &[true, false],
+        )
 }
 
 // ---- the limit
@@ -428,20 +432,22 @@ fn share_enters(table: &mut Table, number: u32) -> Result<(), TableErr> {
     })
 }
 
-#[test]
-fn a_full_table(rt: HostRuntime) {
-    let mut table = Table::new(rt.alloc());
+fn fills_up(table: &mut Table) -> bool {
     for number in 0..16_384u32 {
-        assert!(rt; share_enters(&mut table, number).is_ok());
+        if share_enters(table, number).is_err() {
+            return false;
+        }
     }
-    assert!(rt;
-        matches!(
-            share_enters(&mut table, 20_000),
-            Err(TableErr::Full(16_384))
-        )
-    );
+    matches!(share_enters(table, 20_000), Err(TableErr::Full(16_384)))
+}
+
+fn has_room_again(table: &mut Table) -> bool {
     table.remove_leaver(Leaver::Party(Party::Name(Protocol::Nlm, 7)));
-    assert!(rt; share_enters(&mut table, 20_000).is_ok() && table.len() == 16_384);
+    share_enters(table, 20_000).is_ok() && table.len() == 16_384
+}
+
+fn is_full_at_last(table: &mut Table) -> bool {
+    fills_up(table) && has_room_again(table)
 }
 
 // ---- the least blocker
@@ -476,21 +482,39 @@ fn is_least(found: Result<Option<Claim>, AllocError>, number: u32) -> bool {
     matches!(found, Ok(Some(claim)) if same_owner(claim.owner, Owner::Name(Protocol::Nlm, number)))
 }
 
-/// Two shared locks of the same bytes, whose owners' texts differ in their last byte alone; the lesser text came later.
-#[test]
-fn the_least_text(rt: HostRuntime) {
-    let mut table = Table::new(rt.alloc());
-    let mut names = Names::new(rt.alloc());
-    assert!(rt; enters_name(rt.alloc(), &mut names, 6) && enters_name(rt.alloc(), &mut names, 5));
-    assert!(rt; locks(rt.alloc(), &mut table, 0) && locks(rt.alloc(), &mut table, 1));
-    let ask = claim_in("lease lock 9 9");
-    assert!(rt; is_least(table.least_blocker(rt.alloc(), &names, &ask), 1));
-    assert!(rt; is_least(table.least_range(rt.alloc(), &names, &ask), 1));
+/// Whether the least text is found of two shared locks of the same bytes, whose owners' texts differ in their last byte
+/// alone; the lesser text came later.
+fn are_least(alloc: Global, table: &mut Table, names: &mut Names) -> bool {
+    enters_name(alloc, names, 6)
+        && enters_name(alloc, names, 5)
+        && locks(alloc, table, 0)
+        && locks(alloc, table, 1)
+        && is_least(
+            table.least_blocker(alloc, names, &claim_in("lease lock 9 9")),
+            1,
+        )
+        && is_least(
+            table.least_range(alloc, names, &claim_in("lease lock 9 9")),
+            1,
+        )
 }
 
 fn pairs() -> bool {
     is_answer_due(Moment(7), &claim_in("lease break RH 7"))
         && is_blocked_by(&claim_in("lease lock 40 41"), &claim_in("lease lock 40 44"))
+}
+
+#[test]
+fn shares_limits_and_least_texts(rt: HostRuntime) {
+    assert!(rt; are_united(rt.alloc(), &mut Table::new(rt.alloc())));
+    assert!(rt; is_full_at_last(&mut Table::new(rt.alloc())));
+    assert!(rt;
+        are_least(
+            rt.alloc(),
+            &mut Table::new(rt.alloc()),
+            &mut Names::new(rt.alloc())
+        )
+    );
 }
 
 #[test]

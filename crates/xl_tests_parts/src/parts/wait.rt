@@ -78,7 +78,9 @@ fn are_two(queue: &Queue, first: u32, last: u32) -> bool {
 }
 
 fn come_and_go(alloc: Global, queue: &mut Queue) -> bool {
-    pushes(alloc, queue, 7, Some(0)) == 0
+    queue.is_empty()
+        && !queue.waits_on(1)
+        && pushes(alloc, queue, 7, Some(0)) == 0
         && pushes(alloc, queue, 8, None) == 0
         && pushes(alloc, queue, 9, Some(0)) == 0
         && cancels(queue, 8)
@@ -87,60 +89,80 @@ fn come_and_go(alloc: Global, queue: &mut Queue) -> bool {
         && came_by(alloc, queue, 0)
 }
 
-#[test]
-fn waiters_come_and_go(rt: HostRuntime) {
-    let mut queue = Queue::new(rt.alloc());
-    assert!(rt; queue.is_empty() && !queue.waits_on(1));
-    assert!(rt; come_and_go(rt.alloc(), &mut queue));
-}
-
 fn waits_on(waiter: &Waiter, file: u32) -> bool {
     matches!(waiter.asked.as_slice(), [claim, ..] if claim.file == file)
 }
 
-/// Whether the queue of each file, by its number, is what a walk over all who wait finds.
-fn are_queued(alloc: Global, queue: &Queue) -> Result<bool, AllocError> {
-    for file in 0..4u32 {
-        let mut places = Vec::new(alloc);
-        for (place, waiter) in queue.waiters().iter().enumerate() {
-            if waits_on(waiter, file) {
-                places.push(place)?;
-            }
-        }
-        if places.as_slice() != queue.on(file) {
-            return Ok(false);
+/// The places of those who wait on a file, as a walk over all who wait finds them.
+fn places_on(alloc: Global, queue: &Queue, file: u32) -> Result<Vec<usize>, AllocError> {
+    let mut places = Vec::new(alloc);
+    for (place, waiter) in queue.waiters().iter().enumerate() {
+        if waits_on(waiter, file) {
+            places.push(place)?;
         }
     }
-    Ok(true)
+    Ok(places)
 }
 
-/// Whether the queues are so while waiters come on three files, and the first, one between and the last leave.
-fn queues_keep(alloc: Global, queue: &mut Queue) -> Result<bool, AllocError> {
+fn is_queued(alloc: Global, queue: &Queue, file: u32) -> bool {
+    match places_on(alloc, queue, file) {
+        Ok(places) => places.as_slice() == queue.on(file),
+        Err(_) => false,
+    }
+}
+
+/// Whether the queue of each file, by its number, is what a walk over all who wait finds.
+fn are_queued(alloc: Global, queue: &Queue) -> bool {
+    for file in 0..4u32 {
+        if !is_queued(alloc, queue, file) {
+            return false;
+        }
+    }
+    true
+}
+
+/// Whether the queues are so while waiters come on three files.
+fn queues_grow(alloc: Global, queue: &mut Queue) -> bool {
     for id in 0..9u32 {
-        if pushes_on(alloc, queue, id, None, 1 + id % 3) != 0 || !are_queued(alloc, queue)? {
-            return Ok(false);
+        if pushes_on(alloc, queue, id, None, 1 + id % 3) != 0 || !are_queued(alloc, queue) {
+            return false;
         }
     }
+    true
+}
+
+/// Whether they are so while the first, one between and the last leave.
+fn queues_shrink(alloc: Global, queue: &mut Queue) -> bool {
     for id in [0u32, 4, 8, 3, 6] {
-        if !cancels(queue, id) || !are_queued(alloc, queue)? {
-            return Ok(false);
+        if !cancels(queue, id) || !are_queued(alloc, queue) {
+            return false;
         }
     }
-    Ok(!queue.waits_on(1) && queue.waits_on(2) && matches!(queue.on(3), [1, 2]))
+    !queue.waits_on(1) && queue.waits_on(2) && matches!(queue.on(3), [1, 2])
+}
+
+fn queues_keep(alloc: Global, queue: &mut Queue) -> bool {
+    queues_grow(alloc, queue) && queues_shrink(alloc, queue)
 }
 
 #[test]
-fn a_queue_for_each_file(rt: HostRuntime) {
-    let mut queue = Queue::new(rt.alloc());
-    assert!(rt; matches!(queues_keep(rt.alloc(), &mut queue), Ok(true)));
+fn waiters_come_and_go(rt: HostRuntime) {
+    assert!(rt; come_and_go(rt.alloc(), &mut Queue::new(rt.alloc())));
+    assert!(rt; queues_keep(rt.alloc(), &mut Queue::new(rt.alloc())));
+}
+
+fn fills_up(alloc: Global, queue: &mut Queue) -> bool {
+    for id in 0..1_024u32 {
+        if pushes(alloc, queue, id, None) != 0 {
+            return false;
+        }
+    }
+    pushes(alloc, queue, 2_000, None) == 1_024
+        && cancels(queue, 500)
+        && pushes(alloc, queue, 2_000, None) == 0
 }
 
 #[test]
 fn a_full_queue(rt: HostRuntime) {
-    let mut queue = Queue::new(rt.alloc());
-    for id in 0..1_024u32 {
-        assert!(rt; pushes(rt.alloc(), &mut queue, id, None) == 0);
-    }
-    assert!(rt; pushes(rt.alloc(), &mut queue, 2_000, None) == 1_024);
-    assert!(rt; cancels(&mut queue, 500) && pushes(rt.alloc(), &mut queue, 2_000, None) == 0);
+    assert!(rt; fills_up(rt.alloc(), &mut Queue::new(rt.alloc())));
 }
