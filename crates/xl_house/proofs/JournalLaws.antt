@@ -1,6 +1,6 @@
 -- Journals with one entry more.
 use Rattle.std.proofs.Math.Seq.{take-append_seam}
-use Rattle.std.proofs.Common.{◌≡◌, suc, ◌+◌, ◌*◌, ◌<◌, ◌≤◌, false, arith, length-append, Option, List, [], ◌∷◌, ◌++◌, length, take, refl, sym, ap, subst, ◌∙◌, append_assoc}
+use Rattle.std.proofs.Common.{◌≡◌, ℕ, None, Result, Ok, Err, IfOk, suc, ◌+◌, ◌*◌, ◌<◌, ◌≤◌, false, arith, length-append, Option, List, [], ◌∷◌, ◌++◌, length, take, refl, sym, ap, subst, ◌∙◌, append_assoc}
 use Rattle.xl_base.specs.Limits.{most_numbers}
 use Rattle.xl_base.specs.Stable.{Stable, raised}
 use Rattle.xl_base.specs.declared.event.Event.{Event}
@@ -14,9 +14,10 @@ use Rattle.xl_front_nlm.specs.Short.{AreShort}
 use Rattle.xl_house.specs.Awaited.{IsAwaiting, IsServed, IsServedBy}
 use Rattle.xl_house.specs.Lawful.{Always}
 use Rattle.xl_house.specs.Machine.{Whole, times_of, begin, step}
-use Rattle.xl_house.specs.Journals.{replay, IsLegal, entry, entries_of, is_restart}
+use Rattle.xl_house.specs.Journals.{replay, IsLegal, entry, entries_of, is_restart, most_entries}
 use Rattle.xl_house.specs.Free.{IsFree}
-use Rattle.xl_house.specs.Housed.{Holds, Stands}
+use Rattle.xl_base.specs.Serials.{Extends}
+use Rattle.xl_house.specs.Housed.{Housed, Holds, Stands}
 use Rattle.xl_house.proofs.AwaitedLaws.{Ready}
 use Rattle.xl_house.proofs.MachineLaws.{begin_free, none_made, next_place, step_free, step_still}
 use Rattle.xl_house.proofs.ServedLaws.{always_more, begin_awaits, step_awaits, step_serves}
@@ -112,3 +113,12 @@ pub served_next : (start : Whole) (es : List Entry) (old : Whole) (event : Event
 served_next start es old event stands ready served =
     subst (λ (x : Whole). Always IsServed start (es ++ entry 0 x event ∷ [])) (sym stands.replayed)
     (always_more IsServed start es (entry 0 (replay start es) event) served (subst (λ (x : Whole). IsServedBy 0 x event (step 0 x event).next) stands.replayed (step_serves 0 old event stands.free ready stands.awaiting)))
+
+pub both_ok : {T E : Type 0} (r : Result T E) (P Q R : T → Type 0) → ((x : T) → P x → Q x → R x) → IfOk r P → IfOk r Q → IfOk r R
+both_ok (Ok x) P Q R as_r p q = as_r x p q
+both_ok (Err e) P Q R as_r p q = tt
+
+-- a house with one entry more
+pub extends_by : {K : Type 0} (old new : Housed K) (e : Entry) (event : Event) (place : ℕ) → e.event ≡ event → place < most_entries
+    → (place ≡ length old.entries) × (new ≡ record { head = old.head; entries = old.entries ++ e ∷ []; halt = None; keeper = old.keeper }) → Extends 0 old.entries new.entries event place
+extends_by old new e event place is below ok = (e, ap (λ (h : Housed _). h.entries) ok.1, is, omega (arith, ok.0), omega (arith, below))

@@ -19,4 +19,5 @@ pub mod AwaitedLaws
 pub mod ServedLaws
 pub mod JournalLaws
 pub mod OrderLaws
+pub mod InTimeLaws
 pub mod HollowLaws

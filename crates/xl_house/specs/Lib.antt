@@ -7,5 +7,6 @@ pub mod Awaited
 pub mod Journals
 pub mod Free
 pub mod Housed
+pub mod Serials
 pub mod Starts
 pub mod Whole

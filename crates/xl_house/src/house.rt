@@ -1,6 +1,7 @@
 //! The house: the machine with its journal.
-ghost use Rattle.std.specs.Prelude.{◌≡◌, ℕ, ◌+◌, ◌*◌, ◌<◌, ◌≤◌, ◌^◌, [], ◌∷◌, ◌++◌, length, drop, true, false, Ok, Err, Some, None, OnOk, OnErr, IfOk, IfErr, IfSome, ◌↔◌};
+ghost use Rattle.std.specs.Prelude.{◌≡◌, ℕ, ◌+◌, ◌-◌, ◌*◌, ◌<◌, ◌≤◌, ◌^◌, [], ◌∷◌, ◌++◌, length, drop, true, false, Ok, Err, Some, None, OnOk, OnErr, IfOk, IfErr, IfSome, ◌↔◌};
 ghost use Rattle.xl_base.specs.Limits.{most_numbers};
+ghost use Rattle.xl_base.specs.Serials.{Extends};
 ghost use Rattle.xl_base.specs.Stable.{raised};
 ghost use Rattle.xl_core.specs.Numbers.{numbers_of};
 ghost use Rattle.xl_front_nlm.specs.Short.{AreShort};
@@ -11,13 +12,14 @@ ghost use Rattle.xl_house.specs.Housed.{Housed, is_spoiled, Holds, Stands};
 ghost use Rattle.xl_house.specs.Journals.{replay, IsLegal, IsOrderly, entry, is_restart, most_entries};
 ghost use Rattle.xl_house.specs.Lawful.{Always, IsLawful, IsWaiting, IsKept, IsComplete, IsCaused, IsTold};
 ghost use Rattle.xl_house.specs.Machine.{times_of, begin, step};
+ghost use Rattle.xl_house.specs.Serials.{IsHistory, MayHalt};
 ghost use Rattle.xl_house.specs.Whole.{whole_of};
 
 use crate::layers::{Fronts, Layers};
 use crate::machine::{Machine, act};
 use std::alloc::{AllocError, Global};
 use std::marker::Model;
-use xl_base::{Entry, Event, Exports, Halt, Head, Journal, Keeper, Record, Sequence};
+use xl_base::{Entry, Event, Exports, Halt, Head, Journal, Keeper, Record, Sequence, Serial};
 use xl_core::{Core, Times};
 use xl_matrix::Claim;
 use xl_names::Names;
@@ -52,12 +54,13 @@ pub struct House<K: Keeper> {
 }
 
 impl<K: Keeper> Model for House<K> {
-    ghost use Rattle.std.specs.Prelude.{◌≡◌, ◌≤◌, length, false};
+    ghost use Rattle.std.specs.Prelude.{◌≡◌, ◌≤◌, length, false, IfSome};
     ghost use Rattle.xl_house.specs.Machine.{begin};
     ghost use Rattle.xl_house.specs.Awaited.{IsServed};
     ghost use Rattle.xl_house.specs.Journals.{IsLegal, most_entries};
     ghost use Rattle.xl_house.specs.Lawful.{Always};
     ghost use Rattle.xl_house.specs.Housed.{Housed, is_spoiled, Holds, Stands};
+    ghost use Rattle.xl_house.specs.Serials.{MayHalt};
     ghost use Rattle.xl_house.specs.Whole.{whole_of};
 
     ghost Value = { Housed K };
@@ -70,6 +73,7 @@ impl<K: Keeper> Model for House<K> {
       few : length h.entries ≤ most_entries;
       legal : IsLegal (begin h.head) h.entries;
       served : Always IsServed (begin h.head) h.entries;
+      halts : IfSome h.halt (λ reason. MayHalt h.entries reason);
     } };
 }
 
@@ -89,6 +93,7 @@ fn act_and_enter<K: Keeper>(
     requires short { AreShort machine.old.layers.core.names }
     requires goes_on { is_restart event ≡ false }
     ensures place { IfOk result (λ place. place ≡ length entries.old) }
+    ensures below { IfOk result (λ place. place < most_entries) }
     ensures few { length entries.new ≤ most_entries }
     ensures short { OnOk result (AreShort machine.new.layers.core.names) }
     ensures numbers { OnOk result (numbers_of machine.new.layers.core ≤ numbers_of machine.old.layers.core + most_numbers) }
@@ -97,6 +102,7 @@ fn act_and_enter<K: Keeper>(
     ensures err { OnErr result (entries.new ≡ entries.old) }
     ensures full { (count : ℕ) → (result ≡ Err (Halt.JournalFull count)) ↔ ((count ≡ length entries.old) × (length entries.old ≡ most_entries)) }
     ensures started { (count : ℕ) → result ≡ Err (Halt.StartStore count) → ⊥ }
+    ensures may { IfErr result (λ reason. MayHalt entries.old reason) }
     ensures kept { IfErr result (λ halt. is_spoiled (Some halt) ≡ false → machine.new ≡ machine.old) }
     ensures sound { IsSound machine.old.layers.front.smb.state }
     ensures distinct { AreDistinct machine.old.layers.front.smb.state }
@@ -167,14 +173,18 @@ impl<K: Keeper> House<K> {
     /// After an error the journal is as it was, and each later step returns the same error. JournalFull comes exactly if the
     /// journal has 1,048,576 entries. No step stores the record yet. If the step grants what a CREATE or a LOCK of SMB waited
     /// for, the open is there afterwards (`served`).
+    ///
+    /// As a `Serial` a house takes events only while it is not halted.
     #[tactic(auto, using(crate::proofs::JournalLaws::legal_next, crate::proofs::JournalLaws::stands_next))]
     pub fn step(&mut self, alloc: Global, event: Event) -> Result<u64, Halt>
         requires goes_on { is_restart event ≡ false }
         ensures ok { IfOk result (λ place. (place ≡ length self.old.entries) × (self.new ≡ record { head = self.old.head; entries = self.old.entries ++ entry 0 (replay (begin self.old.head) self.old.entries) event ∷ []; halt = None; keeper = self.old.keeper })) }
+        ensures below { IfOk result (λ place. place < most_entries) }
         ensures err { IfErr result (λ halt. self.new ≡ record { head = self.old.head; entries = self.old.entries; halt = Some halt; keeper = self.old.keeper }) }
         ensures stays { IfSome self.old.halt (λ halt. result ≡ Err halt) }
         ensures full { (count : ℕ) → self.old.halt ≡ None → (result ≡ Err (Halt.JournalFull count)) ↔ ((count ≡ length self.old.entries) × (length self.old.entries ≡ most_entries)) }
         ensures started { (count : ℕ) → self.old.halt ≡ None → result ≡ Err (Halt.StartStore count) → ⊥ }
+        ensures may { IfErr result (λ reason. MayHalt self.old.entries reason) }
         ensures served { OnOk result (IsServedBy 0 (replay (begin self.old.head) self.old.entries) event (replay (begin self.new.head) self.new.entries)) }
         ensures holds { OnOk result (Holds (K.held self.new.keeper) (replay (begin self.new.head) self.new.entries).core.stable) }
     {
@@ -198,9 +208,10 @@ impl<K: Keeper> House<K> {
         }
     }
 
-    /// Why the house halted, if it did.
+    /// Why the house halted, if it did; what may be the cause behind its entries.
     pub fn halt(&self) -> Option<Halt>
-        ensures { result ≡ self.now.halt }
+        ensures halt { result ≡ self.now.halt }
+        ensures may { IfSome result (λ reason. MayHalt self.now.entries reason) }
     {
         self.halt
     }
@@ -280,5 +291,64 @@ impl<K: Keeper> House<K> {
         } = self;
         retire(machine);
         (Journal { head, entries }, keeper)
+    }
+}
+
+impl<K: Keeper> Serial for House<K> {
+    type Origin = Head;
+
+    ghost origin = { λ h. h.head };
+
+    ghost first = { λ head. 0 };
+
+    ghost history = { λ h. h.entries };
+
+    ghost halt = { λ h. h.halt };
+
+    ghost lawful = { λ head log. IsHistory head log };
+
+    ghost takes = { λ event. is_restart event ≡ false };
+
+    ghost may_halt = { λ log reason. MayHalt log reason };
+
+    ghost in_time = { λ _ _ history. history.1 };
+
+    fn first(&self) -> u64
+        ensures { result ≡ 0 }
+    {
+        0
+    }
+
+    #[tactic(auto, using(crate::proofs::InTimeLaws::legal_history))]
+    fn next_place(&self) -> u64
+        ensures place { result ≡ 0 + length self.now.entries }
+        ensures lawful { IsHistory self.now.head self.now.entries }
+    {
+        self.entries.len() as u64
+    }
+
+    fn halt(&self) -> Option<Halt>
+        ensures halt { result ≡ self.now.halt }
+        ensures may { IfSome result (λ reason. MayHalt self.now.entries reason) }
+    {
+        House::halt(self)
+    }
+
+    fn outs_from(&self, place: u64) -> &[Entry]
+        requires { (0 ≤ place) × (place ≤ 0 + length self.now.entries) }
+        ensures { result.now ≡ drop (place - 0) self.now.entries }
+    {
+        House::outs_from(self, place)
+    }
+
+    fn step(&mut self, alloc: Global, event: Event) -> Result<u64, Halt>
+        requires takes { is_restart event ≡ false }
+        requires runs { self.old.halt ≡ None }
+        ensures origin { self.new.head ≡ self.old.head }
+        ensures ok { IfOk result (λ place. Extends 0 self.old.entries self.new.entries event place) }
+        ensures runs { OnOk result (self.new.halt ≡ None) }
+        ensures err { IfErr result (λ reason. (self.new.entries ≡ self.old.entries) × (self.new.halt ≡ Some reason) × MayHalt self.old.entries reason) }
+    {
+        House::step(self, alloc, event)
     }
 }

@@ -16,4 +16,5 @@ invariant_of-result g c =
       few = omega (arith, ap (λ (es : List Entry). length es) c.new.ensures);
       legal = rw (c.new.ensures) tt;
       served = rw (c.new.ensures) tt;
+      halts = tt;
     }

@@ -12,6 +12,7 @@ invariant_of-self g c =
       few = c.in-Ok.ensures.few;
       legal = rw c.in-Ok.ensures.entered (legal_next _ _ _ _ stands c.requires.goes_on c.self.invariant.legal);
       served = rw c.in-Ok.ensures.entered (served_next _ _ _ _ stands (c.act_and_enter.ensures.sound, c.act_and_enter.ensures.distinct) c.self.invariant.served);
+      halts = rw (c.in-None.is) tt;
     }
 
 pub returns-in-Ok-clause-holds : goal.returns-in-Ok-clause-holds
