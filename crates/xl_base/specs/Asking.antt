@@ -18,14 +18,14 @@ abbrev pub call_failed : CallOutcome → Bool
 call_failed Failed = true
 call_failed _ = false
 
--- the outcome is the first of these answers, or nobody's where there is none, unless memory ran out
+-- the outcome is the first of these answers, or nobody's if there is none, unless memory ran out
 abbrev pub IsAnswer : CallOutcome → List (Option (List ℕ)) → Type 0
 IsAnswer NoMemory answers = Unit {0}
 IsAnswer outcome [] = outcome ≡ Nobody
 IsAnswer outcome (None ∷ answers) = outcome ≡ Nobody
 IsAnswer outcome (Some bytes ∷ answers) = outcome ≡ Answer bytes
 
--- a caller in memory: what its clients answer still, what it was asked, where it tells it still, and its counts
+-- a caller in memory: what its clients answer still, what it was asked, if it tells it still, and its counts
 pub record MemoryCalls : Type 0 where
   pub answers : List (Option (List ℕ))
   pub told : Option (List Asked)

@@ -40,11 +40,11 @@ exactly_at n fault number at bytes = number bytes >>= λ m. if m.0 == n then at 
 abbrev pub tagged_at : {K A E : Type 0} → (List ℕ → Result (K × List ℕ) E) → (K → List ℕ → Result (A × List ℕ) E) → List ℕ → Result (A × List ℕ) E
 tagged_at key at bytes = key bytes >>= λ tag. at tag.0 tag.1
 
--- one thing where the tag is n, and another where it isn't
+-- one thing if the tag is n, and another if it isn't
 abbrev pub if_at : {A E : Type 0} → ℕ → ℕ → (List ℕ → Result (A × List ℕ) E) → (List ℕ → Result (A × List ℕ) E) → List ℕ → Result (A × List ℕ) E
 if_at tag n this other bytes = if tag == n then this bytes else other bytes
 
--- one thing where the test holds, and another where it doesn't
+-- one thing if the test holds, and another if it doesn't
 abbrev pub choose_at : {A E : Type 0} → Bool → (List ℕ → Result (A × List ℕ) E) → (List ℕ → Result (A × List ℕ) E) → List ℕ → Result (A × List ℕ) E
 choose_at test this other bytes = if test then this bytes else other bytes
 
@@ -55,7 +55,7 @@ nothing_at bytes = Ok (tt, bytes)
 abbrev pub never_at : {A E : Type 0} → E → List ℕ → Result (A × List ℕ) E
 never_at fault bytes = Err fault
 
--- so many bytes as they stand
+-- so many bytes as they are
 abbrev pub fixed_at : {E : Type 0} → E → ℕ → List ℕ → Result (List ℕ × List ℕ) E
 fixed_at short n bytes = if nat_lt (length bytes) n then Err short else Ok (take n bytes, drop n bytes)
 

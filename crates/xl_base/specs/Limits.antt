@@ -21,10 +21,10 @@ most_waiters = 1024
 abbrev pub most_message_bytes : ℕ
 most_message_bytes = 65536
 
--- numbers that are left unused where a call may give some out
+-- numbers that are left unused if a call may give some out
 abbrev pub numbers_left : ℕ
 numbers_left = 65536
 
--- numbers that an entry takes at most, with one for each who waits then, who is told of a grant under it
+-- numbers that an entry takes at most, with one for each who waits then, whose grant is sent under it
 abbrev pub most_numbers : ℕ
 most_numbers = 512

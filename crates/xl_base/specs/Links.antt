@@ -30,7 +30,7 @@ Receives receive.Quiet buffer old new = new ≡ old
 Receives receive.End buffer old new = new ≡ record old { ended = true }
 Receives receive.Failed buffer old new = new ≡ record old { failed = counted old.failed }
 
--- the newest link, to which these bytes were sent, or a beginning of them where the call failed
+-- the newest link, to which these bytes were sent, or a beginning of them if the call failed
 abbrev pub Sends : WriteOutcome → List ℕ → Link → Link → Type 0
 Sends write.Wrote bytes old new = new ≡ record old { sent = old.sent ++ bytes }
 Sends write.Failed bytes old new = (front : List ℕ) × IsPrefix front bytes × (new ≡ record old { sent = old.sent ++ front; failed = counted old.failed })

@@ -2,7 +2,7 @@
 use Rattle.std.specs.Prelude.{◌≡◌, Bool, true, ◌⊎◌, List, [], ◌∷◌, if◌then◌else◌}
 use Rattle.std.specs.List.{AllByRecursion}
 
--- x stands in the list
+-- x is in the list
 abbrev pub IsIn : {A : Type 0} → A → List A → Type 0
 IsIn x [] = ⊥
 IsIn x (y ∷ ys) = (y ≡ x) ⊎ IsIn x ys
@@ -17,7 +17,7 @@ abbrev pub placed : {A : Type 0} → (A → A → Bool) → A → List A → Lis
 placed below x [] = x ∷ []
 placed below x (y ∷ ys) = if below y x then y ∷ placed below x ys else x ∷ y ∷ ys
 
--- the elements in order; those of which neither stands below the other stay as they stood
+-- the elements in order; those of which neither stands below the other stay as they were
 abbrev pub sorted : {A : Type 0} → (A → A → Bool) → List A → List A
 sorted below [] = []
 sorted below (x ∷ xs) = placed below x (sorted below xs)

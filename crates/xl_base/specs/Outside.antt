@@ -1,4 +1,4 @@
--- What the outside gives and takes, where it tells it, and what its counts of faults say.
+-- What the outside gives and takes, if it tells it, and what its counts of faults say.
 use Rattle.std.specs.Prelude.{◌≡◌, ℕ, ◌-◌, ◌^◌, ◌<◌, ◌≤◌, List, [], ◌++◌, ◌∷◌, length, take, Option, Some, None, option_map}
 use Rattle.xl_base.specs.declared.source.ReadOutcome.{ReadOutcome}
 use Rattle.xl_base.specs.declared.source.ReadOutcome.TheVariants.{Got, End, Failed}
@@ -10,12 +10,12 @@ use Rattle.xl_base.specs.declared.keeper.StoreOutcome.TheVariants as store
 use Rattle.xl_base.specs.declared.sink.WriteOutcome.{WriteOutcome}
 use Rattle.xl_base.specs.declared.sink.WriteOutcome.TheVariants as write
 
--- A count of faults rose: it is greater than before, or stands at its last value (PROOF-2).
+-- A count of faults rose: it is greater than before, or is at its last value (PROOF-2).
 abbrev pub Rose : ℕ → ℕ → Type 0
 Rose before now = now < 2 ^ 64 - 1 → before < now
 
--- What one call of a source, a sink or a keeper says of the count of its faults: it rose where the call failed, and
--- stands where it didn't.
+-- What one call of a source, a sink or a keeper says of the count of its faults: it rose if the call failed, and
+-- stays if it didn't.
 abbrev pub ReadCounts : ReadOutcome → ℕ → ℕ → Type 0
 ReadCounts Failed before now = Rose before now
 ReadCounts _ before now = now ≡ before
@@ -38,7 +38,7 @@ Took None bytes new = Unit {0}
 Took (Some left) bytes None = ⊥
 Took (Some left) bytes (Some rest) = left ≡ bytes ++ rest
 
--- Nothing is left, where that is told.
+-- Nothing is left, if that is told.
 abbrev pub Ended : Option (List ℕ) → Type 0
 Ended None = Unit {0}
 Ended (Some left) = left ≡ []
@@ -49,7 +49,7 @@ Reads (Got n) buffer old new = (0 < n) × (n ≤ length buffer) × Took old (tak
 Reads End buffer old new = Ended old × (new ≡ old)
 Reads Failed buffer old new = new ≡ old
 
--- These bytes were added to what was written, where that is told.
+-- These bytes were added to what was written, if that is told.
 abbrev pub Added : Option (List ℕ) → List ℕ → Option (List ℕ) → Type 0
 Added None bytes new = Unit {0}
 Added (Some held) bytes None = ⊥
@@ -59,7 +59,7 @@ Added (Some held) bytes (Some now) = now ≡ held ++ bytes
 abbrev pub IsPrefix : List ℕ → List ℕ → Type 0
 IsPrefix front whole = (length front ≤ length whole) × (take (length front) whole ≡ front)
 
--- A beginning of these bytes, perhaps nothing, was added to what was written, where that is told.
+-- A beginning of these bytes, perhaps nothing, was added to what was written, if that is told.
 abbrev pub Began : Option (List ℕ) → List ℕ → Option (List ℕ) → Type 0
 Began None bytes new = Unit {0}
 Began (Some held) bytes None = ⊥
@@ -70,7 +70,7 @@ abbrev pub Writes : WriteOutcome → List ℕ → Option (List ℕ) → Option (
 Writes write.Wrote bytes old new = Added old bytes new
 Writes write.Failed bytes old new = Began old bytes new
 
--- What one load says of the record that is held: where that is told, it is the one that was loaded.
+-- What one load says of the record that is held: if that is told, it is the one that was loaded.
 abbrev pub Loads : LoadOutcome → Option Stable → Type 0
 Loads (load.Loaded stable) held = held ≡ option_map (λ _. stable) held
 Loads load.Failed held = Unit {0}
@@ -83,7 +83,7 @@ held_after store.Stored stable held = option_map (λ _. stable) held
 held_after store.Failed stable held = held
 held_after store.NoMemory stable held = held
 
--- The records given to be stored, with this one behind them unless memory ran out, where they are told.
+-- The records given to be stored, with this one behind them unless memory ran out, if they are told.
 abbrev pub given_after : StoreOutcome → Stable → Option (List Stable) → Option (List Stable)
 given_after store.Stored stable given = option_map (λ list. list ++ stable ∷ []) given
 given_after store.Failed stable given = option_map (λ list. list ++ stable ∷ []) given

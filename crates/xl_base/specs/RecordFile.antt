@@ -14,7 +14,7 @@ use Rattle.xl_base.specs.Stable.{Stable, is_recorded, is_recordable}
 abbrev pub most_record_bytes : ℕ
 most_record_bytes = 65536
 
--- the fault that an error tells; want of memory is none
+-- the fault that an error names; want of memory is none
 abbrev pub fault_of : RecordBad → Option RecordBad
 fault_of bad.NoMemory = None
 fault_of fault = Some fault

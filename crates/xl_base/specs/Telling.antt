@@ -15,12 +15,12 @@ abbrev pub OnNewest : {A : Type 0} → (A → A → Type 0) → List A → List 
 OnNewest step [] new = new ≡ []
 OnNewest {A} step (x ∷ xs) new = (y : A) × (new ≡ y ∷ xs) × step x y
 
--- A count of faults rose where the call failed, and stands where it didn't.
+-- A count of faults rose if the call failed, and stays if it didn't.
 abbrev pub RoseIf : Bool → ℕ → ℕ → Type 0
 RoseIf true before now = Rose before now
 RoseIf false before now = now ≡ before
 
--- a count of 64 bits, one more where it is so; it stops at its last value
+-- a count of 64 bits, one more if it is so; it stops at its last value
 abbrev pub counted_if : Bool → ℕ → ℕ
 counted_if true count = counted count
 counted_if false count = count

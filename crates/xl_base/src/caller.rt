@@ -37,7 +37,7 @@ pub enum Asked {
 
 /// Who makes the machine's calls. What it was asked is told, or not; then no contract says what was called.
 pub trait Caller {
-    /// What the caller was asked, in order, where it tells it.
+    /// What the caller was asked, in order, if it tells it.
     ghost told: { Self → Option (List TheAsked) };
 
     /// How many calls have failed; it stops at its last value.
@@ -54,8 +54,8 @@ pub trait Caller {
     fn asked(&self) -> u64
         ensures { result ≡ asked self.now };
 
-    /// Calls this address with this record, and waits for the answer a while at most. The count of faults rises where
-    /// the answer is Failed, and nowhere else.
+    /// Calls this address with this record, and waits for the answer a while at most. The count of faults rises if
+    /// the answer is Failed, and only then.
     fn call(&mut self, alloc: Global, to: &[u8], bytes: &[u8]) -> CallOutcome
         ensures told { Follows (told self.old) (told self.new) (Calls to.now bytes.now result) }
         ensures later { faults self.old ≤ faults self.new }
@@ -110,7 +110,7 @@ impl MemoryCaller {
         }
     }
 
-    /// What it was asked, in order, or None where memory ran out.
+    /// What it was asked, in order, or None if memory ran out.
     pub fn told(&self) -> Option<&[Asked]>
         ensures { option_map (λ t. t.now) result ≡ self.now.told }
     {

@@ -11,7 +11,7 @@ use std::marker::Model;
 
 /// A clock, whose readings are told, or not. It may go back.
 pub trait Clock {
-    /// The readings so far, in order, where the clock tells them.
+    /// The readings so far, in order, if the clock tells them.
     ghost told: { Self → Option (List TheMoment) };
 
     /// The time now.

@@ -29,9 +29,9 @@ pub enum Dest {
 pub struct Out {
     /// Where it goes.
     pub dest: Dest,
-    /// The address of a call to a callback; empty where it goes to a connection.
+    /// The address of a call to a callback; empty if it goes to a connection.
     pub to: Sequence<u8>,
-    /// The bytes: framed where they go to a connection, a bare record where they are a call.
+    /// The bytes: framed if they go to a connection, a bare record if they are a call.
     pub bytes: Sequence<u8>,
 }
 

@@ -11,7 +11,7 @@ pub fn handle_of(file: u32) -> [u8; 8]
 }
 
 #[tactic(auto, unfolding(crate::specs::Handles::file_at))]
-/// The file's number in a handle, or None where the bytes are no handle of this server.
+/// The file's number in a handle, or None if the bytes are no handle of this server.
 pub fn file_of(bytes: &[u8]) -> Option<u32>
     ensures found { IfSome result (λ file. bytes.now ≡ handle file) }
     ensures only { (file : ℕ) → file < 2 ^ 32 → bytes.now ≡ handle file → result ≡ Some file }

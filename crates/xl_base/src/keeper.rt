@@ -35,10 +35,10 @@ pub enum StoreOutcome {
 /// stored; then no contract speaks of them. A crash in the midst of a store, which has no outcome, leaves the record
 /// from before it or the one that was given (RECORD-2).
 pub trait Keeper {
-    /// The record that is held, where the keeper tells it.
+    /// The record that is held, if the keeper tells it.
     ghost held: { Self → Option Stable };
 
-    /// The records given to be stored, in order, where the keeper tells them: those of each store that had the memory
+    /// The records given to be stored, in order, if the keeper tells them: those of each store that had the memory
     /// it needs, whether it failed or not.
     ghost given: { Self → Option (List Stable) };
 
@@ -49,8 +49,8 @@ pub trait Keeper {
     fn faults(&self) -> u64
         ensures { result ≡ faults self.now };
 
-    /// Loads the record that is held, which changes nothing but the count. That rises where the answer is Failed, and
-    /// nowhere else.
+    /// Loads the record that is held, which changes nothing except the count. That rises if the answer is Failed, and
+    /// only then.
     fn load(&mut self, alloc: Global) -> LoadOutcome
         ensures loaded { Loads result (held self.old) }
         ensures held { held self.new ≡ held self.old }
@@ -58,8 +58,8 @@ pub trait Keeper {
         ensures later { faults self.old ≤ faults self.new }
         ensures counts { LoadCounts result (faults self.old) (faults self.new) };
 
-    /// Stores the record in place of the one that is held. The count rises where the answer is Failed, and nowhere
-    /// else; want of memory changes nothing.
+    /// Stores the record in place of the one that is held. The count rises if the answer is Failed, and only
+    /// then; want of memory changes nothing.
     fn store(&mut self, alloc: Global, stable: &Record) -> StoreOutcome
         ensures held { held self.new ≡ held_after result stable.now (held self.old) }
         ensures given { given self.new ≡ given_after result stable.now (given self.old) }

@@ -55,7 +55,7 @@ pub struct Link {
 /// Where connections come from, one after another: the newest link is the one that is served. The links are told, or
 /// not; then no contract says what was taken from them and sent to them.
 pub trait Lane {
-    /// The links so far, the newest in front, where the lane tells them.
+    /// The links so far, the newest in front, if the lane tells them.
     ghost told: { Self → Option (List TheLink) };
 
     /// How many of the lane's calls have failed; it stops at its last value.
@@ -86,8 +86,8 @@ pub trait Lane {
     fn asked(&self) -> u64
         ensures { result ≡ asked self.now };
 
-    /// Waits for the next link, a while at most. The counts of faults and of lost links rise where the answer is
-    /// Failed, and nowhere else.
+    /// Waits for the next link, a while at most. The counts of faults and of lost links rise if the answer is
+    /// Failed, and only then.
     fn next(&mut self) -> NextOutcome
         ensures told { Follows (told self.old) (told self.new) (Nexts result) }
         ensures later { faults self.old ≤ faults self.new }
@@ -96,8 +96,8 @@ pub trait Lane {
         ensures ended { ended self.new ≡ (ended self.old || next_ended result) }
         ensures asked { asked self.new ≡ counted (asked self.old) };
 
-    /// Waits for bytes of the newest link, a while at most. The count of faults rises where the answer is Failed, and
-    /// nowhere else.
+    /// Waits for bytes of the newest link, a while at most. The count of faults rises if the answer is Failed, and
+    /// only then.
     fn recv(&mut self, buffer: &mut [u8]) -> ReceiveOutcome
         requires { 0 < length buffer.old }
         ensures fits { Fits result buffer.new }
@@ -108,8 +108,8 @@ pub trait Lane {
         ensures ended { ended self.new ≡ ended self.old }
         ensures asked { asked self.new ≡ counted (asked self.old) };
 
-    /// Sends the bytes to the newest link, all or, where it fails, a beginning of them. The count of faults rises where
-    /// the answer is Failed, and nowhere else.
+    /// Sends the bytes to the newest link, all or, if it fails, a beginning of them. The count of faults rises if
+    /// the answer is Failed, and only then.
     fn send(&mut self, bytes: &[u8]) -> WriteOutcome
         ensures told { Follows (told self.old) (told self.new) (OnNewest (Sends result bytes.now)) }
         ensures later { faults self.old ≤ faults self.new }

@@ -35,8 +35,8 @@ pub struct Peer {
 }
 
 /// A lane in memory, to which its peers come in order. Its calls numbered in the list fail: waits for a link, waits for
-/// bytes and sends are counted together, and the first has number 1. A failed send sends half of its bytes. A call fails
-/// too where memory runs out.
+/// bytes and sends are counted together, and the first has number 1. A failed send sends half of its bytes. A call
+/// fails too if memory runs out.
 #[derive(Drop)]
 pub struct MemoryLane {
     alloc: Global,
@@ -165,7 +165,7 @@ fn fail(links: &mut [Link], buffer: &mut [u8]) -> ReceiveOutcome
     ReceiveOutcome::Failed
 }
 
-/// Sends half of the bytes, or none where memory runs out; the answer is how many.
+/// Sends half of the bytes, or none if memory runs out; the answer is how many.
 fn send_half(sent: &mut Sequence<u8>, bytes: &[u8]) -> usize
     ensures { sent.new ≡ sent.old ++ take result bytes.now }
 {
@@ -176,7 +176,7 @@ fn send_half(sent: &mut Sequence<u8>, bytes: &[u8]) -> usize
     }
 }
 
-/// Sends the bytes to the newest link, or half of them where it fails.
+/// Sends the bytes to the newest link, or half of them if it fails.
 #[tactic(auto, using(crate::proofs::LinkLaws::front_of))]
 fn send(links: &mut [Link], bytes: &[u8], fails: bool) -> WriteOutcome
     ensures told { OnNewest (Sends result bytes.now) links.old links.new }

@@ -36,7 +36,7 @@ pub enum RecordBad {
     /// The byte in front of a name is neither 1 nor 2.
     #[error("a name of the kind {0}")]
     Kind(u8),
-    /// A name stands there once more.
+    /// A name is there once more.
     #[error("a name stands twice")]
     Twice,
     /// Bytes stand behind the last name.
@@ -55,8 +55,9 @@ impl From<AllocError> for RecordBad {
 // ---- reading
 
 /// The record of a record file. Long comes before all else, for more than 65,536 bytes. Then the first fault in reading
-/// order is told: Magic if the file doesn't begin with the mark, Cut if it ends within a number or a name, Kind if the byte in
-/// front of a name is neither 1 nor 2, Twice if an earlier name is the same, Extra if bytes stand behind the last name.
+/// order is answered: Magic if the file doesn't begin with the mark, Cut if it ends within a number or a name, Kind if
+/// the byte in front of a name is neither 1 nor 2, Twice if an earlier name is the same, Extra if bytes stand behind
+/// the last name.
 pub fn read_record(alloc: Global, bytes: &[u8]) -> Result<Record, RecordBad>
     // The bytes are the file of the record that is read.
     ensures found { IfOk result (λ r. (bytes.now ≡ record_text r) × HasFile r) }
@@ -107,7 +108,7 @@ fn read_names(
     Ok((stable, rest))
 }
 
-/// Adds a name that was read; Twice where it is there already.
+/// Adds a name that was read; Twice if it is there already.
 fn add_read(stable: &mut Record, name: Recorded) -> Result<(), RecordBad>
     requires { is_recordable name ≡ true }
     ensures { GivesUnless fault_of (λ _. stable.new) result (if is_recorded name stable.old.names then Err Twice else Ok (with_name name stable.old)) }
@@ -184,7 +185,7 @@ fn read_u32(bytes: &[u8]) -> Result<(u32, &[u8]), RecordBad>
 
 // ---- writing
 
-/// The record file of a record. It has to have one: at most 65,536 bytes, as `record_length` tells.
+/// The record file of a record. It has to have one: at most 65,536 bytes, as `record_length` says.
 #[tactic(auto, using(crate::proofs::RecordFileLaws::read_again))]
 pub fn record_bytes(alloc: Global, stable: &Record) -> Result<Vec<u8>, AllocError>
     requires { HasFile stable.now }

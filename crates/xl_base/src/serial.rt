@@ -49,7 +49,7 @@ pub trait Serial {
         ensures place { result ≡ first (origin self.now) + length (history self.now) }
         ensures lawful { lawful (origin self.now) (history self.now) };
 
-    /// The halt that the value is in, which may come behind its entries, or None where it isn't halted.
+    /// The halt that the value is in, which may come behind its entries, or None if it isn't halted.
     fn halt(&self) -> Option<Halt>
         ensures halt { result ≡ halt self.now }
         ensures may { IfSome result (λ reason. may_halt (history self.now) reason) };

@@ -18,7 +18,7 @@ pub enum WriteOutcome {
 
 /// Where bytes go. What is written is told, or not.
 pub trait Sink {
-    /// The bytes written so far, where the sink tells them.
+    /// The bytes written so far, if the sink tells them.
     ghost held: { Self → Option (List ℕ) };
 
     /// How many writes have failed; it stops at its last value.
@@ -28,7 +28,7 @@ pub trait Sink {
     fn faults(&self) -> u64
         ensures { result ≡ faults self.now };
 
-    /// Writes the bytes behind those before them. The count rises where the answer is Failed, and nowhere else.
+    /// Writes the bytes behind those before them. The count rises if the answer is Failed, and only then.
     fn write(&mut self, bytes: &[u8]) -> WriteOutcome
         ensures bytes { Writes result bytes.now (held self.old) (held self.new) }
         ensures later { faults self.old ≤ faults self.new }
@@ -88,7 +88,7 @@ impl Sink for MemorySink {
         ensures later { self.old.faults ≤ self.new.faults }
         ensures counts { WriteCounts result self.old.faults self.new.faults }
         ensures after { self.new ≡ after_write result self.new.held self.old }
-        // The writes of its list fail; another does only where memory runs out.
+        // The writes of its list fail; another does only if memory runs out.
         ensures fails { IsTrue (is_failing self.old.failing self.new.calls) → result ≡ WriteOutcome.Failed }
     {
         self.calls = self.calls.saturating_add(1);

@@ -18,7 +18,7 @@ pub enum ReadOutcome {
 
 /// Bytes that come in. What is left is told, or not; then no contract says what a read gives.
 pub trait Source {
-    /// The bytes that are left, where the source tells them.
+    /// The bytes that are left, if the source tells them.
     ghost left: { Self → Option (List ℕ) };
 
     /// How many reads have failed; it stops at its last value.
@@ -28,8 +28,8 @@ pub trait Source {
     fn faults(&self) -> u64
         ensures { result ≡ faults self.now };
 
-    /// Reads into the front of the buffer. End comes only where nothing is left. The count rises where the answer is
-    /// Failed, and nowhere else.
+    /// Reads into the front of the buffer. End comes only if nothing is left. The count rises if the answer is
+    /// Failed, and only then.
     fn read(&mut self, buffer: &mut [u8]) -> ReadOutcome
         requires { 0 < length buffer.old }
         ensures bytes { Reads result buffer.new (left self.old) (left self.new) }

@@ -2,7 +2,7 @@
 ghost use Rattle.std.specs.Prelude.{◌≡◌, [], ◌∷◌, ◌++◌, option_map};
 ghost use Rattle.xl_base.specs.Telling.{Follows};
 
-/// What is told with one thing more at its end; where memory runs out, nothing is told any more.
+/// What is told with one thing more at its end; if memory runs out, nothing is told any more.
 pub(crate) fn told_with<T: Drop>(told: Option<Vec<T>>, item: T) -> Option<Vec<T>>
     ensures { Follows (option_map (λ v. v.items) told) (option_map (λ v. v.items) result) (λ old new. new ≡ old ++ item ∷ []) }
 {

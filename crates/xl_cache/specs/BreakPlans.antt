@@ -43,7 +43,7 @@ with_kind c kind = record { file = c.file; owner = c.owner; party = c.party; wha
 abbrev pub keeps_open : Claim → Claim → Bool
 keeps_open share cache = keeps_handle_by cache.what && ((share.file == cache.file) && same_parties share.party cache.party)
 
--- A share that blocks the ask is covered where its party, which isn't the asker's, has a cache that keeps the handle:
+-- A share that blocks the ask is covered if its party, which isn't the asker's, has a cache that keeps the handle:
 -- told of the break, the party may close the file that it has open only for later use.
 unfoldable pub is_covered : Claim → List Claim → Claim → Bool
 is_covered ask held share = is_share share.what && (not (same_parties share.party ask.party) && list_any (keeps_open share) held)
@@ -109,7 +109,7 @@ recalled_from None (Some begun) = Some begun.0
 recalled_from None None = None
 
 -- the cache whose answer the ask has to wait for: one whose break runs already, else the first that needs an answer;
--- None where the ask need not wait
+-- None if the ask need not wait
 unfoldable pub recalled_by : BreakPlan → Option Claim
 recalled_by p = recalled_from p.awaited (find is_slow p.breaks)
 
@@ -117,7 +117,7 @@ recalled_by p = recalled_from p.awaited (find is_slow p.breaks)
 abbrev pub is_ended : List (Claim × Option CacheKind) → Claim → Bool
 is_ended breaks c = list_any (λ begun. same_claims begun.0 c && not (is_slow begun)) breaks
 
--- what stays of the held claims when the breaks begin: all but the caches that end at once
+-- what stays of the held claims when the breaks begin: all except the caches that end at once
 unfoldable pub left_by : BreakPlan → List Claim → List Claim
 left_by p held = filter (λ c. not (is_ended p.breaks c)) held
 
@@ -127,7 +127,7 @@ left_by p held = filter (λ c. not (is_ended p.breaks c)) held
 abbrev pub is_obstacle : Claim → List Claim → Claim → Bool
 is_obstacle ask held c = is_in_the_way ask (blocking_shares ask held) c
 
--- each such cache is in the plan: its break begins, or where one runs already the ask waits
+-- each such cache is in the plan: its break begins, or if one runs already the ask waits
 pub record NamesAll (ask : Claim) (held : List Claim) (p : BreakPlan) : Type 0 where
   pub begun : (c : Claim) → IsIn c held → is_obstacle ask held c ≡ true → is_running c.what ≡ false → IsIn c (map broken_claim p.breaks)
   pub awaited : (c : Claim) → IsIn c held → is_obstacle ask held c ≡ true → is_running c.what ≡ true → IsSome p.awaited

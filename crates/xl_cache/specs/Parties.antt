@@ -10,7 +10,7 @@ use Rattle.xl_matrix.specs.declared.claim.What.TheVariants.{Cache}
 use Rattle.xl_cache.specs.Targets.{is_delegation}
 use Rattle.xl_cache.specs.BreakPlans.{is_less}
 
--- a lease may be of each kind but the delegations (MS-SMB2 2.2.13.2.8)
+-- a lease may be of each kind except the delegations (MS-SMB2 2.2.13.2.8)
 abbrev pub is_lease_kind : CacheKind → Bool
 is_lease_kind kind = not (is_delegation kind)
 

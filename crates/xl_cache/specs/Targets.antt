@@ -10,7 +10,7 @@ is_delegation ReadDeleg = true
 is_delegation WriteDeleg = true
 is_delegation _ = false
 
--- what a break leaves of each kind: first where a range is asked, then where a share is, last where a share is and the
+-- what a break leaves of each kind: first if a range is asked, then if a share is, last if a share is and the
 -- handle has to go as well
 abbrev pub rests : CacheKind → Option CacheKind × Option CacheKind × Option CacheKind
 rests R = (None, Some R, Some R)
@@ -24,11 +24,11 @@ rests WriteDeleg = (None, None, None)
 abbrev pub loses_handle : Need → Bool
 loses_handle need = need.covered || need.oplock
 
--- what a break leaves, None where it leaves nothing
+-- what a break leaves, None if it leaves nothing
 unfoldable pub target_of : CacheKind → Need → Option CacheKind
 target_of kind need = if need.range then (rests kind).0 else if loses_handle need then (rests kind).2 else (rests kind).1
 
--- the break takes effect once it is answered: each but that of R to none, which is only told (MS-SMB2 3.3.4.6)
+-- the break takes effect once it is answered: each except that of R to none, which is only sent (MS-SMB2 3.3.4.6)
 abbrev pub needs_answer : CacheKind → Option CacheKind → Bool
 needs_answer R None = false
 needs_answer _ _ = true

@@ -41,7 +41,7 @@ joined kind other =
 abbrev pub is_its_cache : Wish → Claim → Bool
 is_its_cache wanted c = is_cache c.what && ((c.file == wanted.file) && same_parties c.party wanted.party)
 
--- the kind may stand beside all that is held but the party's own cache, in whose place it comes
+-- the kind may stand beside all that is held except the party's own cache, in whose place it comes
 abbrev pub may_replace : Wish → List Claim → CacheKind → Bool
 may_replace wanted held kind = list_all (λ c. is_its_cache wanted c || compat (wished_claim wanted kind) c) held
 
@@ -59,8 +59,8 @@ abbrev pub granted_beside : Wish → List Claim → Option Claim → Option Cach
 granted_beside wanted held None = best_of wanted held
 granted_beside wanted held (Some c) = raised_by wanted held c.what
 
--- The kind that the party is to have on the file from now on: where it has no cache there, the first choice that may
--- stand; where it has one, the first join that may, but nothing while its break runs. None where all stays as it is.
+-- The kind that the party is to have on the file from now on: if it has no cache there, the first choice that may
+-- stand; if it has one, the first join that may, but nothing while its break runs. None if all stays as it is.
 unfoldable pub granted_kind : Wish → List Claim → Option CacheKind
 granted_kind wanted held = granted_beside wanted held (find (is_its_cache wanted) held)
 

@@ -11,7 +11,7 @@ use xl_matrix::{CacheKind, Claim, What};
 /// The breaks that an ask begins, and whether it waits for one that runs.
 #[derive(Drop)]
 pub struct BreakPlan {
-    /// The caches that the ask breaks, each with what the break leaves of it, None where it leaves nothing; in the order
+    /// The caches that the ask breaks, each with what the break leaves of it, None if it leaves nothing; in the order
     /// in which they are held.
     pub breaks: Sequence<(Claim, Option<CacheKind>)>,
     /// The first held cache whose break runs already and whose answer the ask has to wait for, if there is one.
@@ -58,7 +58,7 @@ fn find_recalled(plan: &BreakPlan) -> Option<Claim>
 }
 
 /// The cache whose answer the ask has to wait for: the awaited one, else the first whose break begins now and needs an
-/// answer. None where the ask need not wait: every break of the plan then takes effect as it is told. It takes no
+/// answer. None if the ask need not wait: every break of the plan then takes effect as it is sent. It takes no
 /// memory.
 pub fn recalled(plan: &BreakPlan) -> Option<Claim>
     ensures is { result ≡ recalled_by plan.now }

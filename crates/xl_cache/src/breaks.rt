@@ -56,7 +56,7 @@ fn has_keeper(share: &Claim, held: &[Claim]) -> bool
 
 /// Whether a share that blocks the ask is covered: its party, another than the asker's, has a cache on the file that
 /// keeps the handle. The break of that cache may make way, as its party may close what it has open only for later use
-/// (MS-FSA 2.1.4.12). Other blockers but caches never make way. It takes no memory.
+/// (MS-FSA 2.1.4.12). Blockers other than caches never make way. It takes no memory.
 #[tactic(auto, unfolding(crate::specs::BreakPlans::is_covered))]
 pub fn is_share_covered(ask: &Claim, held: &[Claim], share: &Claim) -> bool
     ensures { result ≡ is_covered ask.now held.now share.now }

@@ -21,8 +21,8 @@ pub fn lease_kinds_have_states()
     ensures shown { (state : ℕ) (kind : CacheKind) → kind_of_state state ≡ Some kind → state_of (Some kind) ≡ state }
 {}
 
-/// Breaks and wishes keep to the kinds that the party's protocol has: what a break leaves of a cache is nothing or such a
-/// kind, where the need says of an oplock that it is one, and the least kind with two such kinds is one.
+/// Breaks and wishes keep to the kinds that the party's protocol has: what a break leaves of a cache is nothing or such
+/// a kind, if the need says of an oplock that it is one, and the least kind with two such kinds is one.
 pub fn kinds_go_by_party()
     ensures broken { (p : Party) (kind : CacheKind) (need : Need) → is_kind_of p kind ≡ true → need.oplock ≡ is_oplock p → is_rest_of p (target_of kind need) ≡ true }
     ensures joined { (p : Party) (kind other : CacheKind) → is_kind_of p kind ≡ true → is_kind_of p other ≡ true → IfSome (joined kind other) (λ whole. is_kind_of p whole ≡ true) }

@@ -20,7 +20,7 @@ pub fn lease_state(kind: Option<CacheKind>) -> u32
     }
 }
 
-/// The kind of a lease state; None where the state is not 1, 3, 5 or 7.
+/// The kind of a lease state; None if the state is not 1, 3, 5 or 7.
 #[tactic(auto, unfolding(crate::specs::Levels::kind_of_state))]
 pub fn kind_in_lease(state: u32) -> Option<CacheKind>
     ensures { result ≡ kind_of_state state }

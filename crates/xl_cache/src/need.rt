@@ -9,7 +9,7 @@ use xl_matrix::{CacheKind, kind_within};
 /// Why a cache of another party is broken.
 #[derive(Clone, Copy)]
 pub struct Need {
-    /// A byte range is asked for; where this is false, a share is.
+    /// A byte range is asked for; if this is false, a share is.
     pub range: bool,
     /// The cache covers a share that blocks the ask.
     pub covered: bool,
@@ -17,9 +17,9 @@ pub struct Need {
     pub oplock: bool,
 }
 
-/// What a break leaves of a cache, None where it leaves nothing (MS-FSA 2.1.4.12, RFC 7530 10.4.4):
+/// What a break leaves of a cache, None if it leaves nothing (MS-FSA 2.1.4.12, RFC 7530 10.4.4):
 ///
-/// | kind | for a range | for a share | for a share, where an oplock is broken or the cache covers a blocking share |
+/// | kind | for a range | for a share | for a share, if an oplock is broken or the cache covers a blocking share |
 /// |---|---|---|---|
 /// | R | none | R | R |
 /// | RH | none | RH | R |
@@ -50,7 +50,7 @@ pub fn target(kind: CacheKind, need: Need) -> Option<CacheKind>
 }
 
 /// Whether a break of this kind to this target takes effect only once its party has answered. Only R to none does not:
-/// its party is told, and the cache has ended (MS-SMB2 3.3.4.6). It takes no memory.
+/// its party is sent the break, and the cache has ended (MS-SMB2 3.3.4.6). It takes no memory.
 pub fn answer_needed(kind: CacheKind, target: Option<CacheKind>) -> bool
     ensures { result ≡ needs_answer kind target }
 {

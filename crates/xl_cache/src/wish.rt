@@ -61,7 +61,7 @@ fn first_choice(wanted: &Wish, held: &[Claim]) -> Option<CacheKind>
 }
 
 /// What a party gets that has no cache on the file: the first of its choices that may stand beside all that is held;
-/// None where none may (RFC 7530 10.4, MS-SMB2 3.3.5.9). It takes no memory.
+/// None if none may (RFC 7530 10.4, MS-SMB2 3.3.5.9). It takes no memory.
 pub fn best(wanted: &Wish, held: &[Claim]) -> Option<CacheKind>
     ensures first { result ≡ best_of wanted.now held.now }
     ensures some { IfSome result (λ kind. IsIn kind wanted.now.kinds × (may_stand wanted.now held.now kind ≡ true)) }
@@ -91,7 +91,7 @@ fn least_join(kind: CacheKind, other: CacheKind) -> Option<CacheKind>
 }
 
 /// The least kind that both lie within: what a lease holds that keeps what it has and gets the other kind as well
-/// (MS-SMB2 3.3.5.9.8). None where there is no such kind, as for a delegation and a lease. It takes no memory.
+/// (MS-SMB2 3.3.5.9.8). None if there is no such kind, as for a delegation and a lease. It takes no memory.
 pub fn join(kind: CacheKind, other: CacheKind) -> Option<CacheKind>
     ensures table { result ≡ joined kind other }
     ensures above { IfSome result (λ least. (kind_lies_within kind least ≡ true) × (kind_lies_within other least ≡ true)) }
@@ -136,7 +136,7 @@ fn first_join(wanted: &Wish, kind: CacheKind, held: &[Claim]) -> Option<CacheKin
 }
 
 /// What a party gets that has a cache of this kind on the file: of its choices, each joined with that kind, the first
-/// that may stand beside all that is held but that cache; None where none may, and then the cache stays. It takes no
+/// that may stand beside all that is held except that cache; None if none may, and then the cache stays. It takes no
 /// memory.
 pub fn best_join(wanted: &Wish, kind: CacheKind, held: &[Claim]) -> Option<CacheKind>
     ensures first { result ≡ best_join_of wanted.now kind held.now }
@@ -145,7 +145,7 @@ pub fn best_join(wanted: &Wish, kind: CacheKind, held: &[Claim]) -> Option<Cache
     first_join(wanted, kind, held)
 }
 
-/// The cache that the wish's party has on the file, the first of these where there are more. It takes no memory.
+/// The cache that the wish's party has on the file, the first of these if there are more. It takes no memory.
 pub fn find_own_cache(wanted: &Wish, held: &[Claim]) -> Option<Claim>
     ensures { result ≡ find (is_its_cache wanted.now) held.now }
 {
@@ -177,8 +177,8 @@ fn new_kind(wanted: &Wish, held: &[Claim]) -> Option<CacheKind>
 }
 
 /// The kind of the cache that the party is to have on the file from now on, if the wish changes that: the best of its
-/// choices where it has none there, the best join where it has one whose break does not run. It may stand beside all
-/// that is held but the party's own cache, in whose place it comes, and is no less than that. It takes no memory.
+/// choices if it has none there, the best join if it has one whose break does not run. It may stand beside all
+/// that is held except the party's own cache, in whose place it comes, and is no less than that. It takes no memory.
 pub fn kind_for(wanted: &Wish, held: &[Claim]) -> Option<CacheKind>
     ensures is { result ≡ granted_kind wanted.now held.now }
     ensures stands { IfSome result (λ kind. may_replace wanted.now held.now kind ≡ true) }

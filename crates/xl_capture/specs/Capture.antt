@@ -20,7 +20,7 @@ use Rattle.xl_capture.specs.declared.capture.CaptureError.TheVariants as errors
 use Rattle.xl_capture.specs.declared.capture.LineError.{LineError}
 use Rattle.xl_capture.specs.declared.capture.LineError.TheVariants as line
 
--- what stands behind the last line end is a line where there is anything
+-- what stands behind the last line end is a line if there is anything
 abbrev pub last_line : List ℕ → List (List ℕ)
 last_line [] = []
 last_line (b ∷ bs) = (b ∷ bs) ∷ []
@@ -79,7 +79,7 @@ most_bytes = 268435456
 abbrev pub most_files : ℕ
 most_files = 1024
 
--- how long leases, grace and breaks last where nothing is said of it, and the longest that may be said, in milliseconds
+-- how long leases, grace and breaks last if nothing is said of it, and the longest that may be said, in milliseconds
 abbrev pub default_lease : ℕ
 default_lease = 90000
 
@@ -92,7 +92,7 @@ default_break = 35000
 abbrev pub longest_time : ℕ
 longest_time = 4000000000
 
--- what is known where nothing is read: no file, no address, the default times, no event, nothing open
+-- what is known if nothing is read: no file, no address, the default times, no event, nothing open
 abbrev pub no_lines : Capture
 no_lines = record { files = []; addresses = []; lease = default_lease; grace = default_grace; break_time = default_break; events = [] }
 
@@ -137,7 +137,7 @@ with_host r hex address = option_and_then (λ caller. with_address r caller addr
 abbrev pub time_of : List ℕ → Option ℕ
 time_of word = option_and_then (λ n. if nat_le 1 n && nat_le n longest_time then Some n else None) (number_of word)
 
--- with these times, where no event line stands before them, and no times
+-- with these times, if no event line stands before them, and no times
 abbrev pub with_times : Reading → ℕ → ℕ → ℕ → Option Reading
 with_times r lease grace break_time =
     if r.begun || r.timed then None
@@ -156,7 +156,7 @@ with_events r events links = record r { capture = record r.capture { events = r.
 abbrev pub kind_of : List ℕ → Option Kind
 kind_of word = if bytes_eq word (codes "rpc") then Some Rpc else if bytes_eq word (codes "smb") then Some Smb else None
 
--- with one connection more, of the number of its opening's place; none where as many are open as may be
+-- with one connection more, of the number of its opening's place; none if as many are open as may be
 abbrev pub with_link : List Link → ℕ → Kind → List Link
 with_link links place kind = if nat_lt (length links) most_connections then links ++ opened place kind ∷ [] else links
 
@@ -177,7 +177,7 @@ abbrev pub with_stream : Reading → List Link → Option Link → List ℕ → 
 with_stream r others None bytes = with_events r [] others
 with_stream r others (Some l) bytes = with_frames r others l (framed l bytes)
 
--- with bytes that come by the connection of this number; nothing happens where it isn't open
+-- with bytes that come by the connection of this number; nothing happens if it isn't open
 unfoldable pub with_piece : Reading → ℕ → List ℕ → Reading
 with_piece r conn bytes = with_stream r (without conn r.links) (link_of conn r.links) bytes
 
@@ -190,7 +190,7 @@ abbrev pub with_last : Reading → List Link → Option Link → Reading
 with_last r others None = with_events r [] others
 with_last r others (Some l) = with_events r (End l.conn ∷ []) others
 
--- with the end of the connection of this number, where it is open
+-- with the end of the connection of this number, if it is open
 unfoldable pub with_ended : Reading → ℕ → Reading
 with_ended r conn = with_last r (without conn r.links) (link_of conn r.links)
 
@@ -236,7 +236,7 @@ abbrev pub is_passed_over : List ℕ → Bool
 is_passed_over [] = true
 is_passed_over (b ∷ bs) = b == 35
 
--- with one line more; none where it isn't in the grammar
+-- with one line more; none if it isn't in the grammar
 unfoldable pub with_line : Reading → List ℕ → Option Reading
 with_line r line = if is_passed_over line then Some r else with_words r (words_of line)
 

@@ -40,7 +40,7 @@ end_of conn bad = if is_none bad then [] else End conn ∷ []
 abbrev pub events_of : ℕ → Framed → List Event
 events_of conn f = map (Message conn) f.frames ++ end_of conn f.bad
 
--- the connection behind these frames, where it is open still
+-- the connection behind these frames, if it is open still
 abbrev pub still_open : Link → Framed → Option Link
 still_open l f = if is_none f.bad then Some (record l { rest = f.rest }) else None
 

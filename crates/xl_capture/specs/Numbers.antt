@@ -6,7 +6,7 @@ use Rattle.std.specs.Option.{option_and_then}
 abbrev pub is_digit : ℕ → Bool
 is_digit b = nat_le 48 b && nat_le b 57
 
--- the number with one decimal digit more at its end; none where the byte is no digit, or from 2 ^ 64 on
+-- the number with one decimal digit more at its end; none if the byte is no digit, or from 2 ^ 64 on
 abbrev pub with_digit : ℕ → ℕ → Option ℕ
 with_digit n b = if is_digit b && nat_lt (n * 10 + (b - 48)) (2 ^ 64) then Some (n * 10 + (b - 48)) else None
 

@@ -1,4 +1,4 @@
--- Claims as the transcript tells them.
+-- Claims as the transcript shows them.
 use Rattle.std.specs.Prelude.{ℕ, ◌||◌, Bool, true, false, if◌then◌else◌, List, [], ◌∷◌, ◌++◌, codes, Option, Some, None}
 use Rattle.std.specs.Fmt.{decimal}
 use Rattle.std.specs.Ordering.{nat_cmp, is_lt, ordering_then}
@@ -71,12 +71,12 @@ class_word (Share access deny) = codes "share"
 class_word (Range extent exclusive) = codes "range"
 class_word (Cache kind running) = codes "cache"
 
--- a letter where its right is there
+-- a letter if its right is there
 abbrev pub letter_if : Bool → List ℕ → List ℕ
 letter_if true letter = letter
 letter_if false letter = []
 
--- the letters of an access or of what is denied, a dash where there is none
+-- the letters of an access or of what is denied, a dash if there is none
 abbrev pub letters : Rwd → List ℕ
 letters a = if a.r || a.w || a.d then letter_if a.r (codes "r") ++ letter_if a.w (codes "w") ++ letter_if a.d (codes "d") else codes "-"
 

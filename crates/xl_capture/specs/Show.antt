@@ -1,4 +1,4 @@
--- What `show` tells of the messages in a text, a line for each.
+-- What `show` says of the messages in a text, a line for each.
 use Rattle.std.specs.Prelude.{ℕ, zero, suc, ◌+◌, ◌-◌, ◌^◌, Bool, true, false, ◌==◌, ◌&&◌, ◌||◌, nat_le, nat_lt, if◌then◌else◌, List, [], ◌∷◌, ◌++◌, length, codes, bytes_eq, Option, Some, None, Result, Ok, Err}
 use Rattle.std.specs.Fmt.{decimal}
 use Rattle.std.specs.Int.{w32, to_be_bytes}
@@ -29,7 +29,7 @@ bad_text fault = codes "bad " ++ decimal fault
 
 -- ---- calls: the word that a call's line ends with
 
--- what was read is all, where nothing may stand behind it (SHOW-3)
+-- what was read is all, if nothing may stand behind it (SHOW-3)
 abbrev pub whole_word : List ℕ → List ℕ
 whole_word [] = codes "ok"
 whole_word (b ∷ bs) = codes "bad"
@@ -53,12 +53,12 @@ is_unlisted (NotSupported n) = true
 is_unlisted (Illegal n) = true
 is_unlisted _ = false
 
--- what follows an operation that was read; nothing where it can't be
+-- what follows an operation that was read; nothing if it can't be
 abbrev pub op_then : (OpItem → List ℕ → Option (List ℕ)) → Result (OpItem × List ℕ) RpcBad → Option (List ℕ)
 op_then more (Ok x) = more x.0 x.1
 op_then more (Err fault) = None
 
--- These numbers, and those of so many operations more: the first unlisted one is the last that is looked at. None where
+-- These numbers, and those of so many operations more: the first unlisted one is the last that is looked at. None if
 -- one can't be read.
 unfoldable pub ops_from : List ℕ → ℕ → List ℕ → Option (List ℕ)
 ops_from numbers zero bytes = Some numbers
@@ -70,7 +70,7 @@ abbrev pub more_ops : List ℕ → List ℕ
 more_ops [] = []
 more_ops (n ∷ ns) = codes "," ++ decimal n ++ more_ops ns
 
--- numbers parted by commas, with a blank before them; nothing where there are none
+-- numbers parted by commas, with a blank before them; nothing if there are none
 abbrev pub ops_text : List ℕ → List ℕ
 ops_text [] = []
 ops_text (n ∷ ns) = codes " " ++ decimal n ++ more_ops ns
@@ -98,7 +98,7 @@ call_word h bytes =
 
 -- ---- ONC RPC
 
--- what is told of a call
+-- what is said of a call
 unfoldable pub call_text : HeadItem → List ℕ → List ℕ
 call_text h bytes = codes "call " ++ decimal h.xid ++ codes " " ++ decimal h.prog ++ codes " " ++ decimal h.vers ++ codes " " ++ decimal h.proc ++ codes " " ++ call_word h bytes
 
@@ -174,7 +174,7 @@ rpc_line bytes = rpc_text bytes ++ codes "\n"
 abbrev pub smb_line : List ℕ → List ℕ
 smb_line bytes = smb_text bytes ++ codes "\n"
 
--- the line out of a line's words, `rpc HEX` or `smb HEX`; none where they are others
+-- the line out of a line's words, `rpc HEX` or `smb HEX`; none if they are others
 unfoldable pub show_words : List (List ℕ) → Option (List ℕ)
 show_words (a ∷ b ∷ []) =
     if bytes_eq a (codes "rpc") then option_map rpc_line (bytes_of b)
@@ -182,7 +182,7 @@ show_words (a ∷ b ∷ []) =
     else None
 show_words words = None
 
--- The line out of a line, with its line feed; no bytes where it is passed over, none where it isn't in the grammar.
+-- The line out of a line, with its line feed; no bytes if it is passed over, none if it isn't in the grammar.
 unfoldable pub show_line : List ℕ → Option (List ℕ)
 show_line line = if is_passed_over line then Some [] else show_words (words_of line)
 

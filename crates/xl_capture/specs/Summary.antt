@@ -44,12 +44,12 @@ abbrev pub sent_status : Dest → List ℕ → Option NlmStatus
 sent_status (Conn number) bytes = framed_status bytes
 sent_status (Back call) bytes = None
 
--- the status, or where there is none the other one
+-- the status, or if there is none the other one
 abbrev pub or_status : Option NlmStatus → Option NlmStatus → Option NlmStatus
 or_status None other = other
 or_status (Some status) other = Some status
 
--- the first status that is told by what an entry sends (MAKE-1)
+-- the first status in what an entry sends (MAKE-1)
 abbrev pub told_status : List Out → Option NlmStatus
 told_status [] = None
 told_status (o ∷ os) = or_status (sent_status o.dest o.bytes) (told_status os)
@@ -64,7 +64,7 @@ abbrev pub is_denied : Option NlmStatus → Bool
 is_denied (Some stats.Denied) = true
 is_denied _ = false
 
--- how many of the entries tell that a call was granted (status 0), and that it was denied (status 1)
+-- how many of the entries answer that a call was granted (status 0), and that it was denied (status 1)
 abbrev pub granted : List Entry → ℕ
 granted es = count_by (λ e. is_granted (told_status e.outs)) es
 

@@ -74,7 +74,7 @@ impl Addresses {
     }
 }
 
-/// Enters a name behind those before it, where it is new.
+/// Enters a name behind those before it, if it is new.
 fn enter(callers: &mut IndexSet<Sequence<u8>>, name: Sequence<u8>) -> Result<(), AllocError>
     requires new { list_any (bytes_eq name) callers.old.keys ≡ false }
     ensures ok { OnOk result (callers.new.keys ≡ callers.old.keys ++ name ∷ []) }

@@ -18,13 +18,13 @@ pub const MOST_BYTES: usize = 268435456;
 /// The most files of a capture.
 const MOST_FILES: usize = 1024;
 
-/// How long a lease lasts where nothing is said of it, in milliseconds.
+/// How long a lease lasts if nothing is said of it, in milliseconds.
 pub const DEFAULT_LEASE: u64 = 90_000;
 
-/// How long grace lasts where nothing is said of it, in milliseconds.
+/// How long grace lasts if nothing is said of it, in milliseconds.
 pub const DEFAULT_GRACE: u64 = 90_000;
 
-/// How long a break lasts where nothing is said of it, in milliseconds.
+/// How long a break lasts if nothing is said of it, in milliseconds.
 pub const DEFAULT_BREAK: u64 = 35_000;
 
 /// The longest time that may be said, in milliseconds.
@@ -98,7 +98,7 @@ ghost use Rattle.xl_capture.specs.Capture.{is_line_end, lines_of, words_of, is_n
 ghost use Rattle.xl_capture.specs.Numbers.{number_of};
 
 #[tactic(auto, using(crate::proofs::LineLaws::first_line, crate::proofs::LineLaws::only_line))]
-/// The first line of a text and what comes after its end, or None where there is no line.
+/// The first line of a text and what comes after its end, or None if there is no line.
 pub(crate) fn next_line(text: &[u8]) -> Option<(&[u8], &[u8])>
     ensures lines { MatchOption result (text.now ≡ []) (λ p. lines_of text.now ≡ p.0.now ∷ lines_of p.1.now) }
     ensures shorter { IfSome result (λ p. length p.1.now < length text.now) }
@@ -257,7 +257,7 @@ fn time_of(word: &[u8]) -> Option<u64>
     }
 }
 
-/// Adds the times, where none stood.
+/// Adds the times, if none stood.
 fn add_times(
     reading: &mut Reading,
     lease: u64,
@@ -363,7 +363,7 @@ fn add_bytes(alloc: Global, reading: &mut Reading, conn: &[u8], hex: &[u8]) -> R
     add_piece(alloc, reading, conn, &bytes)
 }
 
-/// Adds the end of the connection of this number, where it is open.
+/// Adds the end of the connection of this number, if it is open.
 #[tactic(auto, unfolding(crate::specs::Capture::with_ended))]
 fn add_ended(reading: &mut Reading, conn: u64) -> Result<(), LineError>
     ensures { Follows result (Some (with_ended reading.old conn)) reading.new }
@@ -455,7 +455,7 @@ fn add_words(alloc: Global, reading: &mut Reading, words: &[&[u8]]) -> Result<()
     }
 }
 
-/// The first words of a line: as many as tell whether it is in the grammar, where no line has more than four.
+/// The first words of a line: as many as tell whether it is in the grammar, in which no line has more than four.
 pub(crate) fn words_of(alloc: Global, line: &[u8]) -> Result<Vec<&[u8]>, AllocError>
     ensures { IfOk result (λ v. map (λ w. w.now) v.items ≡ take 5 (words_of line.now)) }
 {

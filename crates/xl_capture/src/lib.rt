@@ -1,4 +1,4 @@
-//! The texts of captures and transcripts, and what `show` tells of messages.
+//! The texts of captures and transcripts, and what `show` says of messages.
 #![tactic(auto)]
 
 mod addresses;

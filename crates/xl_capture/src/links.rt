@@ -62,7 +62,7 @@ fn cut(alloc: Global, cutter: &mut Cutter, bytes: &[u8]) -> Result<bool, AllocEr
     }
 }
 
-/// Adds the end of a connection where a frame is bad.
+/// Adds the end of a connection if a frame is bad.
 fn add_end(conn: u64, good: bool, events: &mut Sequence<Event>) -> Result<(), AllocError>
     ensures { OnOk result (events.new ≡ events.old ++ (if good then [] else End conn ∷ [])) }
 {
@@ -91,7 +91,7 @@ impl Link {
     }
 
     /// Takes the next bytes of its stream, and adds what they come to to the events: a message for each frame that is
-    /// whole now, and its end where a frame is bad. The connection is given back where it is open still.
+    /// whole now, and its end if a frame is bad. The connection is given back if it is open still.
     pub fn feed(
         self,
         alloc: Global,

@@ -9,7 +9,7 @@ fn has_leading_zero(word: &[u8]) -> bool
     matches!(word, [b'0', _, ..])
 }
 
-/// The number with one decimal digit more at its end; None where the byte is no digit, or from 2^64 on.
+/// The number with one decimal digit more at its end; None if the byte is no digit, or from 2^64 on.
 fn with_digit(number: u64, byte: u8) -> Option<u64>
     ensures { result ≡ with_digit number byte }
 {

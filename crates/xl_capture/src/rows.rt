@@ -1,4 +1,4 @@
-//! Claims as the transcript tells them.
+//! Claims as the transcript shows them.
 ghost use Rattle.std.specs.Prelude.{◌≡◌, ◌++◌, OnOk, IfOk, string_bytes};
 ghost use Rattle.xl_capture.specs.Rows.{holder_text, row_of, class_of, range_key, row_cmp, class_word, letters, extent_words, kind_word, target_word, break_words, what_words, row_line};
 
@@ -9,7 +9,7 @@ use xl_base::Sequence;
 use xl_matrix::{Break, CacheKind, Claim, Extent, Rwd, What};
 use xl_names::{Names, owner_text, party_text};
 
-/// A claim as the transcript tells it.
+/// A claim as the transcript shows it.
 #[derive(Drop)]
 pub struct Row {
     /// The file's number.
@@ -93,7 +93,7 @@ fn class_word(what: What) -> &'static str
     }
 }
 
-/// The letters of an access or of what is denied, a dash where there is none.
+/// The letters of an access or of what is denied, a dash if there is none.
 fn letters(access: Rwd) -> &'static str
     ensures { result.now ≡ letters access }
 {

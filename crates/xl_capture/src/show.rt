@@ -23,7 +23,7 @@ use xl_programs::{NFS, NFS_VERSION, NLM, NLM_VERSION};
 use xl_rpc::{Call, CallHead, Reply, RpcBad, Verdict, Xdr, read_call, read_reply};
 use xl_smb::{Command, SmbHead, SmbMessage};
 
-/// Adds what is told of a message that can't be read.
+/// Adds what is said of a message that can't be read.
 fn put_bad(text: &mut String, fault: u32) -> Result<(), AllocError>
     ensures { OnOk result (string_bytes text.new ≡ string_bytes text.old ++ bad_text fault) }
 {
@@ -31,7 +31,7 @@ fn put_bad(text: &mut String, fault: u32) -> Result<(), AllocError>
     Ok(())
 }
 
-/// Adds the word of arguments that were read, where nothing may be left behind them.
+/// Adds the word of arguments that were read, if nothing may be left behind them.
 fn put_whole(text: &mut String, left: &[u8]) -> Result<(), AllocError>
     ensures { OnOk result (string_bytes text.new ≡ string_bytes text.old ++ whole_word left.now) }
 {
@@ -73,7 +73,7 @@ fn is_unlisted(op: &NfsOp) -> bool
     matches!(op, NfsOp::NotSupported(_) | NfsOp::Illegal(_))
 }
 
-/// The numbers of so many operations, up to the first that isn't listed; None where one can't be read.
+/// The numbers of so many operations, up to the first that isn't listed; None if one can't be read.
 #[tactic(auto, using(crate::proofs::ShowLaws::no_op, crate::proofs::ShowLaws::cut_op, crate::proofs::ShowLaws::last_op, crate::proofs::ShowLaws::next_op))]
 fn ops_of(alloc: Global, count: u32, args: &Xdr) -> Result<Option<Vec<u32>>, AllocError>
     ensures { IfOk result (λ o. option_map (λ v. v.items) o ≡ ops_from [] count args.now.rest.now) }
@@ -104,7 +104,7 @@ fn put_more_ops(text: &mut String, numbers: &[u32]) -> Result<(), AllocError>
     Ok(())
 }
 
-/// Adds numbers parted by commas, with a blank before them where there are some.
+/// Adds numbers parted by commas, with a blank before them if there are some.
 fn put_ops(text: &mut String, numbers: &[u32]) -> Result<(), AllocError>
     ensures { OnOk result (string_bytes text.new ≡ string_bytes text.old ++ ops_text numbers.now) }
 {
@@ -167,7 +167,7 @@ fn put_call_word(
     Ok(())
 }
 
-/// Adds what is told of a call.
+/// Adds what is said of a call.
 #[tactic(auto, unfolding(crate::specs::Show::call_text))]
 fn put_call(alloc: Global, text: &mut String, call: &Call) -> Result<(), AllocError>
     ensures { OnOk result (string_bytes text.new ≡ string_bytes text.old ++ call_text (shown_head call.now.head) call.now.args.rest.now) }
@@ -181,7 +181,7 @@ fn put_call(alloc: Global, text: &mut String, call: &Call) -> Result<(), AllocEr
     Ok(())
 }
 
-/// Adds what is told of a reply.
+/// Adds what is said of a reply.
 #[tactic(auto, unfolding(crate::specs::Show::reply_text))]
 fn put_reply(text: &mut String, xid: u32, verdict: Verdict) -> Result<(), AllocError>
     ensures { OnOk result (string_bytes text.new ≡ string_bytes text.old ++ reply_text xid verdict) }
@@ -207,7 +207,7 @@ fn is_reply(bytes: &[u8]) -> bool
     }
 }
 
-/// Adds what is told of a message of ONC RPC.
+/// Adds what is said of a message of ONC RPC.
 #[tactic(auto, unfolding(crate::specs::Show::rpc_text))]
 fn put_rpc(alloc: Global, text: &mut String, bytes: &[u8]) -> Result<(), AllocError>
     ensures { OnOk result (string_bytes text.new ≡ string_bytes text.old ++ rpc_text bytes.now) }
@@ -226,7 +226,7 @@ fn put_rpc(alloc: Global, text: &mut String, bytes: &[u8]) -> Result<(), AllocEr
     Ok(())
 }
 
-/// Adds what is told of a header of SMB.
+/// Adds what is said of a header of SMB.
 #[tactic(auto, unfolding(crate::specs::Show::head_text))]
 fn put_head(
     alloc: Global,
@@ -252,14 +252,14 @@ fn is_other(head: &SmbHead) -> bool
     Command::of(head.command).is_none()
 }
 
-/// The same of a reply's header: CANCEL has none but the error form.
+/// The same of a reply's header: CANCEL has none except the error form.
 fn is_other_reply(head: &SmbHead) -> bool
     ensures { result ≡ is_other_reply head.now }
 {
     is_other(head) || (head.command == 12 && head.status == 0)
 }
 
-/// Adds what is told of a message of SMB.
+/// Adds what is said of a message of SMB.
 #[tactic(auto, unfolding(crate::specs::Show::message_text))]
 fn put_message(alloc: Global, text: &mut String, message: &SmbMessage) -> Result<(), AllocError>
     ensures { OnOk result (string_bytes text.new ≡ string_bytes text.old ++ message_text (shown_message message.now)) }
@@ -283,7 +283,7 @@ fn put_message(alloc: Global, text: &mut String, message: &SmbMessage) -> Result
     Ok(())
 }
 
-/// Adds what is told of the bytes of a message of SMB.
+/// Adds what is said of the bytes of a message of SMB.
 fn put_smb(alloc: Global, text: &mut String, bytes: &[u8]) -> Result<(), AllocError>
     ensures { OnOk result (string_bytes text.new ≡ string_bytes text.old ++ smb_text bytes.now) }
 {
@@ -354,13 +354,13 @@ fn line_shown(alloc: Global, line: &[u8]) -> Result<Vec<u8>, LineError>
     show_words(alloc, &words)
 }
 
-/// The line out of a line `rpc HEX` or `smb HEX`, a message without its frame: no bytes where the line is passed over
-/// (empty, or a comment), None where it isn't in the grammar. It fails only where memory runs out.
+/// The line out of a line `rpc HEX` or `smb HEX`, a message without its frame: no bytes if the line is passed over
+/// (empty, or a comment), None if it isn't in the grammar. It fails only if memory runs out.
 ///
-/// A call of ONC RPC (RFC 5531 9) is told as `call XID PROG VERS PROC WORD`, an accepted reply as `reply XID STAT`, a
-/// denied one as `denied XID`; what can't be read as `bad N`, with its fault's number. A message of SMB is told as
-/// `smb COMMAND STATUS MESSAGEID WORD`, the status in eight hex digits, or as `bad N`. WORD is `ok`, `bad` where a call's
-/// arguments can't be read or have bytes behind them, or `other` where no layout is known. Of a COMPOUND `ok` is followed
+/// A call of ONC RPC (RFC 5531 9) is shown as `call XID PROG VERS PROC WORD`, an accepted reply as `reply XID STAT`, a
+/// denied one as `denied XID`; what can't be read as `bad N`, with its fault's number. A message of SMB is shown as
+/// `smb COMMAND STATUS MESSAGEID WORD`, the status in eight hex digits, or as `bad N`. WORD is `ok`, `bad` if a call's
+/// arguments can't be read or have bytes behind them, or `other` if no layout is known. Of a COMPOUND `ok` is followed
 /// by the numbers of its operations, up to the first whose layout isn't known; bytes behind them are passed over.
 pub fn show_line(alloc: Global, line: &[u8]) -> Result<Option<Vec<u8>>, AllocError>
     ensures { IfOk result (λ o. option_map (λ v. v.items) o ≡ show_line line.now) }

@@ -48,7 +48,7 @@ fn framed_status(bytes: &[u8]) -> Option<NlmStatus>
     }
 }
 
-/// The status that an out tells. A call to a client tells none.
+/// The status in an out. A call to a client has none.
 fn sent_status(out: &Out) -> Option<NlmStatus>
     ensures { result ≡ sent_status out.now.dest out.now.bytes }
 {
@@ -58,7 +58,7 @@ fn sent_status(out: &Out) -> Option<NlmStatus>
     }
 }
 
-/// The first status that outs tell.
+/// The first status in outs.
 fn told_status(outs: &[Out]) -> Option<NlmStatus>
     ensures { result ≡ told_status outs.now }
 {
@@ -82,7 +82,7 @@ fn is_denied(status: Option<NlmStatus>) -> bool
     matches!(status, Some(NlmStatus::Denied))
 }
 
-/// Counts the calls that entries tell as granted and as denied.
+/// Counts the calls that entries answer as granted and as denied.
 fn counted(entries: &[Entry]) -> Tally
     ensures { (result.granted ≡ granted entries.now) × (result.denied ≡ denied entries.now) }
 {

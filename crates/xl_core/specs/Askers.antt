@@ -24,7 +24,7 @@ use Rattle.xl_core.specs.declared.ask.Ask.{Ask}
 
 -- ---- a client
 
--- the party of a client's name, where the name is kept
+-- the party of a client's name, if the name is kept
 abbrev pub party_named : List Name → Name → Option Party
 party_named names client = option_map (λ number. parties.Name (protocol_of client) number) (number_of client names)
 
@@ -74,7 +74,7 @@ abbrev pub alone : List What → Option What
 alone (what ∷ []) = Some what
 alone _ = None
 
--- the same, where it is one thing
+-- the same, if it is one thing
 abbrev pub asked_what : Act → Option What
 asked_what act = alone (asked_whats act)
 
@@ -139,7 +139,7 @@ abbrev pub is_named : Who → Bool
 is_named (Named name) = true
 is_named (Open number) = false
 
--- a share may be anyone's; a range with bytes one's who has a name, or an SMB open's where it hasn't all bytes; an empty
+-- a share may be anyone's; a range with bytes one's who has a name, or an SMB open's if it hasn't all bytes; an empty
 -- range is an SMB open's alone
 abbrev pub may_hold : Who → What → Bool
 may_hold who (whats.Share access deny) = true
@@ -190,8 +190,8 @@ abbrev pub may_have : Who → CacheKind → Bool
 may_have (Named name) kind = is_kind_of (parties.Name (protocol_of name) no_number) kind
 may_have (Open number) kind = is_kind_of (parties.Open number) kind
 
--- it may wish for one, where it waits or not: an NFSv4 client that wishes for a delegation never waits (RFC 7530 16.16.5)
--- (CACHE-10)
+-- it may wish for one, whether it waits or not: an NFSv4 client that wishes for a delegation never waits (RFC 7530
+-- 16.16.5) (CACHE-10)
 abbrev pub may_wish_for : Who → Bool → CacheKind → Bool
 may_wish_for who waits kind = may_have who kind && not (waits && is_delegation kind)
 

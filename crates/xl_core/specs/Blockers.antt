@@ -38,6 +38,6 @@ cache_in p = cache_by p.awaited p.breaks
 unfoldable pub cache_against : List Claim → Claim → Option Claim
 cache_against held ask = cache_in (planned ask held)
 
--- what a test is told of: ranges alone (CORE-4)
+-- what the answer to a test names: ranges alone (CORE-4)
 unfoldable pub test_blockers : CoreState → Claim → List Claim
 test_blockers s ask = filter (λ held. is_range held.what) (filter (λ held. blocks ask held) s.claims)

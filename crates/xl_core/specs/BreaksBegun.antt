@@ -1,4 +1,4 @@
--- What the claims are once the breaks begin that an ask begins, and what is told of these.
+-- What the claims are once the breaks of an ask begin, and the effects of these.
 use Rattle.std.specs.Prelude.{ℕ, ◌+◌, ◌==◌, Bool, true, false, not, ◌&&◌, option_map, if◌then◌else◌, List, [], ◌∷◌, length, Option, Some, None}
 use Rattle.std.specs.List.{filter, filter_map, find}
 use Rattle.xl_base.specs.Lists.{sorted}
@@ -26,13 +26,13 @@ abbrev pub with_break : Claim → What → Option CacheKind → Moment → Claim
 with_break c (Cache kind running) to deadline = with_what c (Cache kind (Some (record { target = to; deadline = deadline })))
 with_break c w to deadline = c
 
--- what becomes of a claim: it stays where no break of it begins; a cache is held at its full kind until the break is
--- answered, and is gone where the break needs no answer
+-- what becomes of a claim: it stays if no break of it begins; a cache is held at its full kind until the break is
+-- answered, and is gone if the break needs no answer
 abbrev pub once_begun : Moment → Claim → Option (Claim × Option CacheKind) → Option Claim
 once_begun deadline c None = Some c
 once_begun deadline c (Some begun) = if is_slow begun then Some (with_break c c.what begun.1 deadline) else None
 
--- the claims once the breaks begin that the ask begins, with their answers due then (MS-SMB2 3.3.4.6, 3.3.4.7; RFC 7530
+-- the claims once the breaks of the ask begin, with their answers due then (MS-SMB2 3.3.4.6, 3.3.4.7; RFC 7530
 -- 10.4.4) (CACHE-2)
 unfoldable pub once_broken : Moment → Claim → List Claim → List Claim
 once_broken deadline ask held = filter_map (λ c. once_begun deadline c (break_of ask (blocking_shares ask held) c)) held
@@ -45,17 +45,17 @@ is_idle c = is_cache c.what && not (is_running c.what)
 abbrev pub idle_caches : List Claim → ℕ
 idle_caches held = length (filter is_idle held)
 
--- all but the caches
+-- all except the caches
 abbrev pub others_of : List Claim → List Claim
 others_of held = filter (λ c. not (is_cache c.what)) held
 
--- ---- what is told
+-- ---- the effects
 
--- of two breaks on a file the first is told first: by the text of the party (CACHE-6)
+-- of two breaks on a file the first comes first: by the text of the party (CACHE-6)
 abbrev pub told_before : List Name → Claim × Option CacheKind → Claim × Option CacheKind → Bool
 told_before names a b = comes_before (party_text names a.0.party) (party_text names b.0.party)
 
--- the break is told by a call of the server's own, a recall: the cache is the delegation of an NFSv4 client (RFC 7530
+-- the break has a call of the server's own, a recall: the cache is the delegation of an NFSv4 client (RFC 7530
 -- 10.4.1)
 abbrev pub is_recalled : Party → Bool
 is_recalled (parties.Name Nfs number) = true
@@ -64,15 +64,15 @@ is_recalled _ = false
 abbrev pub is_recall : Claim × Option CacheKind → Bool
 is_recall begun = is_recalled begun.0.party
 
--- how many of the breaks are told so
+-- how many of the breaks have such a call
 abbrev pub recalls : List (Claim × Option CacheKind) → ℕ
 recalls breaks = length (filter is_recall breaks)
 
--- how many breaks may be told so at most
+-- how many breaks may have such a call at most
 abbrev pub idle_delegations : List Claim → ℕ
 idle_delegations held = length (filter (λ c. is_idle c && is_recalled c.party) held)
 
--- the number of the break's call, where the last number that was given out is this one; and the last one then
+-- the number of the break's call, if the last number that was given out is this one; and the last one then
 abbrev pub call_of : ℕ → Claim × Option CacheKind → Option ℕ
 call_of last begun = if is_recall begun then Some (last + 1) else None
 
@@ -80,16 +80,16 @@ abbrev pub last_of : ℕ → Option ℕ → ℕ
 last_of last None = last
 last_of last (Some number) = number
 
--- these breaks told in their order, where the last number that was given out is this one
+-- the effects of these breaks in their order, if the last number that was given out is this one
 abbrev pub begun_told : ℕ → List (Claim × Option CacheKind) → List Effect
 begun_told last [] = []
 begun_told last (b ∷ bs) = effects.Begun b.0 b.1 (call_of last b) ∷ begun_told (last_of last (call_of last b)) bs
 
--- the breaks that the ask begins, in the order in which they are told (CACHE-6)
+-- the breaks that the ask begins, in the order of their effects (CACHE-6)
 abbrev pub breaks_in_order : Claim → CoreState → List (Claim × Option CacheKind)
 breaks_in_order ask s = sorted (told_before s.names) (planned ask s.claims).breaks
 
--- The breaks begin that the ask begins, and that is told; the answer to each is due within the break time, and each recall
+-- The breaks of the ask begin, each with its effect; the answer to each is due within the break time, and each recall
 -- has drawn a number (CACHE-6).
 unfoldable pub breaks_begun : Claim → CoreState → List Effect × CoreState
 breaks_begun ask s = (
@@ -113,6 +113,6 @@ left_held deadline begun = if is_slow begun then (with_break begun.0 begun.0.wha
 abbrev pub is_break_on : ℕ → Party → Claim × Option CacheKind → Bool
 is_break_on file party begun = is_cache begun.0.what && ((begun.0.file == file) && same_parties begun.0.party party)
 
--- what is held of the party's cache on the file, where these tell of its break
+-- what is held of the party's cache on the file, if these tell of its break
 abbrev pub begun_at : Moment → ℕ → Party → List Effect → Option (List What)
 begun_at deadline file party told = option_map (left_held deadline) (find (is_break_on file party) (breaks_told told))

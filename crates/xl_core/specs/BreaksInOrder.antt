@@ -1,4 +1,4 @@
--- The breaks that an ask begins as they are told and written, one by one.
+-- The breaks that an ask begins, their effects and what is written, one by one.
 use Rattle.std.specs.Prelude.{Bool, if◌then◌else◌, List, [], ◌∷◌, Option, Some}
 use Rattle.xl_base.specs.Lists.{IsIn}
 use Rattle.xl_base.specs.declared.event.Moment.{Moment}
@@ -13,7 +13,7 @@ use Rattle.xl_table.specs.Flat.{removed, changed}
 use Rattle.xl_core.specs.Leases.{comes_before}
 use Rattle.xl_core.specs.declared.breaks.Row.{Row}
 
--- ---- as they are told
+-- ---- their effects
 
 -- a break with the text by which it stands in order
 abbrev pub row_of : List Name → Claim × Option CacheKind → Row
@@ -27,7 +27,7 @@ row_before a b = comes_before a.text b.text
 
 -- ---- as they are written
 
--- the claims once the break of this cache begins: it is held with its break that runs, or gone where that needs no answer
+-- the claims once the break of this cache begins: it is held with its break that runs, or gone if that needs no answer
 abbrev pub begun_by : Moment → Claim → Option CacheKind → What → List Claim → List Claim
 begun_by deadline cache left (Cache kind running) held =
     if needs_answer kind left then changed cache (Cache kind (Some (record { target = left; deadline = deadline }))) held else removed cache held

@@ -45,14 +45,14 @@ limits_of_wait left s a = wait_limits left a.rows (length s.waiters) (length (bo
 
 -- ---- why an ask is answered so
 
--- who asks waits: for what blocks the claim for good where it waits for that, else for a cache in its way where it awaits the
+-- who asks waits: for what blocks the claim for good if it waits for that, else for a cache in its way if it awaits the
 -- answer to its break (CORE-3)
 abbrev pub may_wait : List Claim → Ask → Claim → Bool
 may_wait held a claim = if is_stopped held claim then a.blocking else a.awaits
 
--- Why a share or a lock is. A reclaim comes too late, as no grace runs. What nothing held blocks is granted where no limit is
--- passed. What something blocks waits, where it may and no limit is passed; else the least of what blocks it for good is told,
--- or where nothing does a cache in its way.
+-- Why a share or a lock is. A reclaim comes too late, as no grace runs. What nothing held blocks is granted if no limit
+-- is passed. What something blocks waits, if it may and no limit is passed; else the least of what blocks it for good
+-- is answered, or if nothing does a cache in its way.
 abbrev pub IsClaimDue : Rooms → CoreState → Ask → Claim → Answer → Type 0
 IsClaimDue left s a claim (Granted c) = (c ≡ claim) × (a.reclaim ≡ false) × (is_blocked s.claims claim ≡ false) × IsRoom (limits_of_grant left s a claim)
 IsClaimDue left s a claim (Conflict c) =
@@ -72,7 +72,7 @@ IsClaimDue left s a claim _ = ⊥
 abbrev pub stands_against : Claim → Claim → Bool
 stands_against claim held = is_range held.what && blocks claim held
 
--- Why a wish by itself is: it is granted where it passes no limit.
+-- Why a wish by itself is: it is granted if it passes no limit.
 abbrev pub IsWishBy : List (ℕ × Bool) → Claim → Answer → Type 0
 IsWishBy limits claim (Granted c) = (c ≡ claim) × IsRoom limits
 IsWishBy limits claim (Full limit) = IsLeastPassed limits limit
@@ -83,7 +83,8 @@ abbrev pub IsWishDue : Rooms → CoreState → Ask → List CacheKind → Answer
 IsWishDue left s a [] answer = Unit {0}
 IsWishDue left s a (kind ∷ kinds) answer = IsWishBy (wish_limits left a.rows (length (both_entered a s.names))) (asked_claim a (Cache kind None) s.names) answer
 
--- Why a test is: a reclaim comes too late; else the least of the held ranges that block it is told, if there is one (CORE-4).
+-- Why a test is: a reclaim comes too late; else the least of the held ranges that block it is answered, if there is one
+-- (CORE-4).
 abbrev pub IsTestDue : CoreState → Ask → Claim → Answer → Type 0
 IsTestDue s a claim (Granted c) = (c ≡ claim) × (a.reclaim ≡ false) × (list_any (stands_against claim) s.claims ≡ false)
 IsTestDue s a claim (Conflict c) = (a.reclaim ≡ false) × (least s.names (test_blockers s claim) ≡ Some c) × IsIn c s.claims × (stands_against claim c ≡ true)
@@ -115,9 +116,10 @@ IsElementDue s claim extent (Granted c) = (c ≡ claim) × (is_some (element_hel
 IsElementDue s claim extent NotHeld = element_held claim extent s.claims ≡ None
 IsElementDue s claim extent _ = ⊥
 
--- Why an ask for several ranges of which none waits is: each is judged where those before it are held. The first that
--- something held blocks for good is told of the least that does; the first that a cache keeps off, of that; the first that
--- passes a limit, of the least limit. Where there is no such all are granted. So many names are kept then (CORE-14).
+-- Why an ask for several ranges of which none waits is: each is judged once those before it are held. The first that
+-- something held blocks for good is answered with the least that does; the first that a cache keeps off, of that; the
+-- first that passes a limit, of the least limit. If there is no such all are granted. So many names are kept then
+-- (CORE-14).
 abbrev pub IsEachDue : Rooms → Rooms → ℕ → Claim → List Claim → CoreState → Answer → Type 0
 IsEachDue left rows kept first [] s answer = answer ≡ Granted first
 IsEachDue left rows kept first (c ∷ cs) s answer =
@@ -128,20 +130,22 @@ IsEachDue left rows kept first (c ∷ cs) s answer =
 
 -- ---- what a turn is
 
--- what is held once one who waits for these is told so
+-- what is held once one who waits for these is answered so
 abbrev pub held_once : List Claim → Answer → List Claim → List Claim
 held_once asked (Granted c) held = all_granted asked held
 held_once asked answer held = held
 
--- What becomes of a waiter for these, of which this is the first, once the breaks run that it begins: where the first is held up by
--- them it waits on, and is told nothing; else each is judged beside those before it, and it is answered so and waits no more.
+-- What becomes of a waiter for these, of which this is the first, once its breaks run: if the first is held up by
+-- them it waits on, and has no answer; else each is judged beside those before it, and it is answered so and waits no
+-- more.
 pub data IsServed (left : Rooms) (s : CoreState) (w : Waiter) (claim : Claim) (told : List Effect) (new : CoreState) : Type 0 where
   Answered : (answer : Answer) → told ≡ Served w.id answer ∷ [] → ((c : Claim) → answer ≡ Granted c → c ≡ claim) → IsEachDue left w.rows (length s.names) claim w.asked s answer → new ≡ wish_for w.wish answer (record s { claims = held_once w.asked answer s.claims; waiters = cancelled w.id s.waiters }) → is_held_up s.claims w claim ≡ false → IsServed left s w claim told new
   WaitsOn : told ≡ [] → is_held_up s.claims w claim ≡ true → new ≡ s → IsServed left s w claim told new
 
--- The first waiter that isn't held up has its turn: the breaks begin that it begins, which is told, and then it is judged. Its
--- names are kept already. What it is granted it has then, and the cache that its wish gets. Beside caches only what the owners of
--- what it asks for have on its file changes, and beside those whose breaks began no cache but its party's there (CORE-11).
+-- The first waiter that isn't held up has its turn: its breaks begin, with their effects, and then it is judged. Its
+-- names are kept already. What it is granted it has then, and the cache that its wish gets. Beside caches only what the
+-- owners of what it asks for have on its file changes, and beside those whose breaks began no cache except its party's
+-- there (CORE-11).
 pub record IsTurn (left : Rooms) (s : CoreState) (effects : List Effect) (new : CoreState) : Type 0 where
   pub before : List Waiter
   pub waiter : Waiter
@@ -168,9 +172,9 @@ abbrev pub asks_share : Act → Bool
 asks_share (Share access deny) = true
 asks_share _ = false
 
--- An ask that is neither granted nor told to wait changes nothing. One that is granted changes only what its owner has on
--- its file: a share for a share, ranges for a range, and its party's cache there where it wishes for one. One that waits changes
--- no claim. No other cache changes, no waiter goes, and each name keeps its number.
+-- An ask that is neither granted nor let wait changes nothing. One that is granted changes only what its owner has on
+-- its file: a share for a share, ranges for a range, and its party's cache there if it wishes for one. One that waits
+-- changes no claim. No other cache changes, no waiter goes, and each name keeps its number.
 pub record IsOwn (s : CoreState) (a : Ask) (answer : Answer) (new : CoreState) : Type 0 where
   pub claims : ((claim : Claim) → answer ≡ Granted claim → ⊥) → new.claims ≡ s.claims
   pub waiters : ((number : ℕ) → answer ≡ Queued number → ⊥) → new.waiters ≡ s.waiters
@@ -191,6 +195,6 @@ pub record IsSameAsker (a b : Ask) : Type 0 where
   pub party : a.party ≡ b.party
   pub reclaim : a.reclaim ≡ b.reclaim
 
--- something held is told
+-- something held is answered
 abbrev pub IsConflict : Answer → Type 0
 IsConflict answer = (c : Claim) × (answer ≡ Conflict c)

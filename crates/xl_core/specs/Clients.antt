@@ -22,7 +22,7 @@ IsOf s client (Ends party) = party_named s.names client ≡ Some party
 IsOf s client (Renews id) = client ≡ NfsParty id
 IsOf s client deed = ⊥
 
--- where none is named it is nobody's
+-- if none is named it is nobody's
 abbrev pub IsOfSome : CoreState → Option Name → Deed → Type 0
 IsOfSome s None deed = ⊥
 IsOfSome s (Some client) deed = IsOf s client deed

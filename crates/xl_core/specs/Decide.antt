@@ -29,7 +29,7 @@ use Rattle.xl_core.specs.declared.judge.Plea.{Plea}
 use Rattle.xl_core.specs.declared.judge.Ruling.{Ruling}
 use Rattle.xl_core.specs.declared.judge.Ruling.TheVariants.{Gets, Waits, Told}
 
--- the answer, what is told besides, and the state that is left
+-- the answer, the effects besides, and the state that is left
 abbrev pub Answered : Type 0
 Answered = Answer × List Effect × CoreState
 
@@ -70,12 +70,12 @@ claims_asked n left s a (c ∷ cs) = let r = judged n s.waiters left (plea_of le
 
 -- ---- a test
 
--- granted where nothing is in the way
+-- granted if nothing is in the way
 abbrev pub test_answered : Claim → Option Claim → Answer
 test_answered claim None = Granted claim
 test_answered claim (Some c) = Conflict c
 
--- a test is told what a lock of this claim would meet, and changes nothing (CORE-4)
+-- a test is answered with what a lock of this claim would meet, and changes nothing (CORE-4)
 unfoldable pub tested : CoreState → Ask → Claim → Answer
 tested s a claim = if a.reclaim then NoGrace s.clock else test_answered claim (least s.names (test_blockers s claim))
 
@@ -85,7 +85,7 @@ tested s a claim = if a.reclaim then NoGrace s.clock else test_answered claim (l
 abbrev pub unlocked_claims : Claim → ℕ → ℕ → List Claim → List Claim
 unlocked_claims c first last held = relocked_in c.file c.owner c.party first last None held
 
--- the owner's bytes of the range are given up: not held where it has none, full where there is no room to cut a range in two
+-- the owner's bytes of the range are given up: not held if it has none, full if there is no room to cut a range in two
 -- (TABLE-9)
 abbrev pub unlocked_bytes : CoreState → Claim → ℕ → ℕ → Answered
 unlocked_bytes s claim first last =
@@ -113,8 +113,8 @@ abbrev pub wish_by : CoreState → Ask → Claim → Option ℕ → Answered
 wish_by s a claim None = (Granted claim, [], named a s)
 wish_by s a claim (Some limit) = (Full limit, [], s)
 
--- a wish by itself is granted, with its first choice, where it passes no limit: which cache it gets, if any, is seen then. It
--- never waits, and breaks nothing (CACHE-10).
+-- a wish by itself is granted, with its first choice, if it passes no limit: which cache it gets, if any, is seen then.
+-- It never waits, and breaks nothing (CACHE-10).
 unfoldable pub wish_asked : Rooms → CoreState → Ask → List CacheKind → Answered
 wish_asked left s a [] = (NotHeld, [], s)
 wish_asked left s a (kind ∷ kinds) = wish_by s a (asked_claim a (Cache kind None) s.names) (first_passed (wish_limits left a.rows (length (both_entered a s.names))))
@@ -129,19 +129,19 @@ acted n left s a (Test extent exclusive) = (tested s a (known_claim a extent exc
 acted n left s a (Unlock extent) = unlocked s (known_claim a extent false s.names) extent
 acted n left s a Wish = wish_asked left s a a.wish
 
--- what an ask is answered once the breaks run that it begins
+-- what an ask is answered once its breaks run
 unfoldable pub decided : ℕ → Rooms → CoreState → Ask → Answered
 decided n left s a = acted n left s a a.act
 
--- the way that is made for it, where it asks for something that is held then
+-- the way that is made for it, if it asks for something that is held then
 abbrev pub way : Rooms → CoreState → Ask → List Effect × CoreState
 way left s a = made_way (plea_of left s a) (asked_claims a (asked_whats a.act) s.names) s
 
--- an answer behind what was told before
+-- an answer behind the effects before it
 abbrev pub behind_way : List Effect → Answered → Answered
 behind_way told r = (r.0, told ++ r.1, r.2)
 
--- what an ask is answered before its wish is granted: the breaks begin that it begins, and then it is judged
+-- what an ask is answered before its wish is granted: its breaks begin, and then it is judged
 unfoldable pub before_wish : ℕ → Rooms → CoreState → Ask → Answered
 before_wish n left s a = behind_way (way left s a).0 (decided n left (way left s a).1 a)
 
@@ -160,7 +160,7 @@ wish_after a answer s = if does_wish a.act then wish_for a.wish answer s else s
 abbrev pub with_wish : Ask → Answered → Answered
 with_wish a r = (r.0, r.1, wish_after a r.0 r.2)
 
--- What an ask is answered, what it tells of, and what it leaves, where this room is left in the fronts' tables and n
--- stores succeed in the step: the breaks begin that it begins, then it is judged, and where it is granted its wish is.
+-- What an ask is answered, its effects, and what it leaves, if this room is left in the fronts' tables and n
+-- stores succeed in the step: its breaks begin, then it is judged, and if it is granted its wish is.
 unfoldable pub ask : ℕ → Rooms → CoreState → Ask → Answered
 ask n left s a = with_wish a (before_wish n left s a)

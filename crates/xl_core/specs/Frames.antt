@@ -29,7 +29,7 @@ abbrev pub who_left : List Effect → List ℕ
 who_left [] = []
 who_left (effect ∷ effects) = with_told effect (who_left effects)
 
--- each of these waits, where those before it left; so each leaves once
+-- each of these waits once those before it left; so each leaves once
 abbrev pub AllLeave : List ℕ → List Waiter → Type 0
 AllLeave [] ws = Unit {0}
 AllLeave (id ∷ ids) ws = (is_waiting id ws ≡ true) × AllLeave ids (cancelled id ws)
@@ -48,7 +48,7 @@ abbrev pub all_unleased : List (List ℕ) → List Lease → List Lease
 all_unleased [] leases = leases
 all_unleased (client ∷ clients) leases = all_unleased clients (without_lease client leases)
 
--- how many of these are told by a call of the server's own, which has a number
+-- how many of these have a call of the server's own, which has a number
 abbrev pub with_call : Effect → ℕ → ℕ
 with_call (Begun cache to (Some number)) calls = suc calls
 with_call _ calls = calls
@@ -57,7 +57,7 @@ abbrev pub calls_in : List Effect → ℕ
 calls_in [] = 0
 calls_in (effect ∷ effects) = with_call effect (calls_in effects)
 
--- nobody is told that it was served
+-- none of these says that someone was served
 abbrev pub serves_none : List Effect → Bool
 serves_none [] = true
 serves_none (Served id answer ∷ effects) = false
@@ -65,8 +65,9 @@ serves_none (effect ∷ effects) = serves_none effects
 
 -- ---- a call
 
--- A call that tells these effects: the record, the clock, the times, the leases and the stores of the step stand, so many numbers
--- are given out, these names are kept then, who leaves the queue is told of once, and these come behind those who stay.
+-- A call with these effects: the record, the clock, the times, the leases and the stores of the step stay, so many
+-- numbers are given out, these names are kept then, who leaves the queue is told of once, and these come behind those
+-- who stay.
 pub record IsFrame (s : CoreState) (told : List Effect) (t : CoreState) (given : ℕ) (known : List Name) (come : List Waiter) : Type 0 where
   pub stable : t.stable ≡ s.stable
   pub clock : t.clock ≡ s.clock
@@ -79,7 +80,7 @@ pub record IsFrame (s : CoreState) (told : List Effect) (t : CoreState) (given :
   pub times : t.times ≡ s.times
   pub leases : t.leases ≡ s.leases
 
--- A client's lease renewed: it ends its whole length from now, nothing is told, and all else stands.
+-- A client's lease renewed: it ends its whole length from now, there is no effect, and all else stays.
 pub record IsRenewed (s : CoreState) (client : List ℕ) (told : List Effect) (t : CoreState) : Type 0 where
   pub silent : told ≡ []
   pub claims : t.claims ≡ s.claims
@@ -93,9 +94,9 @@ pub record IsRenewed (s : CoreState) (client : List ℕ) (told : List Effect) (t
   pub made : t.made ≡ s.made
   pub failed : t.failed ≡ s.failed
 
--- A reading of the clock that tells these effects: the clock shows the later moment, who leaves the queue is told of once and
--- nobody comes, a lease goes where its client is told of, and the record, the times, the stores of the step, the numbers and the
--- names stand.
+-- A reading of the clock with these effects: the clock shows the later moment, who leaves the queue is told of once and
+-- nobody comes, a lease goes if its client is told of, and the record, the times, the stores of the step, the numbers
+-- and the names stay.
 pub record IsTicked (s : CoreState) (now : Moment) (told : List Effect) (t : CoreState) : Type 0 where
   pub clock : t.clock ≡ later s.clock now
   pub stable : t.stable ≡ s.stable

@@ -64,7 +64,7 @@ abbrev pub IsKnown : List Name → Claim → Type 0
 IsKnown names c = IsGrantable c × (are_kept names c.owner c.party ≡ true)
 
 -- what a party may hold: a share, a range with its bytes in order, or a cache of one of its protocol's kinds, whose
--- break, where one runs, leaves less
+-- break, if one runs, leaves less
 abbrev pub IsHeldBy : Party → What → Type 0
 IsHeldBy party (Share access deny) = Unit {0}
 IsHeldBy party (Range extent exclusive) = IsShareOrLock (Range extent exclusive)
@@ -129,7 +129,7 @@ holding s cs = record s { claims = cs }
 abbrev pub caches_of : List Claim → List Claim
 caches_of cs = filter (λ c. is_cache c.what) cs
 
--- the caches but that of this party on this file
+-- the caches except that of this party on this file
 abbrev pub caches_but : ℕ → Party → List Claim → List Claim
 caches_but file party caches = filter (λ c. not (is_cache c.what && ((c.file == file) && same_parties c.party party))) caches
 
@@ -138,8 +138,8 @@ caches_beside file party cs = caches_but file party (caches_of cs)
 
 -- ---- nobody is forgotten
 
--- something held blocks the claim; where it does so for good the waiter waits for that, and else for the answers to breaks, all
--- of which run
+-- something held blocks the claim; if it does so for good the waiter waits for that, and else for the answers to
+-- breaks, all of which run
 abbrev pub is_held_up : List Claim → Waiter → Claim → Bool
 is_held_up held w c = is_blocked held c && (if is_stopped held c then w.blocking else all_run held c)
 

@@ -6,6 +6,6 @@ use Rattle.xl_core.specs.State.{CoreState}
 abbrev pub id_of : CoreState → ℕ → ℕ
 id_of s number = s.stable.epoch * 2 ^ 32 + number
 
--- the number in an id, where it is of this start
+-- the number in an id, if it is of this start
 abbrev pub number_in : CoreState → ℕ → Option ℕ
 number_in s id = if id / 2 ^ 32 == s.stable.epoch then Some (id % 2 ^ 32) else None

@@ -23,7 +23,7 @@ use Rattle.xl_core.specs.declared.judge.Ruling.TheVariants.{Gets, Waits, Told}
 
 -- ---- a row of steps
 
--- a ruling, what is told besides, and the state that is left
+-- a ruling, the effects besides, and the state that is left
 abbrev pub Ruled : Type 0
 Ruled = Ruling × List Effect × CoreState
 
@@ -36,7 +36,7 @@ abbrev pub followed : Option Ruling → List Effect → CoreState → (CoreState
 followed (Some ruling) told s rest = (ruling, told, s)
 followed None told s rest = ((rest s).0, told ++ (rest s).1, (rest s).2)
 
--- the step, and the rest of the row where it goes on
+-- the step, and the rest of the row if it goes on
 abbrev pub after : Step → (CoreState → Ruled) → CoreState → Ruled
 after step rest s = followed (step s).0 (step s).1 (step s).2 rest
 
@@ -57,44 +57,44 @@ held_with claims s = record s { claims = all_granted claims s.claims }
 unfoldable pub check_grace : Plea → Step
 check_grace p s = if p.reclaim then (Some (Told (NoGrace s.clock)), [], s) else (None, [], s)
 
--- who is stopped waits, where it may and its wait passes no limit (CORE-3)
+-- who is stopped waits, if it may and its wait passes no limit (CORE-3)
 abbrev pub waits : Option ℕ → Ruling
 waits None = Waits
 waits (Some limit) = Told (Full limit)
 
--- what comes of a claim that something blocks for good: a wait, where it may wait, else a refusal that names this claim
+-- what comes of a claim that something blocks for good: a wait, if it may wait, else a refusal that names this claim
 abbrev pub stopped : Plea → Claim → Ruling
 stopped p c = if p.blocking then waits p.crowded else Told (Conflict c)
 
--- ends where something is held against the claim
+-- ends if something is held against the claim
 abbrev pub held_by : Plea → Option Claim → Step
 held_by p None s = (None, [], s)
 held_by p (Some c) s = (Some (stopped p c), [], s)
 
--- what is held against the claim, where those before it are held too, and no break moves it (CORE-1)
+-- what is held against the claim once those before it are held too, and no break moves it (CORE-1)
 unfoldable pub check_held : List Waiter → Plea → List Claim → Claim → Step
 check_held earlier p before c s = held_by p (least s.names (blockers earlier (held_with before s) c)) s
 
--- what comes of a claim that a cache keeps off: a wait for the answer to its break, where it awaits that, else it is told
--- (CORE-3)
+-- what comes of a claim that a cache keeps off: a wait for the answer to its break, if it awaits that, else a refusal
+-- that names it (CORE-3)
 abbrev pub kept_off : Plea → Claim → Ruling
 kept_off p c = if p.awaits then waits p.crowded else Told (Recall c)
 
--- ends where a cache keeps the claim off
+-- ends if a cache keeps the claim off
 abbrev pub kept_off_by : Plea → Option Claim → Step
 kept_off_by p None s = (None, [], s)
 kept_off_by p (Some c) s = (Some (kept_off p c), [], s)
 
--- the caches in the way of the claim, where those before it are held too
+-- the caches in the way of the claim once those before it are held too
 unfoldable pub check_caches : Plea → List Claim → Claim → Step
 check_caches p before c s = kept_off_by p (cache_against (held_with before s).claims c) s
 
--- ends where a limit is passed
+-- ends if a limit is passed
 abbrev pub room_by : Option ℕ → Step
 room_by None s = (None, [], s)
 room_by (Some limit) s = (Some (Told (Full limit)), [], s)
 
--- the least limit that the claim passes, where those before it are held too (CORE-5)
+-- the least limit that the claim passes once those before it are held too (CORE-5)
 unfoldable pub check_room : Rooms → Plea → List Claim → Claim → Step
 check_room left p before c s = room_by (first_passed (grant_limits left p.rows (length (granted_claims c (held_with before s).claims)) p.kept)) s
 
@@ -122,7 +122,7 @@ each earlier left p before [] rest = rest
 each earlier left p before (c ∷ cs) rest =
     after (check_held earlier p before c) (after (check_caches p before c) (after (check_room left p before c) (each earlier left (at_once p) (before ++ c ∷ []) cs rest)))
 
--- What comes of a plea for these claims, behind these waiters, where this room is left in the fronts' tables and n stores
+-- What comes of a plea for these claims, behind these waiters, if this room is left in the fronts' tables and n stores
 -- succeed in the step: all of them are granted, or none (CORE-1).
 unfoldable pub judged : ℕ → List Waiter → Rooms → Plea → List Claim → CoreState → Ruled
 judged n earlier left p asked = after (check_grace p) (each earlier left p [] asked (after (record_name n p) (enter_all asked)))
@@ -142,7 +142,7 @@ abbrev pub unless : Option Ruling → Ruling → Ruling
 unless (Some ruling) later = ruling
 unless None later = later
 
--- the ruling on these, each where those before it are held: that on the first that is stopped; they are had where none is
+-- the ruling on these, each once those before it are held: that on the first that is stopped; they are had if none is
 -- (CORE-14)
 abbrev pub row : Rooms → Plea → List Claim → CoreState → Ruling
 row left p [] s = Gets
@@ -154,7 +154,7 @@ row_left Gets asked s = held_with asked s
 row_left Waits asked s = s
 row_left (Told answer) asked s = s
 
--- the state behind what stopped a claim: the claim is held where nothing did
+-- the state behind what stopped a claim: the claim is held if nothing did
 abbrev pub stop_left : Option Ruling → Claim → CoreState → CoreState
 stop_left None c s = held_with (c ∷ []) s
 stop_left (Some ruling) c s = s
@@ -177,7 +177,7 @@ IsRow [] = Unit {0}
 IsRow (c ∷ []) = IsGrantable c
 IsRow (c ∷ d ∷ cs) = AreElements (c ∷ d ∷ cs) × Pairwise are_of_one_party (c ∷ d ∷ cs)
 
--- there is room for the names that are kept then, where something is asked for
+-- there is room for the names that are kept then, if something is asked for
 abbrev pub IsFew : Plea → List Claim → Type 0
 IsFew p [] = Unit {0}
 IsFew p (c ∷ cs) = p.kept ≤ most_names

@@ -16,7 +16,7 @@ grant_limits left rows held kept =
     (most_hosts, nat_lt left.hosts rows.hosts) ∷ (most_opens, nat_lt left.opens rows.opens) ∷ (most_owners, nat_lt left.owners rows.owners)
     ∷ (most_claims, nat_lt most_claims held) ∷ (most_names, nat_lt most_names kept) ∷ []
 
--- each limit of a wait, where so many wait already (CORE-5)
+-- each limit of a wait, if so many wait already (CORE-5)
 abbrev pub wait_limits : Rooms → Rooms → ℕ → ℕ → List (ℕ × Bool)
 wait_limits left rows waiting kept =
     (most_hosts, nat_lt left.hosts rows.hosts) ∷ (most_waiters, nat_le most_waiters waiting) ∷ (most_names, nat_lt most_names kept) ∷ []

@@ -95,13 +95,13 @@ abbrev pub entered_by : List What → Option (List What)
 entered_by [] = None
 entered_by (what ∷ rest) = Some (what ∷ rest)
 
--- a share as it is held once it is entered among these: united with its owner's where it is NFSv4's (CORE-15)
+-- a share as it is held once it is entered among these: united with its owner's if it is NFSv4's (CORE-15)
 abbrev pub held_as : List Claim → Claim → What → What
 held_as held c (whats.Share access deny) = united_by c.owner (whats.Share access deny) (old_shares c.file c.owner held)
 held_as held c what = what
 
--- a claim that is entered is held then at each place that it reaches, whatever was there but for a share that it is united
--- with; a range of an SMB open is held once more, behind its others
+-- a claim that is entered is held then at each place that it reaches, whatever was there except for a share that it is
+-- united with; a range of an SMB open is held once more, behind its others
 abbrev pub entered_at : List Claim → Claim → Place → Option (List What)
 entered_at held c (ByteOf file owner byte) = entered_by (if is_of file owner c then part_by (held_as held c c.what) (ByteOf file owner byte) else [])
 entered_at held c (ShareOf file owner) = entered_by (if is_of file owner c then part_by (held_as held c c.what) (ShareOf file owner) else [])
@@ -134,13 +134,13 @@ abbrev pub acked_at : Claim → Option CacheKind → Place → Option (List What
 acked_at cache None p = cleared_at cache p
 acked_at cache (Some kind) p = entered_by (part_of (with_what cache (whats.Cache kind None)) p)
 
--- ---- what a deed makes of a place, or none where it leaves it
+-- ---- what a deed makes of a place, or none if it leaves it
 
 abbrev pub entered_for : List Claim → Answer → Place → Option (List What)
 entered_for held (Granted c) p = entered_at held c p
 entered_for held answer p = None
 
--- the claims that are asked for where this is the first of them
+-- the claims that are asked for if this is the first of them
 abbrev pub claims_like : Claim → List (Extent × Bool) → List Claim
 claims_like c ranges = map (λ range. with_what c (range_what range)) ranges
 
@@ -243,7 +243,7 @@ abbrev pub else_was : Option (List What) → List What → List What
 else_was None had = had
 else_was (Some has) had = has
 
--- what stands at the place after these deeds, where this stood before: what the last that reaches it made of it
+-- what stands at the place after these deeds, if this stood before: what the last that reaches it made of it
 abbrev pub stands : ℕ → CoreState → List Deed → Place → List What → List What
 stands n s [] p had = had
 stands n s (d ∷ ds) p had = stands n (done n s d) ds p (else_was (made n s d p) had)

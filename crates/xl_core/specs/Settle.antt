@@ -42,12 +42,12 @@ abbrev pub rests : Ruling → List Effect → Bool
 rests Waits [] = true
 rests _ _ = false
 
--- what is told of claims that are granted
+-- what claims that are granted are answered
 abbrev pub all_of : List Claim → Answer
 all_of [] = NotHeld
 all_of (c ∷ cs) = Granted c
 
--- the waiter is taken out, and told this behind what began
+-- the waiter is taken out, and answered with this behind what began
 abbrev pub served : Waiter → Answer → List Effect → CoreState → List Effect × CoreState
 served w answer told s = (told ++ Served w.id answer ∷ [], record s { waiters = cancelled w.id s.waiters })
 
@@ -60,7 +60,7 @@ turned w Gets told s = with_its_wish w (all_of w.asked) (served w (all_of w.aske
 turned w Waits told s = (told, s)
 turned w (Told answer) told s = served w answer told s
 
--- what is ruled behind what was told before
+-- what is ruled behind the effects before it
 abbrev pub ruled_behind : List Effect → Ruled → Ruled
 ruled_behind told r = (r.0, told ++ r.1, r.2)
 
@@ -68,7 +68,7 @@ ruled_behind told r = (r.0, told ++ r.1, r.2)
 abbrev pub way_again : CoreState → Waiter → List Effect × CoreState
 way_again s w = made_way (plea_again s w) w.asked s
 
--- what is judged of a waiter behind these, once the breaks run that it begins
+-- what is judged of a waiter behind these, once its breaks run
 abbrev pub again : ℕ → Rooms → CoreState → List Waiter → Waiter → Ruled
 again n left s earlier w = let way = way_again s w in ruled_behind way.0 (judged n earlier left (plea_again s w) w.asked way.1)
 
@@ -80,7 +80,7 @@ abbrev pub first_turn : ℕ → Rooms → CoreState → List Waiter → List Wai
 first_turn n left s earlier [] = None
 first_turn n left s earlier (w ∷ ws) = turn_or w (again n left s earlier w) (first_turn n left s (earlier ++ w ∷ []) ws)
 
--- One turn: the first waiter is served that doesn't wait on with nothing begun. None where there is no such (CORE-11).
+-- One turn: the first waiter is served that doesn't wait on with nothing begun. None if there is no such (CORE-11).
 unfoldable pub settle : ℕ → Rooms → CoreState → Option (List Effect × CoreState)
 settle n left s = first_turn n left s [] s.waiters
 

@@ -25,7 +25,7 @@ abbrev pub is_among : Unsettled → ℕ → Bool
 is_among (Files files) file = list_any (λ f. file == f) files
 is_among All file = true
 
--- the file, where there is one alone
+-- the file, if there is one alone
 abbrev pub only_file : Unsettled → Option ℕ
 only_file (Files []) = None
 only_file (Files (file ∷ [])) = Some file
@@ -41,7 +41,7 @@ with_file file All = All
 abbrev pub IsWider : Unsettled → Unsettled → Type 0
 IsWider old new = (file : ℕ) → is_among new file ≡ false → is_among old file ≡ false
 
--- a file is noted: it is among them, where someone of these waits on it
+-- a file is noted: it is among them, if someone of these waits on it
 pub record Notes (old new : Unsettled) (file : ℕ) (ws : List Waiter) : Type 0 where
   pub wider : IsWider old new
   pub own : waits_on file ws ≡ true → is_among new file ≡ true

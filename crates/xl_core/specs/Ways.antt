@@ -8,12 +8,12 @@ use Rattle.xl_core.specs.Blockers.{is_stopped}
 use Rattle.xl_core.specs.declared.ask.Effect.{Effect}
 use Rattle.xl_core.specs.declared.judge.Plea.{Plea}
 
--- one that pleads so for this claim begins breaks: it doesn't come too late, nothing blocks the claim for good, and it doesn't
--- wait for an answer where that would pass a limit
+-- one that pleads so for this claim begins breaks: it doesn't come too late, nothing blocks the claim for good, and it
+-- doesn't wait for an answer if that would pass a limit
 abbrev pub begins : Plea → Claim → List Claim → Bool
 begins p c held = not p.reclaim && (not (is_stopped held c) && not (p.awaits && (is_some p.crowded && is_some (recalled_by (planned c held)))))
 
--- what is told, and the state then, once the breaks begin that a plea for these claims begins: those of the first, as the ranges
+-- the effects, and the state then, once the breaks of a plea for these claims begin: those of the first, as the ranges
 -- of one open meet the same caches (MS-SMB2 3.3.4.6, 3.3.4.7; RFC 7530 10.4.4)
 unfoldable pub made_way : Plea → List Claim → CoreState → List Effect × CoreState
 made_way p [] s = ([], s)

@@ -20,12 +20,12 @@ abbrev pub has_room : Option Claim → List Claim → Bool
 has_room (Some own) held = true
 has_room None held = nat_lt (length held) most_claims
 
--- The kind that the party is to have on the file from now on. A wish breaks nothing: it gets none where that takes a
--- break, nor where someone waits on the file or there is no room (CACHE-8, CACHE-9).
+-- The kind that the party is to have on the file from now on. A wish breaks nothing: it gets none if that takes a
+-- break, nor if someone waits on the file or there is no room (CACHE-8, CACHE-9).
 unfoldable pub wished_kind : Wish → CoreState → Option CacheKind
 wished_kind wanted s = if waits_on wanted.file s.waiters then None else if has_room (find (is_its_cache wanted) s.claims) s.claims then granted_kind wanted s.claims else None
 
--- the claims once the party's cache on the file, where this is what it has there, is of this kind
+-- the claims once the party's cache on the file, if this is what it has there, is of this kind
 abbrev pub cached : Wish → CacheKind → Option Claim → List Claim → List Claim
 cached wanted kind None held = inserted (wished_claim wanted kind) held
 cached wanted kind (Some own) held = changed own (Cache kind None) held
@@ -45,19 +45,20 @@ wish_granted wanted s = record s { claims = once_wished wanted (wished_kind want
 abbrev pub wish_of : List CacheKind → Claim → Wish
 wish_of kinds c = record { file = c.file; owner = c.owner; party = c.party; kinds = kinds }
 
--- the state once the wish for these kinds is granted of one who is answered so: of who is told that this claim is granted
+-- the state once the wish for these kinds is granted of one who is answered so: of who is answered that this claim is
+-- granted
 abbrev pub wish_for : List CacheKind → Answer → CoreState → CoreState
 wish_for kinds (Granted c) s = wish_granted (wish_of kinds c) s
 wish_for kinds _ s = s
 
 -- ---- what is held then
 
--- what is held then of a party's cache on a file, where the wish got this kind; or none where it leaves that
+-- what is held then of a party's cache on a file, if the wish got this kind; or none if it leaves that
 abbrev pub wished_at : Wish → Option CacheKind → ℕ → Party → Option (List What)
 wished_at wanted None file party = None
 wished_at wanted (Some kind) file party = if (wanted.file == file) && same_parties wanted.party party then Some (Cache kind None ∷ []) else None
 
--- of the caches those that are held then, where these are held before
+-- of the caches those that are held then, if these are held before
 abbrev pub caches_wished : List CacheKind → Answer → CoreState → List Claim → List Claim
 caches_wished kinds (Granted c) s caches = once_wished (wish_of kinds c) (wished_kind (wish_of kinds c) s) caches
 caches_wished kinds _ s caches = caches

@@ -1,4 +1,4 @@
-//! What is asked of the core, what it answers, and what it tells of besides.
+//! What is asked of the core, what it answers, and its effects besides.
 
 use xl_base::{Moment, Sequence};
 use xl_matrix::{CacheKind, Claim, Extent, Rwd};
@@ -44,7 +44,7 @@ pub struct Ask {
     pub act: Act,
     /// The caches wished for once the ask is granted, the first choice first: with a share, or by itself.
     pub wish: Sequence<CacheKind>,
-    /// The connection that a late answer goes to; None if a call of its own tells of it.
+    /// The connection that a late answer goes to; None if a call of its own carries it.
     pub conn: Option<u64>,
     /// Whether the asker waits if something held blocks it for good: a share or a range that no break moves.
     pub blocking: bool,

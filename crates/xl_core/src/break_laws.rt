@@ -18,8 +18,8 @@ ghost use Rattle.xl_core.specs.Places.{CacheOf, held_in, else_was};
 ghost use Rattle.xl_core.specs.State.{CoreState};
 
 /// If breaks begin the state stays good. All shares and ranges stay, and so does each claim on another file than the
-/// ask's. A number is given out for each delegation whose break begins, and it is one less that can be broken; nobody who
-/// waits leaves, and the names, the record and the clock stand.
+/// ask's. A number is given out for each delegation whose break begins, and it is one less that can be broken; nobody
+/// who waits leaves, and the names, the record and the clock stay.
 #[tactic(auto, unfolding(crate::specs::BreaksBegun::breaks_begun), using(crate::proofs::BreaksBegunLaws::breaks_good, crate::proofs::BreaksBegunLaws::begun_others, crate::proofs::BreaksBegunLaws::begun_spans, crate::proofs::BreaksBegunLaws::begun_shares, crate::proofs::BreaksBegunLaws::begun_elements, crate::proofs::BreaksBegunLaws::begun_elsewhere, crate::proofs::BreaksBegunLaws::fewer_delegations, crate::proofs::BreaksBegunLaws::recalls_few))]
 pub fn breaks_change_caches_alone()
     ensures good { (s : CoreState) (ask : Claim) → IsGood s → is_cache ask.what ≡ false → IsGood (breaks_begun ask s).1 }

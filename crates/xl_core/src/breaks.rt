@@ -52,9 +52,9 @@ pub(crate) fn final_blockers(
     Ok(blockers)
 }
 
-// ---- what is told
+// ---- the effects
 
-/// A break as it is told, with the text of the party by which it stands in order.
+/// A break, with the text of the party by which it is put in order.
 #[derive(Drop)]
 pub(crate) struct Row {
     pub text: Sequence<u8>,
@@ -100,14 +100,14 @@ fn in_order(rows: Vec<Row>) -> Result<Vec<Row>, AllocError>
     Ok(rows)
 }
 
-/// Whether the break of the party's cache is told by a call of the server's own.
+/// Whether the break of the party's cache has a call of the server's own.
 fn is_recalled(party: Party) -> bool
     ensures { result ≡ is_recalled party }
 {
     matches!(party, Party::Name(Protocol::Nfs, _))
 }
 
-/// The number of the break's call, if it is told by one, where the last number that was given out is this one.
+/// The number of the break's call, if it has one, and if the last number that was given out is this one.
 fn call_of(last: u32, row: &Row) -> Option<u32>
     requires { last + 1 < 2 ^ 32 }
     ensures { result ≡ call_of last (begun_of row.now) }
@@ -128,7 +128,7 @@ fn last_of(last: u32, call: Option<u32>) -> u32
     }
 }
 
-/// What is told of these breaks, where the last number that was given out is this one, and the last one then.
+/// The effects of these breaks, if the last number that was given out is this one, and the last one then.
 fn tell(alloc: Global, last: u32, rows: &[Row]) -> Result<(Sequence<Effect>, u32), AllocError>
     requires { last + length rows.now < 2 ^ 32 }
     ensures told { IfOk result (λ r. r.0 ≡ begun_told last (map begun_of rows.now)) }
@@ -144,7 +144,7 @@ fn tell(alloc: Global, last: u32, rows: &[Row]) -> Result<(Sequence<Effect>, u32
     Ok((effects, number))
 }
 
-/// What is told of these breaks, in their order, and the last number given out then.
+/// The effects of these breaks, in their order, and the last number given out then.
 fn tell_all(
     alloc: Global,
     names: &Names,
@@ -193,7 +193,7 @@ fn begin_all(table: &mut Table, breaks: &[(Claim, Option<CacheKind>)], deadline:
     }
 }
 
-/// Begins the breaks that an ask begins, and tells so. At least 65,536 numbers must be left to give out.
+/// Begins the breaks that an ask begins, and gives their effects. At least 65,536 numbers must be left to give out.
 #[tactic(auto, unfolding(crate::specs::BreaksBegun::breaks_begun))]
 pub(crate) fn begin_breaks(
     alloc: Global,

@@ -23,7 +23,7 @@ use xl_matrix::{CacheKind, Claim, Rwd};
 use xl_table::Leaver;
 use xl_wait::Rooms;
 
-/// Answers an ask, and tells of the breaks that it begins. Its file is noted, where some began, or where it was granted what
+/// Answers an ask, and tells of the breaks that it begins. Its file is noted, if some began, or if it was granted what
 /// changes it.
 #[tactic(auto, using(crate::proofs::HeldUpLaws::any_up))]
 pub(crate) fn answer(
@@ -49,7 +49,7 @@ pub(crate) fn answer(
     Ok((answer, told))
 }
 
-/// The unsettled files after a turn: where there was none there are none.
+/// The unsettled files after a turn: if there was none there are none.
 fn left_by_turn(alloc: Global, had_turn: bool, before: Unsettled) -> Unsettled
     ensures { result ≡ (if had_turn then before else Files []) }
 {
@@ -60,7 +60,7 @@ fn left_by_turn(alloc: Global, had_turn: bool, before: Unsettled) -> Unsettled
     }
 }
 
-/// One turn, where a waiter has one. It is looked for among those alone who wait on an unsettled file.
+/// One turn, if a waiter has one. It is looked for among those alone who wait on an unsettled file.
 pub(crate) fn settle(
     alloc: Global,
     parts: &mut Parts,

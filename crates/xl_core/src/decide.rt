@@ -308,7 +308,7 @@ fn decided(
     }
 }
 
-/// Begins the breaks that an ask begins, and tells so.
+/// Begins the breaks that an ask begins, and gives their effects.
 #[tactic(auto, unfolding(crate::specs::Ways::made_way))]
 fn make_way_for(
     alloc: Global,
@@ -348,7 +348,7 @@ fn does_wish(act: &Act) -> bool
     matches!(act, Act::Share(_, _) | Act::Wish)
 }
 
-/// Answers an ask, tells of the breaks that it begins, and grants its wish where it is granted.
+/// Answers an ask, tells of the breaks that it begins, and grants its wish if it is granted.
 #[tactic(auto, unfolding(crate::specs::Decide::before_wish, crate::specs::Decide::ask))]
 pub(crate) fn answer(
     alloc: Global,

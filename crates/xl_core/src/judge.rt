@@ -28,14 +28,14 @@ pub(crate) enum Ruling {
     Gets,
     /// It waits.
     Waits,
-    /// It is refused, and told so.
+    /// It is refused, and answered so.
     Told(Answer),
 }
 
 /// What is judged besides the claims: of one who asks, or of one who waits already.
 #[derive(Clone, Copy)]
 pub(crate) struct Plea {
-    /// Whether it waits where something held blocks it for good.
+    /// Whether it waits if something held blocks it for good.
     pub blocking: bool,
     /// Whether it waits for the answer to a break.
     pub awaits: bool,
@@ -62,7 +62,7 @@ fn check_grace(parts: &Parts, plea: &Plea) -> Option<Ruling>
     None
 }
 
-/// Who may wait waits, where its wait passes no limit.
+/// Who may wait waits, if its wait passes no limit.
 fn wait_for(plea: &Plea) -> Ruling
     ensures ruling { result ≡ waits plea.now.crowded }
     ensures gets { result ≡ Gets → ⊥ }
@@ -74,7 +74,7 @@ fn wait_for(plea: &Plea) -> Ruling
     }
 }
 
-/// Who is stopped by a claim that no break moves waits, where it may.
+/// Who is stopped by a claim that no break moves waits, if it may.
 fn stopped(plea: &Plea, blocker: Claim) -> Ruling
     ensures ruling { result ≡ stopped plea.now blocker }
     ensures gets { result ≡ Gets → ⊥ }
@@ -105,7 +105,7 @@ fn check_held(
     })
 }
 
-/// Who is kept off by a cache waits for the answer to its break, where it awaits that.
+/// Who is kept off by a cache waits for the answer to its break, if it awaits that.
 fn kept_off(plea: &Plea, cache: Claim) -> Ruling
     ensures ruling { result ≡ kept_off plea.now cache }
     ensures gets { result ≡ Gets → ⊥ }
@@ -194,7 +194,7 @@ fn check_room(
     }
 }
 
-/// What stops a claim, where those before it are held by now. Where nothing does, it is held too.
+/// What stops a claim once those before it are held. If nothing does, it is held too.
 #[tactic(auto, unfolding(crate::specs::Judge::held_with))]
 fn judge_one(
     alloc: Global,
@@ -235,7 +235,7 @@ fn has_all(ruling: Ruling) -> bool
     matches!(ruling, Ruling::Gets)
 }
 
-/// What comes of these claims, each where those before it are held: all of them are held then, or none.
+/// What comes of these claims, each once those before it are held: all of them are held then, or none.
 fn judge_row(
     alloc: Global,
     parts: &mut Parts,

@@ -74,10 +74,10 @@ pub fn caches_may_be_held()
     ensures weakened { (s : CoreState) (c : Claim) (to : What) → IsGood s → IsIn c s.claims → IsHeld s.names (with_what c to) → is_cache to ≡ true → weaker (with_what c to) c ≡ true → IsGood (holding s (changed c to s.claims)) }
 {}
 
-/// If the breaks begin that an ask for a share or a range begins, the state stays good: each of these caches is held at its
-/// full kind until its break is answered, or is gone if that needs no answer. What is not in the ask's way stands as it
-/// is, and so does a cache whose break runs already. Then none is left to begin: each cache in the way is gone, or its break
-/// runs; and so many caches fewer are left whose break may begin as breaks began.
+/// If the breaks of an ask for a share or a range begin, the state stays good: each of these caches is held at its
+/// full kind until its break is answered, or is gone if that needs no answer. What is not in the ask's way stays as it
+/// is, and so does a cache whose break runs already. Then none is left to begin: each cache in the way is gone, or its
+/// break runs; and so many caches fewer are left whose break may begin as breaks began.
 #[tactic(auto, using(crate::proofs::AskBreaksLaws::broken_good, crate::proofs::AskBreaksLaws::broken_stand, crate::proofs::AskBreaksLaws::apart_stand, crate::proofs::AskBreaksLaws::running_stand, crate::proofs::AskBreaksLaws::none_begins_again, crate::proofs::AskBreaksLaws::fewer_idle))]
 pub fn breaks_may_begin()
     ensures good { (deadline : Moment) (s : CoreState) (ask : Claim) → IsGood s → is_cache ask.what ≡ false → IsGood (holding s (once_broken deadline ask s.claims)) }
@@ -88,9 +88,9 @@ pub fn breaks_may_begin()
     ensures fewer { (deadline : Moment) (ask : Claim) (held : List Claim) → idle_caches (once_broken deadline ask held) + length (planned ask held).breaks ≡ idle_caches held }
 {}
 
-/// Each answer is given exactly if its cause stands, which `IsClaimDue`, `IsTestDue`, `IsUnlockDue` and `IsWishDue` say; of
-/// several limits the least is answered. Of the claims that block an ask the one that is answered is held, and none of the
-/// others comes before it; the break of a cache that is answered runs by then.
+/// Each answer is given exactly if its cause holds, which `IsClaimDue`, `IsTestDue`, `IsUnlockDue` and `IsWishDue` say;
+/// of several limits the least is answered. Of the claims that block an ask the one that is answered is held, and none
+/// of the others comes before it; the break of a cache that is answered runs by then.
 pub fn answers_have_causes()
     ensures claims { (n : ℕ) (left : Rooms) (s : CoreState) (a : Ask) (what : What) (answer : Answer) → asked_what a.act ≡ Some what → ((ask n left s a).0 ≡ answer) ↔ IsClaimDue left (way left s a).1 a (asked_claim a what s.names) answer }
     ensures recalls { (n : ℕ) (left : Rooms) (s : CoreState) (a : Ask) (what : What) (c : Claim) → asked_what a.act ≡ Some what → (ask n left s a).0 ≡ Answer.Recall c → is_running c.what ≡ true }
@@ -120,12 +120,12 @@ pub fn nothing_else_changes()
     ensures tests { (n : ℕ) (left : Rooms) (s : CoreState) (a : Ask) (extent : Extent) (exclusive : Bool) → a.act ≡ Act.Test extent exclusive → (ask n left s a).2 ≡ s }
 {}
 
-/// An asker that begins to wait stands at the end of the queue, under the number that it is answered. There is no turn
+/// An asker that begins to wait is at the end of the queue, under the number that it is answered. There is no turn
 /// exactly if each waiter, judged behind those before it, waits on with nothing begun or changed; and that is if each
-/// is held up: something held blocks the first claim that it asks for, for good if it waits for that, and else a cache. A
-/// turn is that of the first waiter that isn't held up: it has what it asked for, or is answered what blocks it or the least
-/// limit that this would pass, and waits no more; all others wait on, and have what they had. So turns end, with nobody left
-/// who isn't held up: a turn takes a waiter out, which may be served with a cache, or begins a break.
+/// is held up: something held blocks the first claim that it asks for, for good if it waits for that, and else a cache.
+/// A turn is that of the first waiter that isn't held up: it has what it asked for, or is answered what blocks it or
+/// the least limit that this would pass, and waits no more; all others wait on, and have what they had. So turns end,
+/// with nobody left who isn't held up: a turn takes a waiter out, which may be served with a cache, or begins a break.
 pub fn nobody_is_forgotten()
     ensures waits { (n : ℕ) (left : Rooms) (s : CoreState) (a : Ask) (number : ℕ) → IsGood s → IsFit a → (ask n left s a).0 ≡ Answer.Queued number → (ask n left s a).2.waiters ≡ s.waiters ++ waiter_of number a (asked_claims a (asked_whats a.act) s.names) ∷ [] }
     ensures settled { (n : ℕ) (left : Rooms) (s : CoreState) → (settle n left s ≡ None) ↔ AllRest n left s [] s.waiters }

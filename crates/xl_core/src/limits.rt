@@ -28,7 +28,7 @@ fn first_passed(limits: &[(u32, bool)]) -> Option<u32>
     None
 }
 
-/// The least limit that a grant passes, where so many claims are held and names kept afterwards.
+/// The least limit that a grant passes, if so many claims are held and names kept afterwards.
 pub(crate) fn passed_by_grant(left: &Rooms, rows: &Rooms, held: usize, kept: usize) -> Option<u32>
     ensures { result ≡ first_passed (grant_limits left.now rows.now held kept) }
 {
@@ -41,7 +41,7 @@ pub(crate) fn passed_by_grant(left: &Rooms, rows: &Rooms, held: usize, kept: usi
     ])
 }
 
-/// The least limit that a wait passes, where so many wait already and names are kept afterwards.
+/// The least limit that a wait passes, if so many wait already and names are kept afterwards.
 pub(crate) fn passed_by_wait(left: &Rooms, rows: &Rooms, waiting: usize, kept: usize) -> Option<u32>
     ensures { result ≡ first_passed (wait_limits left.now rows.now waiting kept) }
 {
@@ -52,7 +52,7 @@ pub(crate) fn passed_by_wait(left: &Rooms, rows: &Rooms, waiting: usize, kept: u
     ])
 }
 
-/// The least limit that a wish by itself passes, where so many names are kept afterwards.
+/// The least limit that a wish by itself passes, if so many names are kept afterwards.
 pub(crate) fn passed_by_wish(left: &Rooms, rows: &Rooms, kept: usize) -> Option<u32>
     ensures { result ≡ first_passed (wish_limits left.now rows.now kept) }
 {

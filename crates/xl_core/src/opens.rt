@@ -15,10 +15,10 @@ ghost use Rattle.xl_core.specs.declared.ask.Answer.{Answer};
 ghost use Rattle.xl_core.specs.declared.ask.Ask.{Ask};
 ghost use Rattle.xl_core.specs.declared.ask.Who.{Who};
 
-/// An SMB open's locks and unlocks, by the list of its ranges on the file (MS-SMB2 3.3.5.14). If its ranges are granted,
-/// each of them is held once more, in order behind those that were held. If they aren't, all claims stand, in their order,
-/// except for the breaks that began. An unlock takes out one range that is equal to its own, an exclusive one before a shared
-/// one; if the open has none the answer says so. What else stands, stands: see `deeds_are_all_that_changes`.
+/// An SMB open's locks and unlocks, by the list of its ranges on the file (MS-SMB2 3.3.5.14). If its ranges are
+/// granted, each of them is held once more, in order behind those that were held. If they aren't, all claims stay, in
+/// their order, except for the breaks that began. An unlock takes out one range that is equal to its own, an exclusive
+/// one before a shared one; if the open has none the answer says so. All else stays: see `deeds_are_all_that_changes`.
 #[tactic(auto, using(crate::proofs::WayOpens::ask_locked, crate::proofs::WayOpens::ask_refused, crate::proofs::WayOpens::ask_unlocked, crate::proofs::WayOpens::ask_element))]
 pub fn opens_lock_each_range()
     ensures locked { (n : ℕ) (left : Rooms) (s : CoreState) (a : Ask) (ranges : List (Extent × Bool)) (number : ℕ) (c : Claim) → IsGood s → IsFit a → a.owner ≡ Who.Open number → a.act ≡ Act.Ranges ranges → (ask n left s a).0 ≡ Answer.Granted c → elements_of a.file (Owner.Open number) (ask n left s a).2.claims ≡ elements_of a.file (Owner.Open number) s.claims ++ map range_what ranges }

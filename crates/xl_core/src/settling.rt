@@ -49,8 +49,8 @@ fn plea_again(parts: &Parts, waiter: &Waiter) -> Plea
     }
 }
 
-/// Whether something held blocks the claim: for good, where the waiter waits for that, or caches alone, all of whose breaks
-/// run.
+/// Whether something held blocks the claim: for good, if the waiter waits for that, or caches alone, all of whose
+/// breaks run.
 #[tactic(auto, using(crate::proofs::WayCode::stopped_uncached))]
 fn is_held_up(
     alloc: Global,
@@ -79,7 +79,7 @@ fn is_up(alloc: Global, parts: &Parts, waiter: &Waiter) -> Result<bool, AllocErr
     }
 }
 
-/// The same. What is held on its file is looked at only where that is one of the unsettled files.
+/// The same. What is held on its file is looked at only if that is one of the unsettled files.
 fn holds_up(
     alloc: Global,
     parts: &Parts,
@@ -148,7 +148,7 @@ fn called_at(
     }
 }
 
-/// The first who isn't held up, where this is the one unsettled file: the first such in its queue.
+/// The first who isn't held up, if this is the one unsettled file: the first such in its queue.
 fn called_on(alloc: Global, parts: &Parts, file: u32) -> Result<Option<Called>, AllocError>
     requires good { IsGood (state_of parts.now) }
     requires held_up { AreHeldUp (Files (file ∷ [])) (state_of parts.now) }
@@ -177,8 +177,8 @@ fn first_called(
     Ok(None)
 }
 
-/// The first who isn't held up, as it is called. It is looked for among those alone who wait on an unsettled file: in its
-/// queue, where it is one, and else in the order of arrival.
+/// The first who isn't held up, as it is called. It is looked for among those alone who wait on an unsettled file: in
+/// its queue, if it is one, and else in the order of arrival.
 fn next_called(
     alloc: Global,
     parts: &Parts,
@@ -203,8 +203,8 @@ fn all_of(asked: &[Claim]) -> Answer
     }
 }
 
-/// Takes the waiter out and tells what was ruled, behind the breaks that began, unless it waits on. Then its wish is granted,
-/// where it has what it asked for.
+/// Takes the waiter out and answers what was ruled, behind the breaks that began, unless it waits on. Then its wish is
+/// granted, if it has what it asked for.
 fn serve(
     alloc: Global,
     parts: &mut Parts,
@@ -233,7 +233,7 @@ fn serve(
     Ok(effects)
 }
 
-/// One turn, where a waiter has one. It is looked for among those who wait on the unsettled files.
+/// One turn, if a waiter has one. It is looked for among those who wait on the unsettled files.
 #[tactic(auto, unfolding(crate::specs::Settle::settle))]
 pub(crate) fn settle(
     alloc: Global,

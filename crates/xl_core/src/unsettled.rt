@@ -38,7 +38,7 @@ pub(crate) fn is_none(unsettled: &Unsettled) -> bool
     }
 }
 
-/// The file of a list, where it has one alone.
+/// The file of a list, if it has one alone.
 fn one_of(files: &[u32]) -> Option<u32>
     ensures { result ≡ only_file (Files files.now) }
 {
@@ -49,7 +49,7 @@ fn one_of(files: &[u32]) -> Option<u32>
     }
 }
 
-/// The file, where there is one alone.
+/// The file, if there is one alone.
 #[tactic(auto, using(crate::proofs::UnsettledLaws::only_is))]
 pub(crate) fn only_file(unsettled: &Unsettled) -> Option<u32>
     ensures value { result ≡ only_file unsettled.now }
@@ -61,7 +61,7 @@ pub(crate) fn only_file(unsettled: &Unsettled) -> Option<u32>
     }
 }
 
-/// The file is one of them too, which takes memory; where that is wanting they are all.
+/// The file is one of them too, which takes memory; if that is wanting they are all.
 #[tactic(auto, using(crate::proofs::UnsettledLaws::added_wider, crate::proofs::UnsettledLaws::added_own, crate::proofs::UnsettledLaws::all_wider))]
 fn add(unsettled: &mut Unsettled, file: u32)
     ensures wider { IsWider unsettled.old unsettled.new }
@@ -74,7 +74,7 @@ fn add(unsettled: &mut Unsettled, file: u32)
     }
 }
 
-/// Notes a file: it is one of them from then on, where someone waits on it.
+/// Notes a file: it is one of them from then on, if someone waits on it.
 pub(crate) fn note(queue: &Queue, unsettled: &mut Unsettled, file: u32)
     ensures { Notes unsettled.old unsettled.new file queue.now }
 {
@@ -116,8 +116,8 @@ fn may_change(request: &Ask, answer: Answer, told: &[Effect]) -> bool
     }
 }
 
-/// Notes the file of an ask that was answered so, and told of these breaks that began, where it may have changed what is held
-/// there.
+/// Notes the file of an ask that was answered so, and told of these breaks that began, if it may have changed what is
+/// held there.
 pub(crate) fn note_asked(
     queue: &Queue,
     unsettled: &mut Unsettled,

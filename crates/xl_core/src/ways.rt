@@ -36,7 +36,8 @@ fn begins(
     Ok(!(plea.awaits && plea.crowded.is_some() && recalled(plan).is_some()))
 }
 
-/// Begins the breaks that a plea for these claims begins, and tells so. At least 65,536 numbers must be left to give out.
+/// Begins the breaks that a plea for these claims begins, and gives their effects. At least 65,536 numbers must be left
+/// to give out.
 #[tactic(auto, unfolding(crate::specs::Ways::made_way))]
 pub(crate) fn make_way(
     alloc: Global,

@@ -24,9 +24,9 @@ ghost use Rattle.xl_core.specs.State.{CoreState};
 ghost use Rattle.xl_core.specs.Wishes.{wished_kind, wish_granted, wish_of, wished_at};
 
 /// A wish of a party for kinds that it may have keeps the state good. All shares and ranges stay, each claim on another
-/// file, and on its file each cache but the party's: of that there is the kind that the wish gets, else what was there. So
-/// there is one cache more at most of which a break may begin. Who waits, the numbers, the names, the record and the clock
-/// stand; and if the wish gets no kind nothing changes.
+/// file, and on its file each cache except the party's: of that there is the kind that the wish gets, else what was
+/// there. So there is one cache more at most of which a break may begin. Who waits, the numbers, the names, the record
+/// and the clock stay; and if the wish gets no kind nothing changes.
 #[tactic(auto, unfolding(crate::specs::Wishes::wish_granted), using(crate::proofs::WishLaws::wish_good, crate::proofs::WishLaws::wish_cache, crate::proofs::WishLaws::wish_caches, crate::proofs::WishLaws::wish_others, crate::proofs::WishLaws::wish_spans, crate::proofs::WishLaws::wish_shares, crate::proofs::WishLaws::wish_elements, crate::proofs::WishLaws::wish_elsewhere, crate::proofs::WishLaws::wish_idle, crate::proofs::WishLaws::wish_delegations, crate::proofs::WishLaws::wish_none))]
 pub fn wishes_change_one_cache()
     ensures good { (wanted : Wish) (s : CoreState) → IsGood s → AllByRecursion (λ kind. is_kind_of wanted.party kind ≡ true) wanted.kinds → are_kept s.names wanted.owner wanted.party ≡ true → IsGood (wish_granted wanted s) }
@@ -48,7 +48,7 @@ pub fn wishes_change_one_cache()
 {}
 
 /// A wish breaks nothing, and stands back for who waits: it gets nothing if someone else waits on the file, nor if its
-/// party has no cache there and the table is full with 16,384 claims. A cache whose break runs stands as it is.
+/// party has no cache there and the table is full with 16,384 claims. A cache whose break runs stays as it is.
 #[tactic(auto, using(crate::proofs::WishLaws::waits_stand, crate::proofs::WishLaws::full_stands, crate::proofs::WishLaws::running_stays))]
 pub fn wishes_stand_back()
     ensures waits { (wanted : Wish) (s : CoreState) → waits_on wanted.file s.waiters ≡ true → wish_granted wanted s ≡ s }
@@ -56,8 +56,9 @@ pub fn wishes_stand_back()
     ensures breaks { (wanted : Wish) (s : CoreState) (c : Claim) → IsIn c s.claims → is_running c.what ≡ true → IsIn c (wish_granted wanted s).claims }
 {}
 
-/// The wish of an ask for a share, or of a wish by itself, is granted once that is, and only then; of a waiter once it is
-/// served, and waits no more. Nothing is told of it: what is told is the breaks that began before, and who was served.
+/// The wish of an ask for a share, or of a wish by itself, is granted once that is, and only then; of a waiter once it
+/// is served, and waits no more. Nothing is said of it: the effects are the breaks that began before, and who was
+/// served.
 #[tactic(auto, using(crate::proofs::WayAsks::ask_wishes, crate::proofs::WayAsks::ask_unwished))]
 pub fn granted_asks_have_their_wish()
     ensures granted { (n : ℕ) (left : Rooms) (s : CoreState) (a : Ask) (c : Claim) → does_wish a.act ≡ true → (ask n left s a).0 ≡ Answer.Granted c → (ask n left s a).2 ≡ wish_granted (wish_of a.wish c) (before_wish n left s a).2 }

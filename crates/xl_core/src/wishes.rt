@@ -43,7 +43,7 @@ fn enter_cache(table: &mut Table, wanted: &Wish, kind: CacheKind) -> Result<(), 
     }
 }
 
-/// Has the party's cache on the file, where this is what it has there, be of this kind.
+/// Has the party's cache on the file, if this is what it has there, be of this kind.
 fn put_cache(
     table: &mut Table,
     wanted: &Wish,
@@ -67,8 +67,8 @@ fn put_cache(
     }
 }
 
-/// Grants a wish, as far as it may be: the party's cache on the file is of the best kind that goes with all that is held,
-/// where nobody waits on the file and there is room. It breaks nothing, and there is nothing to tell.
+/// Grants a wish, as far as it may be: the party's cache on the file is of the best kind that goes with all that is
+/// held, if nobody waits on the file and there is room. It breaks nothing, and there is nothing to tell.
 #[tactic(auto, unfolding(crate::specs::Wishes::wished_kind, crate::specs::Wishes::wish_granted))]
 pub(crate) fn grant_wish(alloc: Global, parts: &mut Parts, wanted: &Wish) -> Result<(), AllocError>
     ensures state { OnOk result (state_of parts.new ≡ wish_granted wanted.now (state_of parts.old)) }
@@ -92,7 +92,7 @@ pub(crate) fn grant_wish(alloc: Global, parts: &mut Parts, wanted: &Wish) -> Res
     Ok(())
 }
 
-/// Grants the wish for these kinds of one who is answered so, where that is granted.
+/// Grants the wish for these kinds of one who is answered so, if that is granted.
 pub(crate) fn grant_for(
     alloc: Global,
     parts: &mut Parts,

@@ -61,7 +61,7 @@ is_exclusive_at first len e = has_range first len e && e.exclusive
 abbrev pub is_locked : ℕ → ℕ → List Element → Bool
 is_locked first len es = list_any (has_range first len) es
 
--- the elements after an unlock: without the first exclusive one of just this range, or where there is none, without the
+-- the elements after an unlock: without the first exclusive one of just this range, or if there is none, without the
 -- first one
 unfoldable pub unlocked : ℕ → ℕ → List Element → List Element
 unlocked first len es =

@@ -112,9 +112,9 @@ impl Exact {
         });
     }
 
-    /// Unlocks the `len` bytes from `first` on: takes out the first exclusive element of just this offset and length, or
-    /// where there is none the first shared one (MS-FSA 2.1.5.9). False comes exactly where no element has them; then
-    /// all is as it was. A part of an element, or what covers several, is no element.
+    /// Unlocks the `len` bytes from `first` on: takes out the first exclusive element of just this offset and length,
+    /// or if there is none the first shared one (MS-FSA 2.1.5.9). False comes exactly if no element has them; then all
+    /// is as it was. A part of an element, or what covers several, is no element.
     pub fn unlock(&mut self, first: u64, len: u64) -> bool
         ensures value { result ≡ is_locked first len self.old.elements }
         ensures elements { self.new.elements ≡ unlocked first len self.old.elements }
@@ -124,8 +124,8 @@ impl Exact {
         self.take_out(first, len).is_some()
     }
 
-    /// Unlocks as `unlock` does, and tells the place that the element had in the order of locking; None where `unlock`
-    /// tells false.
+    /// Unlocks as `unlock` does, and gives the place that the element had in the order of locking; None if `unlock`
+    /// answers false.
     #[tactic(auto, using(crate::proofs::ElementLaws::others_unlocked, crate::proofs::ElementLaws::ranges_unlocked))]
     pub fn take_out(&mut self, first: u64, len: u64) -> Option<usize>
         ensures value { result ≡ place_unlocked first len self.old.elements }
@@ -137,9 +137,9 @@ impl Exact {
         take_out(&mut self.items, first, len)
     }
 
-    /// The first element, in the order of locking, that another open's lock of the `len` bytes from `first` on conflicts
-    /// with (MS-FSA 2.1.4.10): an exclusive one with any that it meets, a shared one with the exclusive ones. None
-    /// exactly where there is none.
+    /// The first element, in the order of locking, that another open's lock of the `len` bytes from `first` on
+    /// conflicts with (MS-FSA 2.1.4.10): an exclusive one with any that it meets, a shared one with the exclusive ones.
+    /// None exactly if there is none.
     #[tactic(auto, using(crate::proofs::ElementLaws::found_passes, crate::proofs::ElementLaws::none_found))]
     pub fn first_conflict(&self, first: u64, len: u64, exclusive: bool) -> Option<Element>
         ensures value { result ≡ first_conflict first len exclusive self.now.elements }
@@ -149,8 +149,8 @@ impl Exact {
         first_conflict(&self.items, first, len, exclusive)
     }
 
-    /// The first element that the open's own lock conflicts with: an exclusive one conflicts with any that it meets, its
-    /// own too, and a shared one with none (MS-FSA 2.1.4.10). None exactly where there is none.
+    /// The first element that the open's own lock conflicts with: an exclusive one conflicts with any that it meets,
+    /// its own too, and a shared one with none (MS-FSA 2.1.4.10). None exactly if there is none.
     #[tactic(auto, using(crate::proofs::ElementLaws::found_passes, crate::proofs::ElementLaws::none_found, crate::proofs::ElementLaws::none_of_own))]
     pub fn first_own_conflict(&self, first: u64, len: u64, exclusive: bool) -> Option<Element>
         ensures value { result ≡ first_own_conflict first len exclusive self.now.elements }

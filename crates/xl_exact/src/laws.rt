@@ -3,13 +3,13 @@ ghost use Rattle.std.specs.Prelude.{◌≡◌, ℕ, ◌<◌, ◌-◌, true, fals
 ghost use Rattle.xl_exact.specs.declared.element.Element.{Element};
 ghost use Rattle.xl_exact.specs.Elements.{covers, meets, conflicts, is_locked, unlocked, undone};
 
-/// Two ranges that have bytes meet exactly where they have a common one.
+/// Two ranges that have bytes meet exactly if they have a common one.
 #[tactic(auto, using(crate::proofs::ElementLaws::meets_by_bytes))]
 pub fn ranges_meet_by_their_bytes()
     ensures { (first len : ℕ) (e : Element) → 0 < len → 0 < e.len → (meets first len e ≡ true) ↔ ((x : ℕ) × (covers first len x ≡ true) × (covers e.first e.len x ≡ true)) }
 {}
 
-/// A range without a byte meets an element exactly where that has both the byte before its offset and the byte at it; so
+/// A range without a byte meets an element exactly if that has both the byte before its offset and the byte at it; so
 /// at offset 0 it meets none, and no other range without a byte.
 #[tactic(auto, using(crate::proofs::ElementLaws::empty_meets))]
 pub fn empty_ranges_meet_what_lies_on_both_sides()

@@ -35,7 +35,7 @@ pub(crate) fn place_to_unlock(elements: &[Element], first: u64, len: u64) -> Opt
     }
 }
 
-/// Takes out what an unlock of the range takes, and tells the place that it had; None where no element has just this
+/// Takes out what an unlock of the range takes, and gives the place that it had; None if no element has just this
 /// range.
 pub(crate) fn take_out(items: &mut Vec<Element>, first: u64, len: u64) -> Option<usize>
     ensures value { result ≡ place_unlocked first len items.old.items }

@@ -93,7 +93,7 @@ otherwise fault = others (λ _. never fault)
 abbrev pub none_else : {K A : Type 0} (choose : A → Chosen K A RpcBad) (before : K → Bool) (fault : RpcBad) → AreSeen choose before (otherwise fault)
 none_else choose before fault = (λ k unknown a none. absurd none, tt)
 
--- the value that is told at this key by what has no parts, where the condition holds
+-- the value that is told at this key by what has no parts, if the condition holds
 abbrev pub standing_by : {K A : Type 0} → K → A → (f : Format (Unit {0}) RpcBad) → f.Fit tt → Type 0 → Chosen K A RpcBad
 standing_by {K} {A} key a f fits Condition = record { key = key; Part = Unit {0}; make = λ _. a; format = f; part = tt; Fit = Condition; fits = λ _. fits }
 
@@ -113,7 +113,7 @@ tagged key cases choose as_seen made = record {
   codec = tagged_codec (λ a. (choose a).key) key.codec (choice_codec cases choose as_seen made);
 }
 
--- a thing that is there where the test holds
+-- a thing that is there if the test holds
 abbrev pub there_if : {A : Type 0} → Format A RpcBad → Cases Bool (Option A) RpcBad
 there_if f = when (λ b. b) true (λ b holds. holds) Some f (others (λ _. just None))
 

@@ -7,7 +7,7 @@ use Rattle.xl_frame.specs.declared.fault.FeedErr.{FeedErr}
 use Rattle.xl_frame.specs.declared.fault.FeedErr.TheVariants.{NoMemory, Bad}
 use Rattle.xl_frame.specs.Frames.{Framed, with_frames, frames}
 
--- the old one where it has a fault, else the new one
+-- the old one if it has a fault, else the new one
 abbrev pub unless_bad : Option FrameBad → Framed → Framed → Framed
 unless_bad None old new = new
 unless_bad (Some fault) old new = old
@@ -36,7 +36,7 @@ framed_of c = record { frames = c.ready; rest = c.rest; bad = c.bad }
 abbrev pub fed : Cutting → List ℕ → Cutting
 fed c piece = cutting c.kind (then_piece c.kind (framed_of c) piece)
 
--- What feeding a piece answers and leaves: Ok where no bad place is met, else its fault, and after want of memory what
+-- What feeding a piece answers and leaves: Ok if no bad place is met, else its fault, and after want of memory what
 -- was there before.
 abbrev pub Feeds : Cutting → List ℕ → Result (Unit {0}) FeedErr → Cutting → Type 0
 Feeds old piece (Ok done) new = (new ≡ fed old piece) × (new.bad ≡ None)

@@ -13,8 +13,8 @@ use std::marker::Model;
 use xl_base::{Kind, Sequence};
 
 /// Cuts the bytes of a connection, in whatever pieces they come, into the messages of their frames: records of ONC RPC
-/// (RFC 5531 11), or messages of SMB 2 over TCP (MS-SMB2 2.1). A message under way is read on from where it was, and each
-/// byte is copied three times at most, but for what the growth of vectors copies.
+/// (RFC 5531 11), or messages of SMB 2 over TCP (MS-SMB2 2.1). A message under way is read on from where it was, and
+/// each byte is copied three times at most, except for what the growth of vectors copies.
 #[derive(Drop)]
 pub struct Cutter {
     kind: Kind,
@@ -79,7 +79,7 @@ impl Cutter {
         }
     }
 
-    /// The next message, in the order of the stream; None exactly where no whole frame stands. It takes no memory.
+    /// The next message, in the order of the stream; None exactly if no whole frame stands. It takes no memory.
     pub fn next(&mut self) -> Option<Vec<u8>>
         ensures first { option_map (λ message. message.items) result ≡ slice_get self.old.ready 0 }
         ensures rest { self.new ≡ without_first self.old }

@@ -20,7 +20,7 @@ pub(crate) struct Cut {
     pub(crate) bad: Option<FrameBad>,
 }
 
-/// Cuts bytes into frames, where so much of the first is read already.
+/// Cuts bytes into frames, if so much of the first is read already.
 pub(crate) fn cut_frames(
     alloc: Global,
     kind: Kind,

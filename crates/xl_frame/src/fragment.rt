@@ -23,7 +23,7 @@ pub(crate) enum Fragment<'a> {
     Last(&'a [u8], &'a [u8]),
 }
 
-/// The fragment at the front of the bytes, where its message may have so many fragments more and has so many bytes so
+/// The fragment at the front of the bytes, if its message may have so many fragments more and has so many bytes so
 /// far.
 #[tactic(auto, unfolding(crate::specs::Frames::fragment_at))]
 pub(crate) fn fragment_at(kind: Kind, left: u32, sum: usize, bytes: &[u8]) -> Fragment<'_>

@@ -49,7 +49,7 @@ without_found l (Some r) = without_number r.number l
 abbrev pub without_named : List ℕ → NfsLists → NfsLists
 without_named id l = without_found l (find (is_client_named id false) l.clients)
 
--- the number that the client has already, where its confirmed record has the verifier (NFS-11)
+-- the number that the client has already, if its confirmed record has the verifier (NFS-11)
 abbrev pub number_kept : List ℕ → Option ClientRow → Option ℕ
 number_kept verifier None = None
 number_kept verifier (Some r) = if bytes_eq r.details.verifier verifier then Some r.number else None
@@ -91,7 +91,7 @@ draws (Some number) = Draws ∷ []
 abbrev pub set_under : Moment → NfsLists → SetClientIdArgsItem → ℕ → ℕ → NfsLists
 set_under time l a number confirm = with_row (without_number number l) (row_of time a number confirm)
 
--- numbers are drawn where there is room
+-- numbers are drawn if there is room
 abbrev pub set_by : CoreState → NfsLists → Option ℕ → SetClientIdArgsItem → Option ℕ → Plan
 set_by s l current a kept =
     if has_room l then Does (draws kept) (set_under (lease_end s) l a (numbers s.counter kept).0 (numbers s.counter kept).1) (Client (confirm_of s (numbers s.counter kept).0 (numbers s.counter kept).1), current)
@@ -120,7 +120,7 @@ confirmed_row time number r = with_time time (record { number = number; confirme
 abbrev pub come : Moment → NfsLists → ℕ → ClientRow → NfsLists
 come time l number r = with_row (without_client number l) (confirmed_row time number r)
 
--- the same client again: it keeps what it has, but for what its record says (NFS-12)
+-- the same client again: it keeps what it has, except for what its record says (NFS-12)
 abbrev pub come_again : Moment → NfsLists → ℕ → ClientRow → NfsLists
 come_again time l number r = with_clients l (changed (is_client number true) (with_details (confirmed_row time number r).details) l.clients)
 
@@ -140,7 +140,7 @@ confirm_held s l current number verifier None = Tells (Ended StaleClientId, curr
 confirm_held s l current number verifier (Some r) =
     Does (Renews r.id ∷ []) (renewed (lease_end s) number l) (Ended (if bytes_eq r.details.confirm verifier then Ok else StaleClientId), current)
 
--- the record, where this verifier confirms it
+-- the record, if this verifier confirms it
 abbrev pub confirmed_by : List ℕ → Option ClientRow → Option ClientRow
 confirmed_by verifier None = None
 confirmed_by verifier (Some r) = if bytes_eq r.details.confirm verifier then Some r else None

@@ -1,4 +1,4 @@
--- What a COMPOUND was told, as it is kept while its operations are done.
+-- What a COMPOUND was answered, as it is kept while its operations are done.
 use Rattle.xl_front_nfs.specs.Steps.{Course}
 use Rattle.xl_front_nfs.specs.declared.compound.Progress.{Progress}
 

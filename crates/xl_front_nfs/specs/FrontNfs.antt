@@ -96,6 +96,6 @@ abbrev pub sent_with : ℕ → List ℕ × List Effect × FrontNfs × CoreState 
 sent_with conn r = (sent_to conn r.0, r.1, r.2, r.3)
 
 -- What a request from a connection is answered, what the core told of besides, and the front and the core afterwards,
--- where n stores succeed in the step.
+-- if n stores succeed in the step.
 unfoldable pub nfs_step : ℕ → Exports → ℕ → FrontNfs → CoreState → ℕ → RequestItem → List Out × List Effect × FrontNfs × CoreState
 nfs_step n exports others f s conn r = sent_with conn (replied n exports.files others f s r.xid (call_in r))

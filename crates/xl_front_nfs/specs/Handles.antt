@@ -16,7 +16,7 @@ abbrev pub put_file : ℕ → NfsLists → Option ℕ → Option ℕ → Plan
 put_file count l current None = Tells (Ended BadHandle, current)
 put_file count l current (Some file) = if nat_le file count then Does [] l (Ended Ok, Some file) else Tells (Ended Stale, current)
 
--- PUTFH (16.20), where so many files are exported (NFS-10)
+-- PUTFH (16.20), if so many files are exported (NFS-10)
 unfoldable pub put_fh : ℕ → NfsLists → Option ℕ → List ℕ → Plan
 put_fh count l current fh = put_file count l current (file_at fh)
 

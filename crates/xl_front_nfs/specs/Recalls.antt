@@ -21,7 +21,7 @@ abbrev pub client_by : NfsLists → Option (List ℕ) → Option ClientRow
 client_by l None = None
 client_by l (Some id) = find (is_client_named id true) l.clients
 
--- the call of this number asks the client, where it is called back now, for this delegation of the file (NFS-17)
+-- the call of this number asks the client, if it is called back now, for this delegation of the file (NFS-17)
 abbrev pub recall_out : CoreState → ℕ → ℕ → ClientRow → StateidRow → Out
 recall_out s number file c r = record {
   dest = Back number;
@@ -38,8 +38,8 @@ abbrev pub recalled_from : CoreState → NfsLists → ℕ → ℕ → Option Cli
 recalled_from s l number file None = []
 recalled_from s l number file (Some c) = recalled_as s number file c (find (delegated_on c.number file) l.stateids)
 
--- What is sent where the core tells this: the break of a delegation, which has a call's number, asks its client for it; nothing
--- else is sent (NFS-17).
+-- What is sent for this effect of the core: the break of a delegation, which has a call's number, asks its client for
+-- it; nothing else is sent (NFS-17).
 unfoldable pub recalls : FrontNfs → CoreState → Effect → List Out
 recalls f s (Begun cache to (Some number)) = recalled_from s f.state number cache.file (client_by f.state (client_of s.names cache.party))
 recalls f s _ = []
@@ -56,8 +56,8 @@ pub record IsRecall (f : FrontNfs) (s : CoreState) (cache : Claim) (number : ℕ
   pub before : row.number < number
   pub sent : out ≡ recall_out s number cache.file client row
 
--- The break that this call's number is of is told by one call: to the client's callback, as it is confirmed now, for the client's
--- delegation on the file.
+-- The break that this call's number is of is sent by one call: to the client's callback, as it is confirmed now, for
+-- the client's delegation on the file.
 pub record IsRecalledOnce (f : FrontNfs) (s : CoreState) (cache : Claim) (to : Option CacheKind) (number : ℕ) (id : List ℕ) : Type 0 where
   pub client : ClientRow
   pub row : StateidRow

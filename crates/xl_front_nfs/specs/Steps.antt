@@ -27,7 +27,7 @@ use Rattle.xl_nfs_opens.specs.declared.told.Told.TheVariants.{Ended}
 
 -- ---- the table
 
--- What each operation does, where these files are exported, and beside so many opens of other protocols. The others are
+-- What each operation does, if these files are exported, and beside so many opens of other protocols. The others are
 -- not served, and their arguments aren't read (NFS-9).
 unfoldable pub planned : List (List ℕ) → ℕ → CoreState → NfsLists → Option ℕ → OpItem → Plan
 planned files others s l current PutRootFh = put_root_fh l
@@ -72,7 +72,8 @@ steps_in (suc count) bytes = step_then (steps_in count) bytes (op_at bytes)
 
 -- ---- the fold
 
--- What a COMPOUND was told: the current handle, the results as they are spelled, how many they are, and the last status.
+-- What a COMPOUND was answered: the current handle, the results as they are spelled, how many they are, and the last
+-- status.
 pub record Course : Type 0 where
   pub current : Option ℕ
   pub results : List ℕ
@@ -83,7 +84,7 @@ pub record Course : Type 0 where
 abbrev pub begun : Course
 begun = record { current = None; results = []; count = 0; status = statuses.Ok }
 
--- an operation of this number more, and what it was told
+-- an operation of this number more, and what it was answered
 abbrev pub noted : Course → ℕ → Told × Option ℕ → Course
 noted c number r = record { current = r.1; results = c.results ++ spelled number r.0; count = c.count + 1; status = status_of r.0 }
 

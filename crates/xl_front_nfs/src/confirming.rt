@@ -20,7 +20,7 @@ use xl_nfs::{ClientConfirm, NfsStatus};
 use xl_nfs_opens::{Done, Told, ended_as, lease_end, renewed};
 use xl_nfs_state::{ClientRow, NfsState};
 
-/// The client comes under this number, where there is room and none has its id string.
+/// The client comes under this number, if there is room and none has its id string.
 fn come(
     alloc: Global,
     state: &mut NfsState,
@@ -52,7 +52,7 @@ fn come_again(state: &mut NfsState, number: u32, row: ClientRow, time: Moment)
     state.change_client(number, true, details);
 }
 
-/// The lease of the client of this id string runs from now on, and what it had before goes, where it was another client.
+/// The lease of the client of this id string runs from now on, and what it had before goes, if it was another client.
 #[tactic(auto, using(xl_plan::proofs::BudgetLaws::leaves_self))]
 fn ended_and_renewed(
     alloc: Global,
@@ -69,7 +69,7 @@ fn ended_and_renewed(
     Ok(effects)
 }
 
-/// An unconfirmed record becomes the confirmed one, where none has its id string.
+/// An unconfirmed record becomes the confirmed one, if none has its id string.
 fn confirm_first(
     alloc: Global,
     state: &mut NfsState,
@@ -90,7 +90,7 @@ fn confirm_first(
     Ok((Told::Ended(NfsStatus::Ok), current, Sequence::new(alloc)))
 }
 
-/// The same where the client has this number already.
+/// The same if the client has this number already.
 fn confirm_again(
     alloc: Global,
     state: &mut NfsState,
@@ -110,7 +110,7 @@ fn confirm_again(
     Ok((Told::Ended(NfsStatus::Ok), current, Sequence::new(alloc)))
 }
 
-/// The same where another client, of this number, has the id string: all that is its goes.
+/// The same if another client, of this number, has the id string: all that is its goes.
 fn confirm_anew(
     alloc: Global,
     state: &mut NfsState,
@@ -191,7 +191,7 @@ fn confirm_held(
     Ok((Told::Ended(status), current, Sequence::new(alloc)))
 }
 
-/// What becomes of the clientid of this number, where its unconfirmed record is confirmed, and where it isn't.
+/// What becomes of the clientid of this number, if its unconfirmed record is confirmed, and if it isn't.
 #[tactic(auto, using(crate::proofs::ClientLaws::confirmed_there))]
 fn confirm_found(
     alloc: Global,

@@ -26,7 +26,7 @@ pub(crate) fn put_root_fh() -> (Told, Option<u32>)
     (Told::Ended(NfsStatus::Ok), Some(0))
 }
 
-/// The file of a handle becomes the current one, where it is one of so many.
+/// The file of a handle becomes the current one, if it is one of so many.
 fn put_file(count: usize, current: Option<u32>, file: Option<u32>) -> (Told, Option<u32>)
     ensures { (n : ℕ) (s : CoreState) (l : NfsLists) → carried n s l (put_file count l current file) ≡ (result.0, result.1, [], l, s) }
 {
@@ -39,7 +39,7 @@ fn put_file(count: usize, current: Option<u32>, file: Option<u32>) -> (Told, Opt
     (Told::Ended(NfsStatus::Ok), file)
 }
 
-/// PUTFH, where so many files are exported.
+/// PUTFH, if so many files are exported.
 #[tactic(auto, unfolding(crate::specs::Handles::put_fh))]
 pub(crate) fn put_fh(count: usize, current: Option<u32>, fh: &[u8]) -> (Told, Option<u32>)
     ensures { (n : ℕ) (s : CoreState) (l : NfsLists) → carried n s l (put_fh count l current fh.now) ≡ (result.0, result.1, [], l, s) }

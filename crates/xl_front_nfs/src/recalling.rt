@@ -14,7 +14,7 @@ use xl_nfs::recall_call;
 use xl_nfs_opens::stateid_of;
 use xl_nfs_state::{ClientRow, NfsState, StateidRow};
 
-/// The id string of a party, where it is an NFSv4 client.
+/// The id string of a party, if it is an NFSv4 client.
 fn client_of<'a>(names: &'a Names, party: Party) -> Option<&'a Sequence<u8>>
     ensures { option_copied result ≡ client_of names.now party }
 {
@@ -65,7 +65,7 @@ fn recall_out(
     })
 }
 
-/// The same, where the delegation came before the recall.
+/// The same, if the delegation came before the recall.
 fn recalled_as(
     alloc: Global,
     core: &Core,
@@ -107,9 +107,9 @@ fn recalled_from(
     Ok(outs)
 }
 
-/// What is sent for an effect of the core: the break of a delegation, which has a call's number, asks its client for it by
-/// CB_RECALL (RFC 7530 18.2), where the client is called back now. Nothing is sent for another effect, nor for a delegation
-/// that was returned already.
+/// What is sent for an effect of the core: the break of a delegation, which has a call's number, asks its client for it
+/// by CB_RECALL (RFC 7530 18.2), if the client is called back now. Nothing is sent for another effect, nor for a
+/// delegation that was returned already.
 #[tactic(auto, unfolding(crate::specs::Recalls::recalls))]
 pub fn recalls(
     alloc: Global,

@@ -65,7 +65,7 @@ pub(crate) fn has_room(state: &NfsState) -> bool
     state.client_count() < MOST_CLIENTS
 }
 
-/// Adds a record, where there is room and none has its keys.
+/// Adds a record, if there is room and none has its keys.
 pub(crate) fn enter(alloc: Global, state: &mut NfsState, row: ClientRow) -> Result<(), AllocError>
     requires room { length state.old.clients < most_clients }
     requires number { find (is_client row.number row.confirmed) state.old.clients ≡ None }
@@ -78,7 +78,7 @@ pub(crate) fn enter(alloc: Global, state: &mut NfsState, row: ClientRow) -> Resu
     }
 }
 
-/// A copy of the unconfirmed record of this number, where this verifier confirms it.
+/// A copy of the unconfirmed record of this number, if this verifier confirms it.
 pub(crate) fn confirmed_by(
     alloc: Global,
     state: &NfsState,

@@ -21,7 +21,7 @@ use xl_nfs_opens::{
 };
 use xl_nfs_state::NfsState;
 
-/// What an operation comes to, where these files are exported.
+/// What an operation comes to, if these files are exported.
 #[tactic(auto, unfolding(crate::specs::Steps::planned), using(xl_plan::proofs::BudgetLaws::leaves_self, xl_plan::proofs::BudgetLaws::leaves_more, xl_plan::proofs::BudgetLaws::ready_less))]
 pub(crate) fn serve<K: Keeper>(
     alloc: Global,

@@ -17,7 +17,7 @@ use xl_nfs::{ClientConfirm, NfsStatus, SetClientIdArgs};
 use xl_nfs_opens::{Done, Told, drawn, ended_as, lease_end};
 use xl_nfs_state::{Callback, ClientDetails, ClientRow, NfsState};
 
-/// The number that the client has already, where its confirmed record has the verifier.
+/// The number that the client has already, if its confirmed record has the verifier.
 fn number_kept(state: &NfsState, args: &SetClientIdArgs) -> Option<u32>
     ensures { result ≡ number_kept args.now.verifier (find (is_client_named args.now.id.now true) state.now.clients) }
 {
@@ -27,7 +27,7 @@ fn number_kept(state: &NfsState, args: &SetClientIdArgs) -> Option<u32>
     }
 }
 
-/// The client's number, which is new where it keeps none, and the one that confirms it.
+/// The client's number, which is new if it keeps none, and the one that confirms it.
 #[tactic(auto, using(xl_plan::proofs::BudgetLaws::ready_then, xl_plan::proofs::BudgetLaws::ready_less, xl_plan::proofs::BudgetLaws::leaves_then, xl_plan::proofs::BudgetLaws::leaves_more, crate::proofs::ClientLaws::numbers_new))]
 fn draw_numbers(core: &mut Core, kept: Option<u32>) -> (u32, u32)
     requires ready { IsReady 2 core.old }
@@ -72,7 +72,7 @@ fn row_of(
     })
 }
 
-/// The record comes, where there is room.
+/// The record comes, if there is room.
 fn set_under(
     alloc: Global,
     state: &mut NfsState,
@@ -91,7 +91,7 @@ fn set_under(
     Ok(())
 }
 
-/// What is told of the record.
+/// What is answered of the record.
 fn confirm_of(core: &Core, number: u32, confirm: u32) -> ClientConfirm
     ensures { result ≡ confirm_of core.now number confirm }
 {
@@ -101,7 +101,7 @@ fn confirm_of(core: &Core, number: u32, confirm: u32) -> ClientConfirm
     }
 }
 
-/// SETCLIENTID, where no unconfirmed record has the id string.
+/// SETCLIENTID, if no unconfirmed record has the id string.
 #[tactic(auto, using(xl_plan::proofs::BudgetLaws::leaves_self, xl_plan::proofs::BudgetLaws::leaves_more, crate::proofs::ClientLaws::set_done))]
 fn set_beside(
     alloc: Global,

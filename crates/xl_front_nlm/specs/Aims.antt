@@ -7,7 +7,7 @@ use Rattle.xl_front_nlm.specs.declared.aim.Aim.{Aim}
 use Rattle.xl_front_nlm.specs.declared.outcome.Outcome.{Outcome}
 use Rattle.xl_front_nlm.specs.declared.outcome.Outcome.TheVariants.{NoFile, TooBig}
 
--- the number of the file of a handle, where it is one of the exported files, of which there are so many
+-- the number of the file of a handle, if it is one of the exported files, of which there are so many
 abbrev pub exported : ℕ → List ℕ → Option ℕ
 exported count fh = option_and_then (λ file. if nat_le 1 file && nat_le file count then Some file else None) (file_at fh)
 
@@ -18,7 +18,7 @@ last_of offset len =
     else if nat_le (offset + len) (2 ^ 64) then Some (offset + len - 1)
     else None
 
--- the length by which a range is told; one that reaches the last byte has length 0
+-- the length by which a range is sent; one that reaches the last byte has length 0
 abbrev pub length_of : ℕ → ℕ → ℕ
 length_of first last = if last == 2 ^ 64 - 1 then 0 else last + 1 - first
 

@@ -43,7 +43,7 @@ refuses None = false
 
 -- ---- what it does
 
--- what the call told, where it awaits an answer and is refused
+-- what the call sent, if it awaits an answer and is refused
 abbrev pub refused_grant : CoreState → Bool → Option GrantedCall → Option Grant
 refused_grant s refused None = None
 refused_grant s refused (Some call) = if refused then grant_of s.names call.claim else None
@@ -52,8 +52,8 @@ abbrev pub refusal_deeds : List (List ℕ) → Option Grant → List Deed
 refusal_deeds hosts None = []
 refusal_deeds hosts (Some grant) = Asks (rooms hosts) (refusal_ask grant) ∷ []
 
--- What the end of the server's call of this number does to the core, with its reply or without one: a refusal unlocks the
--- range that the call told, at this time and whatever its owner locked since; all else does nothing (NLM-11).
+-- What the end of the server's call of this number does to the core, with its reply or without one: a refusal unlocks
+-- the range that the call sent, at this time and whatever its owner locked since; all else does nothing (NLM-11).
 abbrev pub called_deeds : FrontState → CoreState → ℕ → Option (List ℕ) → List Deed
 called_deeds f s number reply = refusal_deeds f.hosts (refused_grant s (refuses reply) (find (λ c. c.number == number) f.calls))
 
@@ -68,7 +68,7 @@ abbrev pub called_by : ℕ → FrontState → CoreState → ℕ → Bool → Opt
 called_by n f s number refused None = ([], f, s)
 called_by n f s number refused (Some call) = with_front (taken f number) (given_up n f.hosts s (refused_grant s refused (Some call)))
 
--- What it tells of besides, and the front and the core afterwards, where n stores succeed in the step. A call that awaits
+-- What it tells of besides, and the front and the core afterwards, if n stores succeed in the step. A call that awaits
 -- no answer does nothing; the others await none from then on.
 unfoldable pub nlm_called : ℕ → FrontState → CoreState → ℕ → Option (List ℕ) → List Effect × FrontState × CoreState
 nlm_called n f s number reply = called_by n f s number (refuses reply) (find (λ c. c.number == number) f.calls)

@@ -15,8 +15,8 @@ use Rattle.xl_core.specs.declared.ask.Ask.{Ask}
 use Rattle.xl_front_nlm.specs.declared.aim.Aim.{Aim}
 use Rattle.xl_front_nlm.specs.declared.grant.Grant.{Grant}
 
--- An ask of NLM: the party is the caller, a late answer is told by a call of its own, no cache is wished for, and callers
--- aren't recorded yet (NLM-15).
+-- An ask of NLM: the party is the caller, a late answer is sent by a call of its own, no cache is wished for, and
+-- callers aren't recorded yet (NLM-15).
 abbrev pub ask_of : Name → List ℕ → ℕ → Act → Bool → Bool → Rooms → Ask
 ask_of owner caller file act blocking reclaim rows = record {
   file = file;
@@ -48,7 +48,7 @@ lock_ask rows a at = ask_of (owner_of a.lock) a.lock.caller_name at.file (acts.R
 abbrev pub unlock_ask : UnlockArgsItem → Aim → Ask
 unlock_ask a at = ask_of (owner_of a.lock) a.lock.caller_name at.file (acts.Unlock (Bytes at.first at.last)) false false no_rows
 
--- what is asked where a client refuses a lock that it is told of
+-- what is asked if a client refuses a lock whose grant it was sent
 abbrev pub refusal_ask : Grant → Ask
 refusal_ask g = ask_of (NlmRange g.caller g.svid g.oh) g.caller g.file (acts.Unlock (Bytes g.first g.last)) false false no_rows
 

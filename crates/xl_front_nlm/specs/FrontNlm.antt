@@ -31,7 +31,7 @@ abbrev pub whole_call : Result (CallItem × List ℕ) RpcBad → Option CallItem
 whole_call (Err fault) = None
 whole_call (Ok call) = if length call.1 == 0 then Some call.0 else None
 
--- the call, or none where the arguments are garbage
+-- the call, or none if the arguments are garbage
 unfoldable pub call_in : RequestItem → Option CallItem
 call_in r = whole_call (arguments_at r.procedure r.arguments)
 
@@ -45,8 +45,8 @@ abbrev pub call_deeds : ℕ → ℕ → FrontState → CoreState → Option Call
 call_deeds n count f s None = []
 call_deeds n count f s (Some call) = deeds_of n s (planned count f s call)
 
--- What a request does to the core, in a step of which n stores succeed: what the table has for its call, and nothing where the
--- arguments are garbage.
+-- What a request does to the core, in a step of which n stores succeed: what the table has for its call, and nothing if
+-- the arguments are garbage.
 abbrev pub nlm_deeds : ℕ → Exports → FrontState → CoreState → RequestItem → List Deed
 nlm_deeds n exports f s r = call_deeds n (length exports.files) f s (call_in r)
 
@@ -71,6 +71,6 @@ abbrev pub sent_with : ℕ → List ℕ × List Effect × FrontState × CoreStat
 sent_with conn r = (sent_to conn r.0, r.1, r.2, r.3)
 
 -- What a request from a connection is answered, what the core told of besides, and the front and the core afterwards,
--- where n stores succeed in the step.
+-- if n stores succeed in the step.
 unfoldable pub nlm_step : ℕ → Exports → FrontState → CoreState → ℕ → RequestItem → List Out × List Effect × FrontState × CoreState
 nlm_step n exports f s conn r = sent_with conn (replied n (length exports.files) f s r.xid (call_in r))

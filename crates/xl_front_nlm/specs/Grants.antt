@@ -1,4 +1,4 @@
--- How a lock that waited is told once it is granted: by a call of GRANTED to the client (XNFS C702, NLM_GRANTED).
+-- How a lock that waited is answered once it is granted: by a call of GRANTED to the client (XNFS C702, NLM_GRANTED).
 use Rattle.std.specs.Prelude.{ℕ, ◌+◌, Bool, nat_le, bytes_eq, if◌then◌else◌, List, [], ◌∷◌, Option, Some, None, option_map}
 use Rattle.std.specs.List.{find, slice_get}
 use Rattle.xl_base.specs.Handles.{handle}
@@ -25,7 +25,7 @@ use Rattle.xl_front_nlm.specs.Aims.{length_of}
 use Rattle.xl_front_nlm.specs.State.{FrontState, awaited}
 use Rattle.xl_front_nlm.specs.declared.grant.Grant.{Grant}
 
--- ---- what is told
+-- ---- what is sent
 
 -- the first byte, the last, which is no lesser, and whether the range is exclusive
 abbrev pub bytes_of : What → Option (ℕ × ℕ × Bool)
@@ -42,11 +42,11 @@ grant_by file (Some range) (Some (NlmRange caller svid oh)) =
     Some (record { file = file; caller = caller; svid = svid; oh = oh; first = range.0; last = range.1; exclusive = range.2 })
 grant_by file _ _ = None
 
--- what there is to tell of a claim: a range with bytes, of an owner of NLM ranges
+-- what there is to send of a claim: a range with bytes, of an owner of NLM ranges
 unfoldable pub grant_of : List Name → Claim → Option Grant
 grant_of names c = grant_by c.file (bytes_of c.what) (name_of names c.owner)
 
--- the lock that the call tells
+-- the lock that the call sends
 abbrev pub lock_of : Grant → LockItem
 lock_of g = record { caller_name = g.caller; fh = handle g.file; oh = g.oh; svid = g.svid; l_offset = g.first; l_len = length_of g.first g.last }
 
@@ -61,7 +61,7 @@ address_of addresses caller = option_map (λ entry. entry.1) (find (λ entry. by
 abbrev pub call_of : ℕ → List ℕ → Grant → Out
 call_of number to g = record { dest = Back number; to = to; bytes = granted_record number g.exclusive (lock_of g) }
 
--- the grant, and the address to which it is told, where its caller has one
+-- the grant, and the address to which it is sent, if its caller has one
 abbrev pub with_address : Grant → Option (List ℕ) → Option (Grant × List ℕ)
 with_address g None = None
 with_address g (Some to) = Some (g, to)
@@ -70,7 +70,7 @@ abbrev pub addressed : Exports → Option Grant → Option (Grant × List ℕ)
 addressed exports None = None
 addressed exports (Some g) = with_address g (address_of exports.addresses g.caller)
 
--- what there is to tell of an effect, and to whom: a grant of one who waited. One who waited and found no room is told
+-- what there is to send of an effect, and to whom: a grant of one who waited. One who waited and found no room is sent
 -- nothing, and so is one who was cancelled (NLM-10).
 abbrev pub news : Exports → CoreState → Effect → Option (Claim × Grant × List ℕ)
 news exports s (Served id (Granted claim)) = option_map (λ told. (claim, told.0, told.1)) (addressed exports (grant_of s.names claim))

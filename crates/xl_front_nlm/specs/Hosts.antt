@@ -19,7 +19,7 @@ host_entered caller hosts = if is_host caller hosts then hosts else hosts ++ cal
 abbrev pub are_apart : List ℕ → List ℕ → Bool
 are_apart a b = not (bytes_eq a b)
 
--- hosts are few, and each stands once
+-- hosts are few, and each is there once
 abbrev pub AreHosts : List (List ℕ) → Type 0
 AreHosts hosts = (length hosts ≤ most_hosts) × Pairwise are_apart hosts
 
@@ -41,7 +41,7 @@ makes_host _ = false
 abbrev pub hosts_after : Answer → List ℕ → List (List ℕ) → List (List ℕ)
 hosts_after answer caller hosts = if makes_host answer then host_entered caller hosts else hosts
 
--- there is room for the caller, where the answer makes it a new host
+-- there is room for the caller, if the answer makes it a new host
 abbrev pub HasHostRoom : Option (List ℕ) → Answer → List (List ℕ) → Type 0
 HasHostRoom (Some caller) answer hosts = makes_host answer ≡ true → is_host caller hosts ≡ false → length hosts < most_hosts
 HasHostRoom None answer hosts = Unit {0}

@@ -16,7 +16,7 @@ shown_deed (deeds.GivesBack claim) = GivesBack claim
 shown_deed (deeds.Cancels waiter) = Cancels waiter
 shown_deed (deeds.Ends number) = Ends (parties.Name Nlm number)
 
--- of what the front keeps, where this caller, if there is one, may be a host then
+-- of what the front keeps, once this caller, if there is one, may be a host
 abbrev pub shown_plan : Option (List ℕ) → FrontState → CodePlan → CallPlan
 shown_plan host f (plans.Tells outcome) = Tells outcome
 shown_plan host f (plans.Asks left request) = asks host f left request

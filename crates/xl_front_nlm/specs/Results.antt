@@ -1,4 +1,4 @@
--- How what became of a call is told (XNFS C702, nlm4_stats, nlm4_testres, nlm4_res, nlm4_shareres).
+-- How what became of a call is sent (XNFS C702, nlm4_stats, nlm4_testres, nlm4_res, nlm4_shareres).
 use Rattle.std.specs.Prelude.{ℕ, ℤ, pos, false, List, [], Option, Some, None, slice_get}
 use Rattle.xl_base.specs.declared.name.Owner.{Owner}
 use Rattle.xl_base.specs.declared.name.Owner.TheVariants as owners
@@ -17,7 +17,7 @@ use Rattle.xl_front_nlm.specs.Aims.{length_of}
 use Rattle.xl_front_nlm.specs.declared.outcome.Outcome.{Outcome}
 use Rattle.xl_front_nlm.specs.declared.outcome.Outcome.TheVariants.{NoFile, TooBig, Waits, NotWaiting, Answered, Ended, Nothing}
 
--- ---- all calls but TEST
+-- ---- all calls except TEST
 
 -- the map of the core's answers (NLM-7, NLM-14)
 abbrev pub answer_status : Answer → NlmStatus
@@ -44,7 +44,7 @@ status_of Nothing = stats.Granted
 
 -- ---- TEST
 
--- denied where something held blocks the range; nothing is granted in grace (NLM-14)
+-- denied if something held blocks the range; nothing is granted in grace (NLM-14)
 abbrev pub test_answer_status : Answer → NlmStatus
 test_answer_status (answers.Conflict c) = stats.Denied
 test_answer_status (answers.Grace until) = stats.DeniedGracePeriod
@@ -62,21 +62,21 @@ abbrev pub parts_by : Option Name → ℤ × List ℕ
 parts_by (Some (NlmRange caller svid oh)) = (svid, oh)
 parts_by _ = (pos 0, [])
 
--- the process and the handle of an owner, as a denied test tells them
+-- the process and the handle of an owner, as a denied test gives them
 abbrev pub owner_parts : List Name → Owner → ℤ × List ℕ
 owner_parts names (owners.Name protocol number) = parts_by (slice_get names number)
 owner_parts names (owners.Open number) = (pos 0, [])
 
--- the holder that a denied test tells (nlm4_holder)
+-- the holder that a denied test gives (nlm4_holder)
 abbrev pub holder_by : ℤ × List ℕ → What → HolderItem
 holder_by who (Range (Bytes first last) exclusive) = record { exclusive = exclusive; svid = who.0; oh = who.1; l_offset = first; l_len = length_of first last }
 holder_by who _ = record { exclusive = false; svid = who.0; oh = who.1; l_offset = 0; l_len = length_of 0 0 }
 
--- a held range as TEST tells it (NLM-19)
+-- a held range as TEST gives it (NLM-19)
 abbrev pub holder_of : List Name → Claim → HolderItem
 holder_of names c = holder_by (owner_parts names c.owner) c.what
 
--- the holder, where one is told
+-- the holder, if one is given
 abbrev pub test_holder : List Name → Outcome → Option HolderItem
 test_holder names (Answered (answers.Conflict c)) = Some (holder_of names c)
 test_holder names _ = None

@@ -1,4 +1,5 @@
--- What becomes of a call (XNFS C702, chapter 14): it is told so at once, or the core is asked, or one deed is done to it.
+-- What becomes of a call (XNFS C702, chapter 14): it is answered so at once, or the core is asked, or one deed is done
+-- to it.
 use Rattle.std.specs.Prelude.{ℕ, if◌then◌else◌, List, [], ◌∷◌, Option, Some, None, Result, Ok, Err}
 use Rattle.xl_base.specs.declared.name.Party.TheVariants as parties
 use Rattle.xl_base.specs.declared.name.Protocol.TheVariants.{Nlm}
@@ -24,16 +25,16 @@ use Rattle.xl_front_nlm.specs.declared.outcome.Outcome.TheVariants.{NoFile, Wait
 
 -- ---- the table
 
--- a plan of what the front keeps, by which this outcome is told
+-- a plan of what the front keeps, by which the call has this outcome
 abbrev pub CallPlan : Type 0
 CallPlan = Plan FrontState Outcome
 
--- the caller, if there is one, is a host from then on where the answer makes it one
+-- the caller, if there is one, is a host from then on if the answer makes it one
 abbrev pub hosted : Option (List ℕ) → Answer → FrontState → FrontState
 hosted None answer f = f
 hosted (Some caller) answer f = noted answer caller f
 
--- this is asked, and told as it is answered
+-- this is asked, and the call is answered as the core answers
 abbrev pub asks : Option (List ℕ) → FrontState → Rooms → Ask → CallPlan
 asks host f left a = Asking left a (λ answer t. Does [] (hosted host answer f) (Answered answer))
 
@@ -41,12 +42,12 @@ asks host f left a = Asking left a (λ answer t. Does [] (hosted host answer f) 
 abbrev pub does : FrontState → Deed → CallPlan
 does f deed = Does (deed ∷ []) f Ended
 
--- for the bytes that a lock names, where it names some
+-- for the bytes that a lock names, if it names some
 abbrev pub at_bytes : (Aim → CallPlan) → Result Aim Outcome → CallPlan
 at_bytes plan (Err outcome) = Tells outcome
 at_bytes plan (Ok at) = plan at
 
--- on the file that a handle names, where it names one
+-- on the file that a handle names, if it names one
 abbrev pub on_file : (ℕ → CallPlan) → Option ℕ → CallPlan
 on_file plan None = Tells NoFile
 on_file plan (Some file) = plan file
@@ -56,14 +57,14 @@ abbrev pub if_found : {A : Type 0} → FrontState → Outcome → (A → Deed) �
 if_found f none deed None = Tells none
 if_found f none deed (Some found) = does f (deed found)
 
--- one who asks for the same again waits on, whether it blocks or not, and also where it reclaims (NLM-5)
+-- one who asks for the same again waits on, whether it blocks or not, and also if it reclaims (NLM-5)
 abbrev pub lock_plan : FrontState → CoreState → LockArgsItem → Aim → CallPlan
 lock_plan f s a at = if does_wait s a at then Tells Waits else asks (Some a.lock.caller_name) f (rooms f.hosts) (lock_ask (host_rows a.lock.caller_name f.hosts) a at)
 
--- What each call does, where so many files are exported. TEST, LOCK, UNLOCK and SHARE ask; who is granted a lock or a share,
--- or waits for a lock, is a host from then on. CANCEL takes out the waiter of the same owner, file, range and mode, whether it
--- was said to block or not. UNSHARE gives back the owner's share on the file. FREE_ALL ends its caller as a party. NM_LOCK
--- does what LOCK does, as callers aren't recorded yet (NLM-6, NLM-9, NLM-12, NLM-13).
+-- What each call does, if so many files are exported. TEST, LOCK, UNLOCK and SHARE ask; who is granted a lock or a
+-- share, or waits for a lock, is a host from then on. CANCEL takes out the waiter of the same owner, file, range and
+-- mode, whether it was said to block or not. UNSHARE gives back the owner's share on the file. FREE_ALL ends its caller
+-- as a party. NM_LOCK does what LOCK does, as callers aren't recorded yet (NLM-6, NLM-9, NLM-12, NLM-13).
 unfoldable pub planned : ℕ → FrontState → CoreState → CallItem → CallPlan
 planned count f s (Test a) = at_bytes (λ at. asks None f (rooms f.hosts) (test_ask a at)) (aimed count a.lock)
 planned count f s (Lock a) = at_bytes (λ at. lock_plan f s a at) (aimed count a.lock)
@@ -77,14 +78,14 @@ planned count f s _ = Tells Nothing
 
 -- ---- what it comes to
 
--- what becomes of a call: its outcome, the effects, and the front and the core afterwards, where n stores succeed in the
+-- what becomes of a call: its outcome, the effects, and the front and the core afterwards, if n stores succeed in the
 -- step
 unfoldable pub served : ℕ → ℕ → FrontState → CoreState → CallItem → Outcome × List Effect × FrontState × CoreState
 served n count f s call = carried n s f (planned count f s call)
 
 -- ---- whose call it is
 
--- who is a host from then on where it is granted a lock or a share, or waits for a lock
+-- who is a host from then on if it is granted a lock or a share, or waits for a lock
 abbrev pub host_of : CallItem → Option (List ℕ)
 host_of (Lock a) = Some a.lock.caller_name
 host_of (NmLock a) = Some a.lock.caller_name

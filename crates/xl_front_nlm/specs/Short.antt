@@ -1,4 +1,4 @@
--- Names whose parts fit the messages that tell them, and what a step adds to the core at most.
+-- Names whose parts fit the messages that carry them, and what a step adds to the core at most.
 use Rattle.std.specs.Prelude.{ℕ, List}
 use Rattle.std.specs.List.{AllByRecursion}
 use Rattle.xl_names.specs.declared.name.Name.{Name}
@@ -8,7 +8,7 @@ use Rattle.xl_core.specs.State.{CoreState}
 use Rattle.xl_plan.specs.Budgets as budgets
 use Rattle.xl_front_nlm.specs.declared.grant.Grant.{Grant}
 
--- TEST tells the oh of an owner of NLM ranges, and GRANTED its caller too
+-- TEST gives the oh of an owner of NLM ranges, and GRANTED its caller too
 abbrev pub IsShort : Name → Type 0
 IsShort (NlmRange caller svid oh) = TextFits caller × TextFits oh
 IsShort _ = Unit {0}
@@ -21,12 +21,12 @@ IsShortGrant g = TextFits g.caller × TextFits g.oh
 
 -- ---- what each function of the front needs of the core, and what it leaves
 
--- the state is good, so many numbers are left to give out, and the names fit the messages that tell them
+-- the state is good, so many numbers are left to give out, and the names fit the messages that carry them
 pub record IsReady (most : ℕ) (s : CoreState) : Type 0 where
   pub core : budgets.IsReady most s
   pub short : AreShort s.names
 
--- the state is good, the stores of the step go on, so many numbers at most were given out or may be still, as that of one who
--- comes to wait, and that of the call which tells of its grant; and the names that came fit too
+-- the state is good, the stores of the step go on, so many numbers at most were given out or may be still, as that of
+-- one who comes to wait, and that of the call which sends its grant; and the names that came fit too
 abbrev pub Leaves : ℕ → CoreState → CoreState → Type 0
 Leaves most old new = budgets.Leaves IsShort most old new

@@ -15,14 +15,14 @@ pub record FrontState : Type 0 where
 abbrev pub empty_front : FrontState
 empty_front = record { hosts = []; calls = [] }
 
--- a call tells of a range with bytes, in their order
+-- a call sends a range with bytes, in their order
 abbrev pub IsCall : GrantedCall → Type 0
 IsCall call = IsRangeBy call.claim.what
 
 abbrev pub IsFront : FrontState → Type 0
 IsFront f = AreHosts f.hosts × AllByRecursion IsCall f.calls
 
--- the caller is a host from now on, where the answer makes it one
+-- the caller is a host from now on, if the answer makes it one
 abbrev pub noted : Answer → List ℕ → FrontState → FrontState
 noted answer caller f = record { hosts = hosts_after answer caller f.hosts; calls = f.calls }
 

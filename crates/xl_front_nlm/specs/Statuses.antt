@@ -1,4 +1,4 @@
--- Why a call is told its status, exactly, by procedure (XNFS C702, nlm4_stats).
+-- Why a call is answered with its status, exactly, by procedure (XNFS C702, nlm4_stats).
 use Rattle.std.specs.Prelude.{◌≡◌, ℕ, ◌+◌, Bool, true, false, ◌⊎◌, List, Option, Some, None}
 use Rattle.xl_matrix.specs.declared.claim.Claim.{Claim}
 use Rattle.xl_matrix.specs.declared.claim.Extent.TheVariants.{Bytes}
@@ -22,7 +22,7 @@ use Rattle.xl_front_nlm.specs.Standing.{waiter_for, does_wait}
 use Rattle.xl_front_nlm.specs.declared.aim.Aim.{Aim}
 use Rattle.xl_front_nlm.specs.declared.outcome.Outcome.{Outcome}
 
--- the status that a reply has, where the call's results have one
+-- the status that a reply has, if the call's results have one
 abbrev pub status_told : CallItem → Outcome → Option NlmStatus
 status_told (Test a) outcome = Some (test_status outcome)
 status_told (Lock a) outcome = Some (status_of outcome)
@@ -37,7 +37,7 @@ status_told _ outcome = None
 
 -- a lock or a share, by the state that it is judged in: granted if nothing stands against it and there is room; denied
 -- if something does for good or a cache keeps it off, or blocked if it may wait for that and there is room for the
--- wait (NLM-8); no locks if the least limit that it passes is told; a reclaim is too late (NLM-7)
+-- wait (NLM-8); no locks if the least limit that it passes is answered; a reclaim is too late (NLM-7)
 abbrev pub IsClaimTold : Rooms → CoreState → Ask → Claim → NlmStatus → Type 0
 IsClaimTold left s a claim stats.Granted = IsClaimDue left s a claim (answers.Granted claim)
 IsClaimTold left s a claim stats.Denied = ((c : Claim) × IsClaimDue left s a claim (answers.Conflict c)) ⊎ ((c : Claim) × IsClaimDue left s a claim (answers.Recall c))
@@ -46,12 +46,12 @@ IsClaimTold left s a claim stats.Blocked = IsClaimDue left s a claim (answers.Qu
 IsClaimTold left s a claim stats.DeniedGracePeriod = IsClaimDue left s a claim (answers.NoGrace s.clock)
 IsClaimTold left s a claim _ = ⊥
 
--- it is judged once the breaks run that it begins: a cache that needs no answer is out of its way by then, and another keeps it
+-- it is judged once its breaks run: a cache that needs no answer is out of its way by then, and another keeps it
 -- off until the break is answered
 abbrev pub IsAskTold : Rooms → CoreState → Ask → Claim → NlmStatus → Type 0
 IsAskTold left s a claim status = IsClaimTold left (way left s a).1 a claim status
 
--- a test: denied where a held range stands against it
+-- a test: denied if a held range stands against it
 abbrev pub IsTestTold : CoreState → Ask → Claim → NlmStatus → Type 0
 IsTestTold s a claim stats.Granted = IsTestDue s a claim (answers.Granted claim)
 IsTestTold s a claim stats.Denied = (c : Claim) × IsTestDue s a claim (answers.Conflict c)
@@ -65,17 +65,17 @@ IsUnlockTold s claim first last _ = ⊥
 
 -- ---- by what is named
 
--- FBIG where the range would pass the last byte, else what the rest tells
+-- FBIG if the range would pass the last byte, else what the rest says
 abbrev pub IsLastTold : LockItem → ℕ → (Aim → NlmStatus → Type 0) → Option ℕ → NlmStatus → Type 0
 IsLastTold l file told None status = status ≡ stats.Fbig
 IsLastTold l file told (Some last) status = told (record { file = file; first = l.l_offset; last = last }) status
 
--- STALE_FH exactly where the handle names no exported file, FBIG exactly where the range passes the last byte
+-- STALE_FH exactly if the handle names no exported file, FBIG exactly if the range passes the last byte
 abbrev pub IsRangeTold : LockItem → (Aim → NlmStatus → Type 0) → Option ℕ → NlmStatus → Type 0
 IsRangeTold l told None status = status ≡ stats.StaleFh
 IsRangeTold l told (Some file) status = IsLastTold l file told (last_of l.l_offset l.l_len) status
 
--- STALE_FH where the handle is of no file, else what the rest tells
+-- STALE_FH if the handle is of no file, else what the rest says
 abbrev pub IsFileTold : (ℕ → NlmStatus → Type 0) → Option ℕ → NlmStatus → Type 0
 IsFileTold told None status = status ≡ stats.StaleFh
 IsFileTold told (Some file) status = told file status
@@ -85,7 +85,7 @@ abbrev pub IsLockTold : Bool → Rooms → CoreState → Ask → Claim → NlmSt
 IsLockTold true left s a claim status = status ≡ stats.Blocked
 IsLockTold false left s a claim status = IsAskTold left s a claim status
 
--- a cancel is granted exactly where there is such a waiter
+-- a cancel is granted exactly if there is such a waiter
 abbrev pub IsCancelTold : Option ℕ → NlmStatus → Type 0
 IsCancelTold None status = status ≡ stats.Denied
 IsCancelTold (Some id) status = status ≡ stats.Granted
@@ -94,11 +94,11 @@ IsCancelTold (Some id) status = status ≡ stats.Granted
 abbrev pub lock_claim : List (List ℕ) → CoreState → LockArgsItem → Aim → Claim
 lock_claim hosts s a at = asked_claim (lock_ask (host_rows a.lock.caller_name hosts) a at) (whats.Range (Bytes at.first at.last) a.exclusive) s.names
 
--- what a lock is told, by what it meets in the core
+-- what a lock is answered, by what it meets in the core
 abbrev pub IsLockingTold : List (List ℕ) → CoreState → LockArgsItem → Aim → NlmStatus → Type 0
 IsLockingTold hosts s a at status = IsLockTold (does_wait s a at) (rooms hosts) s (lock_ask (host_rows a.lock.caller_name hosts) a at) (lock_claim hosts s a at) status
 
--- why each call is told its status, where so many files are exported
+-- why each call is answered with its status, if so many files are exported
 abbrev pub IsStatusDue : ℕ → List (List ℕ) → CoreState → CallItem → NlmStatus → Type 0
 IsStatusDue count hosts s (Test a) status =
     IsRangeTold a.lock (λ at. IsTestTold s (test_ask a at) (known_claim (test_ask a at) (Bytes at.first at.last) a.exclusive s.names)) (exported count a.lock.fh) status

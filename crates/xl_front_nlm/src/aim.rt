@@ -18,7 +18,7 @@ pub struct Aim {
     pub last: u64,
 }
 
-/// The number of the file of a handle, where it is one of the exported files, of which there are so many.
+/// The number of the file of a handle, if it is one of the exported files, of which there are so many.
 pub(crate) fn exported(count: usize, fh: &[u8]) -> Option<u32>
     ensures { result ≡ exported count fh.now }
 {
@@ -38,7 +38,7 @@ fn last_of(offset: u64, len: u64) -> Option<u64>
     offset.checked_add(len - 1)
 }
 
-/// The length by which a range is told.
+/// The length by which a range is sent.
 pub(crate) fn length_of(first: u64, last: u64) -> u64
     ensures { result ≡ length_of first last }
 {

@@ -58,7 +58,7 @@ fn refuses(reply: Option<&[u8]>) -> bool
     }
 }
 
-/// What the call told, where it is refused.
+/// What the call sent, if it is refused.
 fn refused_grant(
     alloc: Global,
     core: &Core,
@@ -76,7 +76,7 @@ fn refused_grant(
     grant_of(alloc, core.names(), &call.claim)
 }
 
-/// Unlocks a granted range, where so much room is left in the tables of the fronts.
+/// Unlocks a granted range, if so much room is left in the tables of the fronts.
 fn give_up<K: Keeper>(
     alloc: Global,
     core: &mut Core,
@@ -96,12 +96,12 @@ fn give_up<K: Keeper>(
     Ok(effects)
 }
 
-/// The end of the server's call of this number, with its reply or without one. A call of GRANTED that awaited its answer
-/// awaits none from then on; a call that awaits none does nothing. Where the reply is accepted and has another status than
-/// GRANTED (XNFS C702, nlm4_res), the range is unlocked as the owner's UNLOCK would at this time; where that finds no
-/// room the owner keeps it, as it does after any other reply or none. At least 65,536 numbers must be left to give out,
-/// beside those that who waits and the recalls to come may take; none is. After an error nothing is known of the front and
-/// the core.
+/// The end of the server's call of this number, with its reply or without one. A call of GRANTED that awaited its
+/// answer awaits none from then on; a call that awaits none does nothing. If the reply is accepted and has another
+/// status than GRANTED (XNFS C702, nlm4_res), the range is unlocked as the owner's UNLOCK would at this time; if that
+/// finds no room the owner keeps it, as it does after any other reply or none. At least 65,536 numbers must be left to
+/// give out, beside those that who waits and the recalls to come may take; none is. After an error nothing is known of
+/// the front and the core.
 #[tactic(auto, unfolding(crate::specs::Answers::nlm_called), using(crate::proofs::LeaveLaws::leaves_self))]
 pub fn nlm_called<K: Keeper>(
     alloc: Global,

@@ -97,7 +97,7 @@ pub(crate) fn unlock_ask(alloc: Global, args: &UnlockArgs, at: &Aim) -> Result<A
     ask_of(alloc, owner, args.lock.caller_name, at.file, act, NO_ROWS)
 }
 
-/// What is asked where a client refuses a lock that it is told of.
+/// What is asked if a client refuses a lock whose grant it was sent.
 #[tactic(auto, using(crate::proofs::AskLaws::own_client))]
 pub(crate) fn refusal_ask(alloc: Global, grant: &Grant) -> Result<Ask, AllocError>
     requires ends { grant.now.first ≤ grant.now.last }

@@ -7,6 +7,6 @@ use xl_matrix::Claim;
 pub struct GrantedCall {
     /// Its number.
     pub number: u32,
-    /// The granted range that it tells.
+    /// The granted range that it sends.
     pub claim: Claim,
 }

@@ -14,7 +14,7 @@ use xl_base::{Keeper, Party, Protocol, Sequence};
 use xl_core::{Answer, Ask, Core, Effect};
 use xl_wait::Rooms;
 
-/// Asks the core, where so much room is left in the tables of the fronts.
+/// Asks the core, if so much room is left in the tables of the fronts.
 pub(crate) fn asked<K: Keeper>(
     alloc: Global,
     core: &mut Core,
@@ -33,7 +33,7 @@ pub(crate) fn asked<K: Keeper>(
     Ok((answer, effects))
 }
 
-/// Does a deed, and tells what the core told of.
+/// Does a deed, and gives what the core told of.
 pub(crate) fn carry_out(
     alloc: Global,
     core: &mut Core,

@@ -42,7 +42,7 @@ fn tell(
     Ok(outs)
 }
 
-/// Tells of a grant, where its caller has an address.
+/// Sends a grant, if its caller has an address.
 #[tactic(auto, using(crate::proofs::LeaveLaws::leaves_self))]
 fn tell_grant(
     alloc: Global,
@@ -64,11 +64,11 @@ fn tell_grant(
     tell(alloc, layers, claim, &grant, to)
 }
 
-/// What is sent for an effect of the core. Who waited for a lock and was granted it is told by a call of GRANTED (XNFS
-/// C702), where its caller has an address; the call takes the next number, and awaits its answer from then on. All else
-/// sends nothing, nor does a break that began: no client of NLM has a cache. At least 65,536 numbers must be left to give
-/// out, beside those that who waits and the recalls to come may take. After an error nothing is known of the front and the
-/// core.
+/// What is sent for an effect of the core. Who waited for a lock and was granted it is answered by a call of GRANTED
+/// (XNFS C702), if its caller has an address; the call takes the next number, and awaits its answer from then on. All
+/// else sends nothing, nor does a break that began: no client of NLM has a cache. At least 65,536 numbers must be left
+/// to give out, beside those that who waits and the recalls to come may take. After an error nothing is known of the
+/// front and the core.
 #[tactic(auto, unfolding(crate::specs::Grants::shown), using(crate::proofs::LeaveLaws::leaves_self))]
 pub fn shown(
     alloc: Global,

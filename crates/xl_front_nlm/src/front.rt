@@ -52,7 +52,7 @@ impl Front {
         self.hosts.as_slice()
     }
 
-    /// The calls that await an answer, in the order in which they were made. Each tells of a range with bytes.
+    /// The calls that await an answer, in the order in which they were made. Each sends a range with bytes.
     pub fn calls(&self) -> &[GrantedCall]
         ensures calls { result.now ≡ self.now.calls }
         ensures sound { AllByRecursion IsCall self.now.calls }
@@ -79,7 +79,7 @@ impl Front {
         }
     }
 
-    /// Enters the caller as a host where the answer makes it one. After an error the front is as it was.
+    /// Enters the caller as a host if the answer makes it one. After an error the front is as it was.
     pub(crate) fn note(
         &mut self,
         answer: Answer,
@@ -104,7 +104,7 @@ impl Front {
         push(&mut self.calls, call)
     }
 
-    /// The call of this number, which awaits no answer any more; None exactly where none has it. Then the front is as
+    /// The call of this number, which awaits no answer any more; None exactly if none has it. Then the front is as
     /// it was.
     pub(crate) fn take(&mut self, number: u64) -> Option<GrantedCall>
         ensures call { result ≡ find (λ c. c.number == number) self.old.calls }
@@ -132,7 +132,7 @@ fn rooms_of(hosts: &IndexSet<Sequence<u8>>) -> Rooms
     }
 }
 
-/// Enters a host behind those before it, where it is new.
+/// Enters a host behind those before it, if it is new.
 #[tactic(auto, using(crate::proofs::HostLaws::sound_entered))]
 fn enter(
     hosts: &mut IndexSet<Sequence<u8>>,

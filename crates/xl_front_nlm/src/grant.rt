@@ -1,4 +1,4 @@
-//! Granted ranges, and what is told of them.
+//! Granted ranges, and what is sent of them.
 ghost use Rattle.std.specs.Prelude.{◌≡◌, ◌≤◌, IfOk, IfSome, option_map, option_copied};
 ghost use Rattle.xl_core.specs.Good.{IsRangeBy};
 ghost use Rattle.xl_front_nlm.specs.Grants.{bytes_of, name_of, grant_of, lock_of, address_of, call_of};
@@ -54,7 +54,7 @@ fn name_of(names: &Names, owner: Owner) -> Option<&Name>
     }
 }
 
-/// What there is to tell of a claim, with copies of its owner's names.
+/// What there is to send of a claim, with copies of its owner's names.
 #[tactic(auto, unfolding(crate::specs::Grants::grant_of))]
 pub(crate) fn grant_of(
     alloc: Global,
@@ -98,7 +98,7 @@ pub(crate) fn address_of<'a>(
         .map(|entry| entry.1.as_slice())
 }
 
-/// The call of this number, to this address, that tells of a grant.
+/// The call of this number, to this address, that sends a grant.
 #[tactic(auto, unfolding(xl_nlm::specs::Arguments::lock))]
 pub(crate) fn call_of(
     alloc: Global,

@@ -52,7 +52,7 @@ pub fn deeds_are_taken()
     ensures tellings { (n : ℕ) (exports : Exports) (s : CoreState) (effect : Effect) → AreFit n s (shown_deeds exports s effect) }
 {}
 
-/// Each deed of a request is of the client that it names; where it names none it does nothing.
+/// Each deed of a request is of the client that it names; if it names none it does nothing.
 #[tactic(auto, using(crate::proofs::DoesLaws::step_own))]
 pub fn deeds_are_the_clients()
     ensures { (n : ℕ) (exports : Exports) (f : FrontState) (s : CoreState) (r : RequestItem) → IsGood s → AllAt (λ t d. IsOfSome t (nlm_client r) d) n s (nlm_deeds n exports f s r) }
@@ -65,18 +65,18 @@ pub fn replies_follow_the_answers()
     ensures { (n : ℕ) (exports : Exports) (f : FrontState) (s : CoreState) (conn : ℕ) (r : RequestItem) → (nlm_step n exports f s conn r).0 ≡ sent_to conn (nlm_reply exports f s (all_done n s (nlm_deeds n exports f s r)).names r (answers_of n s (nlm_deeds n exports f s r))) }
 {}
 
-/// Each call is told its status exactly where that has its cause: STALE_FH where the handle names no exported file, FBIG
-/// where the range passes the last byte, BLOCKED where the owner waits for the same already or comes to wait, DENIED,
-/// DENIED_NOLOCKS, DENIED_GRACE_PERIOD and GRANTED where the core is due to answer so. A lock and a share are judged once the
-/// breaks of caches run that they begin.
+/// Each call is answered with its status exactly if that has its cause: STALE_FH if the handle names no exported file,
+/// FBIG if the range passes the last byte, BLOCKED if the owner waits for the same already or comes to wait, DENIED,
+/// DENIED_NOLOCKS, DENIED_GRACE_PERIOD and GRANTED if the core is due to answer so. A lock and a share are judged once
+/// the breaks of caches that they begin run.
 #[tactic(auto, using(crate::proofs::StatusLaws::status_due))]
 pub fn statuses_have_causes()
     ensures { (n count : ℕ) (f : FrontState) (s : CoreState) (call : CallItem) (status : NlmStatus) → IsGood s → (status_told call (served n count f s call).0 ≡ Some status) ↔ IsStatusDue count f.hosts s call status }
 {}
 
-/// A grant of one who waited is told by one call, to the address of the granted owner's caller; the call tells that very
-/// range, and awaits its answer from then on. Where the caller has no address nothing is sent, and nothing changes. No
-/// effect sends more than one message.
+/// A grant of one who waited is sent by one call, to the address of the granted owner's caller; the call sends that
+/// very range, and awaits its answer from then on. If the caller has no address nothing is sent, and nothing changes.
+/// No effect sends more than one message.
 #[tactic(auto, using(crate::proofs::GrantLaws::grant_is_told, crate::proofs::GrantLaws::grant_untold, crate::proofs::GrantLaws::grant_is_the_claim, crate::proofs::GrantLaws::one_call))]
 pub fn grants_are_told()
     ensures told { (exports : Exports) (f : FrontState) (s : CoreState) (id : ℕ) (claim : Claim) (g : Grant) (to : List ℕ) → grant_of s.names claim ≡ Some g → address_of exports.addresses g.caller ≡ Some to
@@ -87,7 +87,7 @@ pub fn grants_are_told()
     ensures one { (exports : Exports) (f : FrontState) (s : CoreState) (effect : Effect) → length (shown exports f s effect).0 ≤ 1 }
 {}
 
-/// A reply that the client doesn't want the lock unlocks the range that its call told; any other reply and none does
+/// A reply that the client doesn't want the lock unlocks the range that its call sent; any other reply and none does
 /// nothing, nor does the end of a call that awaits no answer.
 #[tactic(auto, using(crate::proofs::AnswerLaws::refused_unlocks, crate::proofs::AnswerLaws::lost_keeps, crate::proofs::AnswerLaws::unknown_keeps, crate::proofs::AnswerLaws::refusals_are_read))]
 pub fn refused_locks_are_unlocked()

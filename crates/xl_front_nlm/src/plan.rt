@@ -31,9 +31,10 @@ pub(crate) enum Deed {
 /// What becomes of a call.
 #[derive(Drop)]
 pub(crate) enum Plan {
-    /// It is told so, and nothing is done.
+    /// It is answered so, and nothing is done.
     Tells(Outcome),
-    /// This is asked, where so much room is left in the tables of the fronts, and it is told as it is answered.
+    /// This is asked, if so much room is left in the tables of the fronts, and the call is answered as the core
+    /// answers.
     Asks(Rooms, Ask),
     /// This is done.
     Does(Deed),

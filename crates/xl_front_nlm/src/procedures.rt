@@ -23,7 +23,7 @@ use xl_core::{Answer, Core, Effect};
 use xl_names::Name;
 use xl_nlm::{NlmCall, Notify};
 
-/// The number of a caller's name as a party, where it is kept.
+/// The number of a caller's name as a party, if it is kept.
 fn party_number(alloc: Global, core: &Core, caller: &[u8]) -> Result<Option<u32>, AllocError>
     ensures { IfOk result (λ number. number ≡ number_of (NlmParty caller.now) core.now.names) }
 {
@@ -60,7 +60,7 @@ fn planned(alloc: Global, context: &Context, call: &NlmCall) -> Result<Plan, All
     }
 }
 
-/// Who is a host where the call is granted, or waits.
+/// Who is a host if the call is granted, or waits.
 fn host_of<'a>(call: &NlmCall<'a>) -> Option<&'a [u8]>
     ensures { option_map (λ caller. caller.now) result ≡ host_of (shown_call call.now) }
 {
@@ -71,7 +71,7 @@ fn host_of<'a>(call: &NlmCall<'a>) -> Option<&'a [u8]>
     }
 }
 
-/// Enters the caller, if there is one, as a host where the answer makes it one.
+/// Enters the caller, if there is one, as a host if the answer makes it one.
 fn note_host(
     alloc: Global,
     front: &mut Front,
@@ -88,7 +88,7 @@ fn note_host(
     Ok(())
 }
 
-/// What becomes of a call, where so many files are exported. Who calls may be a host from then on.
+/// What becomes of a call, if so many files are exported. Who calls may be a host from then on.
 #[tactic(auto, using(crate::proofs::LeaveLaws::leaves_self))]
 pub(crate) fn serve<K: Keeper>(
     alloc: Global,

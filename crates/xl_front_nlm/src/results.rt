@@ -1,4 +1,4 @@
-//! How what became of a call is told.
+//! How what became of a call is sent.
 ghost use Rattle.std.specs.Prelude.{◌≡◌, option_map};
 ghost use Rattle.xl_nlm.specs.Arguments.{CallFits, TextFits};
 ghost use Rattle.xl_nlm.specs.Items.{shown_call, shown_holder, shown_test_res, shown_reply};
@@ -17,7 +17,7 @@ use xl_matrix::{Claim, Extent, What};
 use xl_names::{Name, Names};
 use xl_nlm::{Holder, NlmCall, NlmReply, NlmStatus, Res, ShareRes, TestRes};
 
-/// How the core's answer to a call other than TEST is told.
+/// How the core's answer to a call other than TEST is sent.
 fn answer_status(answer: Answer) -> NlmStatus
     ensures { result ≡ answer_status answer }
 {
@@ -31,7 +31,7 @@ fn answer_status(answer: Answer) -> NlmStatus
     }
 }
 
-/// How what became of a call other than TEST is told.
+/// How what became of a call other than TEST is sent.
 fn status_of(outcome: Outcome) -> NlmStatus
     ensures { result ≡ status_of outcome }
 {
@@ -45,7 +45,7 @@ fn status_of(outcome: Outcome) -> NlmStatus
     }
 }
 
-/// How the core's answer to a test is told.
+/// How the core's answer to a test is sent.
 fn test_answer_status(answer: Answer) -> NlmStatus
     ensures { result ≡ test_answer_status answer }
 {
@@ -56,7 +56,7 @@ fn test_answer_status(answer: Answer) -> NlmStatus
     }
 }
 
-/// How what became of a test is told; no other outcome comes of one.
+/// How what became of a test is sent; no other outcome comes of one.
 fn test_status(outcome: Outcome) -> NlmStatus
     ensures { result ≡ test_status outcome }
 {
@@ -84,7 +84,7 @@ fn owner_parts(names: &Names, owner: Owner) -> (i32, &[u8])
     }
 }
 
-/// Bytes that an owner holds, as TEST tells them.
+/// Bytes that an owner holds, as TEST gives them.
 #[tactic(auto, unfolding(xl_nlm::specs::Replies::holder))]
 fn holder_by(exclusive: bool, svid: i32, oh: &[u8], first: u64, last: u64) -> Holder<'_>
     requires { TextFits oh.now }
@@ -100,7 +100,7 @@ fn holder_by(exclusive: bool, svid: i32, oh: &[u8], first: u64, last: u64) -> Ho
     }
 }
 
-/// A held range as TEST tells it.
+/// A held range as TEST gives it.
 fn holder_of<'a>(names: &'a Names, claim: &Claim) -> Holder<'a>
     requires { AreShort names.now }
     ensures value { shown_holder result ≡ holder_of names.now claim.now }
@@ -115,7 +115,7 @@ fn holder_of<'a>(names: &'a Names, claim: &Claim) -> Holder<'a>
     }
 }
 
-/// The holder, where one is told.
+/// The holder, if one is given.
 fn test_holder(names: &Names, outcome: Outcome) -> Option<Holder<'_>>
     requires { AreShort names.now }
     ensures value { option_map shown_holder result ≡ test_holder names.now outcome }

@@ -70,7 +70,7 @@ fn waiter_by(queue: &Queue, at: &Aim, exclusive: bool, number: Option<u32>) -> O
 }
 
 /// The number of the first waiter of the same owner, file, range and mode. The owner is looked up, and who wait are
-/// looked at, only where one of them waits on the file.
+/// looked at, only if one of them waits on the file.
 pub(crate) fn waiter_for(
     alloc: Global,
     core: &Core,

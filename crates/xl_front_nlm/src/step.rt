@@ -90,12 +90,12 @@ fn replied<K: Keeper>(
     Ok((reply, effects))
 }
 
-/// Answers a call of NLM (XNFS C702) from the connection of this number: the reply, without its frame and at most 65,536
-/// bytes long, and what the core told of besides: the breaks of caches that began, and who waits no more. The procedures
-/// served are NULL, TEST, LOCK, CANCEL, UNLOCK, SHARE, UNSHARE, NM_LOCK and FREE_ALL; a lock that may wait is told BLOCKED.
-/// Arguments that can't be read, and bytes behind them, are GARBAGE_ARGS. At least 65,536 numbers must be left to give out
-/// beside those that who waits and the recalls to come may take; a call adds two to these at most. After an error nothing is
-/// known of the front and the core.
+/// Answers a call of NLM (XNFS C702) from the connection of this number: the reply, without its frame and at most
+/// 65,536 bytes long, and what the core told of besides: the breaks of caches that began, and who waits no more. The
+/// procedures served are NULL, TEST, LOCK, CANCEL, UNLOCK, SHARE, UNSHARE, NM_LOCK and FREE_ALL; a lock that may wait
+/// is answered with BLOCKED. Arguments that can't be read, and bytes behind them, are GARBAGE_ARGS. At least 65,536
+/// numbers must be left to give out beside those that who waits and the recalls to come may take; a call adds two to
+/// these at most. After an error nothing is known of the front and the core.
 #[tactic(auto, unfolding(crate::specs::FrontNlm::nlm_step))]
 pub fn nlm_step<K: Keeper>(
     alloc: Global,

@@ -15,34 +15,34 @@ use Rattle.xl_front_smb.specs.Plans.{Plan, Fails}
 use Rattle.xl_front_smb.specs.Replies.{tree_id}
 use Rattle.xl_smb_locks.specs.declared.status.SmbStatus.TheVariants.{InvalidParameter, NetworkNameDeleted, FileClosed, UserSessionDeleted}
 
--- the number, where it passes
+-- the number, if it passes
 abbrev pub kept_if : (ℕ → Bool) → Option ℕ → Option ℕ
 kept_if test None = None
 kept_if test (Some number) = if test number then Some number else None
 
 -- ---- what a request names
 
--- the session, where it is on the connection that the request came by (SMB-11)
+-- the session, if it is on the connection that the request came by (SMB-11)
 abbrev pub session_named : CoreState → Lists → ℕ → ℕ → Option ℕ
 session_named s l conn id = kept_if (λ number. is_session_on conn (session_of number l)) (number_in s id)
 
--- the tree connect, where it is of that session, on that connection, of that client
+-- the tree connect, if it is of that session, on that connection, of that client
 abbrev pub place_named : Lists → List ℕ → Place → Option Place
 place_named l client place = if has_place place client l then Some place else None
 
 abbrev pub tree_named : Lists → ℕ → List ℕ → SmbHead → ℕ → Option Place
 tree_named l conn client h session = place_named l client (record { connection = conn; session = session; tree = tree_id h.route })
 
--- an open, as it is found, stands under the connection
+-- an open, as it is found, is under the connection
 abbrev pub is_open_on : ℕ → Option Open → Bool
 is_open_on conn None = false
 is_open_on conn (Some row) = covers_holder (scope.Connection conn) row.holder
 
--- the number in both halves of a FileId, where they are one (SMB-12)
+-- the number in both halves of a FileId, if they are one (SMB-12)
 abbrev pub file_number : CoreState → FileId → Option ℕ
 file_number s id = if id.persistent == id.volatile then number_in s id.volatile else None
 
--- the open, where it stands under the connection (SMB-11)
+-- the open, if it is under the connection (SMB-11)
 abbrev pub open_named : CoreState → Lists → ℕ → FileId → Option ℕ
 open_named s l conn id = kept_if (λ number. is_open_on conn (open_of number l)) (file_number s id)
 

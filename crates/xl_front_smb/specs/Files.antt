@@ -135,7 +135,7 @@ has_room_for_open others l number = nat_lt (all_opens others l) most_opens && no
 abbrev pub open_file : CoreState → ℕ → Lists → SmbHead → List ℕ → Place → CreateCallItem → ℕ → Plan
 open_file s others l h client place c file = if has_room_for_open others l (s.counter + 1) then open_as s others l h client place c file (s.counter + 1) else Fails InsufficientResources
 
--- the lease's key is in use on another file, also where only a CREATE that waits has it (SMB-19)
+-- the lease's key is in use on another file, also if only a CREATE that waits has it (SMB-19)
 abbrev pub is_other : ℕ → Option ℕ → Bool
 is_other file None = false
 is_other file (Some used) = not (used == file)
@@ -191,7 +191,7 @@ abbrev pub leaves_less : Option Break → Bool
 leaves_less None = false
 leaves_less (Some running) = not (rest_lies_within (Some R) running.target)
 
--- the level isn't one to go down to: it is above II, or it is II where the oplock is no more than that already, or where its
+-- the level isn't one to go down to: it is above II, or it is II if the oplock is no more than that already, or if its
 -- break leaves less (SMB-20)
 abbrev pub is_refused : ℕ → CacheKind → Option Break → Bool
 is_refused level kind running = nat_lt 1 level || ((level == 1) && (is_read kind || leaves_less running))
@@ -200,12 +200,12 @@ is_refused level kind running = nat_lt 1 level || ((level == 1) && (is_read kind
 abbrev pub left_at : ℕ → Option CacheKind
 left_at level = if level == 0 then None else Some R
 
--- where a break runs it is answered, so that nothing is left (SMB-20)
+-- if a break runs it is answered, so that nothing is left (SMB-20)
 abbrev pub refused_ack : Lists → Claim → Option Break → Plan
 refused_ack l cache None = Fails InvalidOplockProtocol
 refused_ack l cache (Some running) = Does (Acks cache None ∷ []) l (Failed InvalidOplockProtocol)
 
--- where a break runs it is answered, so that this level is left
+-- if a break runs it is answered, so that this level is left
 abbrev pub taken_ack : Lists → ℕ → ℕ → Claim → Option Break → Plan
 taken_ack l id level cache None = Fails InvalidDeviceState
 taken_ack l id level cache (Some running) = Does (Acks cache (left_at level) ∷ []) l (Acknowledged id (level_of (left_at level)))
@@ -227,7 +227,7 @@ ack_open s l level number (Some row) = ack_of l (id_of s number) level (oplock_o
 abbrev pub ack_level : CoreState → Lists → ℕ → ℕ → Plan
 ack_level s l level number = if level == 0xFF then Fails InvalidParameter else ack_open s l level number (open_of number l)
 
--- none, 0, reading, 1, or reading and the handle, 3, where the break leaves as much (SMB-21)
+-- none, 0, reading, 1, or reading and the handle, 3, if the break leaves as much (SMB-21)
 abbrev pub may_keep : ℕ → Break → Bool
 may_keep state running = (state == 0 || (state == 1 || state == 3)) && rest_lies_within (kind_of_state state) running.target
 

@@ -18,7 +18,7 @@ use Rattle.xl_front_smb.specs.Replies.{reply_of}
 use Rattle.xl_front_smb.specs.Requests.{requested}
 use Rattle.xl_front_smb.specs.State.{FrontSmb}
 
--- what is sent to a connection, where it is answered
+-- what is sent to a connection, if it is answered
 abbrev pub sent_by : ℕ → Option (List ℕ) → List Out
 sent_by conn None = []
 sent_by conn (Some bytes) = sent_to conn bytes
@@ -37,7 +37,7 @@ abbrev pub deeds_for : ℕ → Exports → ℕ → FrontSmb → CoreState → �
 deeds_for n exports others f s conn bytes None = []
 deeds_for n exports others f s conn bytes (Some h) = deeds_of n s f.state (plan_for exports others f s conn bytes h)
 
--- What a message does to the core, in a step of which n stores succeed and where the other fronts have so many opens.
+-- What a message does to the core, in a step of which n stores succeed, if the other fronts have so many opens.
 unfoldable pub smb_deeds : ℕ → Exports → ℕ → FrontSmb → CoreState → ℕ → List ℕ → List Deed
 smb_deeds n exports others f s conn bytes = deeds_for n exports others f s conn bytes (head_heard (head_of bytes))
 
@@ -72,8 +72,8 @@ abbrev pub stepped : ℕ → Exports → ℕ → FrontSmb → CoreState → ℕ 
 stepped n exports others f s conn bytes None = ([], [], f, s)
 stepped n exports others f s conn bytes (Some h) = answered conn h (carried n s f.state (plan_for exports others f s conn bytes h))
 
--- What a message from a connection is answered, what the core told of besides, and the front and the core afterwards, where
--- n stores succeed in the step and the other fronts have so many opens.
+-- What a message from a connection is answered, what the core told of besides, and the front and the core afterwards,
+-- if n stores succeed in the step and the other fronts have so many opens.
 unfoldable pub smb_step : ℕ → Exports → ℕ → FrontSmb → CoreState → ℕ → List ℕ → List Out × List Effect × FrontSmb × CoreState
 smb_step n exports others f s conn bytes = stepped n exports others f s conn bytes (head_heard (head_of bytes))
 
@@ -82,7 +82,7 @@ smb_step n exports others f s conn bytes = stepped n exports others f s conn byt
 abbrev pub shown_with : List Out × Lists → List Out × FrontSmb
 shown_with r = (r.0, record { state = r.1 })
 
--- What is sent for an effect of the core, in the state that it left, and the front then: who holds an open is told of the break of
--- its oplock, and a request that waited and was served, or waits no more, gets its final reply.
+-- What is sent for an effect of the core, in the state that it left, and the front then: who holds an open is sent the
+-- break of its oplock, and a request that waited and was served, or waits no more, gets its final reply.
 unfoldable pub smb_shown : FrontSmb → CoreState → Effect → List Out × FrontSmb
 smb_shown f s effect = shown_with (told_of s effect f.state)

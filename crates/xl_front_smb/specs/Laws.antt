@@ -96,30 +96,31 @@ IsOnTree s l conn h client session place = IsInSession s l conn h client session
 abbrev pub IsAckOf : CoreState → Lists → ℕ → SmbHead → List ℕ → FileId → ℕ → ℕ → ℕ → Open → Type 0
 IsAckOf s l conn h client id level session number row = IsInSession s l conn h client session × (open_named s l conn id ≡ Some number) × (open_of number l ≡ Some row) × ((level == 0xFF) ≡ false)
 
--- why an acknowledgement is refused where no break runs: its level is above those to go down to, or there is nothing to answer
+-- why an acknowledgement is refused if no break runs: its level is above those to go down to, or there is nothing to
+-- answer
 abbrev pub rest_status : Bool → SmbStatus
 rest_status above = if above then status.InvalidOplockProtocol else status.InvalidDeviceState
 
--- ---- why CREATE is told so (MS-SMB2 3.3.5.9)
+-- ---- why CREATE is answered so (MS-SMB2 3.3.5.9)
 
--- it fails so where this is the case, else what the rest tells
+-- it fails so if this is the case, else what the rest says
 abbrev pub FailsIf : Bool → SmbStatus → (Told → Type 0) → Told → Type 0
 FailsIf true status due told = told ≡ Failed status
 FailsIf false status due told = due told
 
--- it fails so where there is no such thing, else what the rest tells
+-- it fails so if there is no such thing, else what the rest says
 abbrev pub OnceFound : {X : Type 0} → SmbStatus → (X → Told → Type 0) → Option X → Told → Type 0
 OnceFound status due None told = told ≡ Failed status
 OnceFound status due (Some x) told = due x told
 
--- SHARING_VIOLATION where something held stands against the share for good, INSUFFICIENT_RESOURCES where it passes a limit
+-- SHARING_VIOLATION if something held stands against the share for good, INSUFFICIENT_RESOURCES if it passes a limit
 abbrev pub IsRefusalDue : Rooms → CoreState → Ask → Claim → SmbStatus → Type 0
 IsRefusalDue left s a claim status.SharingViolation = (c : Claim) × IsClaimDue left s a claim (answers.Conflict c)
 IsRefusalDue left s a claim status.InsufficientResources = (limit : ℕ) × IsClaimDue left s a claim (answers.Full limit)
 IsRefusalDue left s a claim _ = ⊥
 
--- open under this id where the core is due to grant the share, which nothing held stands against, and with this told of its
--- cache; pending where the core is due to let it wait
+-- open under this id if the core is due to grant the share, which nothing held stands against, and with this said of
+-- its cache; pending if the core is due to let it wait
 abbrev pub IsOpenDue : Rooms → CoreState → Ask → Claim → ℕ → Caching → Told → Type 0
 IsOpenDue left s a claim id cache (Opened opened of) = (opened ≡ id) × (of ≡ cache) × IsClaimDue left s a claim (answers.Granted claim)
 IsOpenDue left s a claim id cache (Pending number) = IsClaimDue left s a claim (answers.Queued number)
@@ -135,7 +136,7 @@ open_claim names number row c = record {
   what = Share (access_of c.desired_access) (deny_of (access_of c.desired_access) c.share_access);
 }
 
--- the open of the next number: by what is held once the breaks began that it begins; and it is told of the cache that it has in
+-- the open of the next number: by what is held once its breaks began; and it is given the cache that it has in
 -- the state that is left
 abbrev pub IsNextDue : CoreState → CoreState → ℕ → Lists → ℕ → CreateCallItem → Open → Told → Type 0
 IsNextDue s t others l conn c row =
@@ -157,7 +158,7 @@ IsDispositionDue s t files others l client place c =
     (FailsIf (overwrites c.disposition) status.NotSupported
     (OnceFound status.ObjectNameNotFound (IsFileDue s t others l client place c) (file_spelled files c.name)))
 
--- of a client, in a session, on a tree connect of it, where this state is left
+-- of a client, in a session, on a tree connect of it, if this state is left
 abbrev pub IsCreateDue : CoreState → CoreState → List (List ℕ) → ℕ → Lists → ℕ → SmbHead → CreateCallItem → Told → Type 0
 IsCreateDue s t files others l conn h c =
     OnceFound status.InvalidParameter

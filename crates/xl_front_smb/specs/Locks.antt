@@ -33,7 +33,7 @@ use Rattle.xl_front_smb.specs.declared.told.Told.TheVariants.{Nothing}
 abbrev pub header_of : SmbHead → Header
 header_of h = record { credit_charge = h.credit_charge; flags = h.flags; message_id = h.message_id; tree_id = tree_id h.route; session_id = h.session_id }
 
--- where the open stands; one that nobody holds is not found on a connection
+-- where the open is; one that nobody holds is not found on a connection
 abbrev pub place_of : Holder → Place → Place
 place_of (holder.Tree place) other = place
 place_of (holder.Nobody until) other = other
@@ -79,7 +79,7 @@ abbrev pub request_named : ℕ → Lists → ℕ → Route → Option ℕ
 request_named conn l message (Async id) = if nat_lt id (2 ^ 32) && came_by conn (waiting_of id l) then Some id else None
 request_named conn l message (Tree tree) = waiting_by_message conn message l
 
--- it waits no more, where it still does; nothing is told but its final reply (SMB-26)
+-- it waits no more, if it still does; nothing is sent except its final reply (SMB-26)
 abbrev pub cancel_named : CoreState → Lists → Option ℕ → Plan
 cancel_named s l None = Does [] l Nothing
 cancel_named s l (Some id) = if is_waiting id s.waiters then Does (Cancels id ∷ []) l Nothing else Does [] l Nothing

@@ -48,7 +48,7 @@ abbrev pub IsHolderOn : List Name → ℕ → Lists → Party → Type 0
 IsHolderOn names conn l (parties.Open number) = IsIn number (opens_under (scope.Connection conn) l)
 IsHolderOn names conn l (parties.Name protocol number) = IsLeaseOf names (client_of conn l) (parties.Name protocol number)
 
--- the open of this number is new, as the next, or stands under the connection
+-- the open of this number is new, as the next, or is under the connection
 abbrev pub IsAskerOn : ℕ → Lists → ℕ → ℕ → Type 0
 IsAskerOn conn l last number = (number ≡ last + 1) ⊎ IsIn number (opens_under (scope.Connection conn) l)
 
@@ -66,9 +66,10 @@ abbrev pub IsPartyIn : List Name → List (ℕ × Open) → ℕ → Option Party
 IsPartyIn names es number None = Unit {0}
 IsPartyIn names es number (Some party) = (row : Open) × IsIn (number, row) es × (party ≡ party_of names number row)
 
--- It draws a number, closes an open under the connection, whose own caches go with it or those of its lease, or one that a request
--- under it waits to make, cancels a request that came by it, answers the break of an oplock of an open under it, or of a lease of
--- its client, or asks for an open under it, or for the open of the next number, which is new, where this was the last one.
+-- It draws a number, closes an open under the connection, whose own caches go with it or those of its lease, or one
+-- that a request under it waits to make, cancels a request that came by it, answers the break of an oplock of an open
+-- under it, or of a lease of its client, or asks for an open under it, or for the open of the next number, which is
+-- new, if this was the last one.
 abbrev pub IsOwn : List Name → ℕ → Lists → ℕ → Deed → Type 0
 IsOwn names conn l last Draws = Unit {0}
 IsOwn names conn l last (Closes number party) = IsOpenOn conn l number × IsPartyIn names l.opens number party

@@ -23,9 +23,10 @@ use Rattle.xl_smb_locks.specs.declared.status.SmbStatus.{SmbStatus}
 use Rattle.xl_front_smb.specs.declared.told.Told.{Told}
 use Rattle.xl_front_smb.specs.declared.told.Told.TheVariants.{Nothing, Failed, Opened, Locked, Pending}
 
--- It fails so, and nothing is done. Or these deeds are done to the core, these lists are kept, and this is told. Or this number
--- is drawn and this is asked: where it is granted, this open stands under the number, and is told under this id; and where it
--- waits this is kept of the request. Or locks are asked for, and where they wait this is kept of the request.
+-- It fails so, and nothing is done. Or these deeds are done to the core, these lists are kept, and this is answered. Or
+-- this number is drawn and this is asked: if it is granted, this open is under the number, and is answered under this
+-- id; and if it waits this is kept of the request. Or locks are asked for, and if they wait this is kept of the
+-- request.
 pub data Plan : Type 0 where
   Fails : SmbStatus → Plan
   Does : List Deed → Lists → Told → Plan
@@ -47,7 +48,7 @@ abbrev pub failed_by : Option SmbStatus → Told
 failed_by None = Nothing
 failed_by (Some status) = Failed status
 
--- what an open is told, which then has an oplock of this level
+-- what an open is answered, which then has an oplock of this level
 abbrev pub opened_told : ℕ → Caching → Answer → Told
 opened_told id cache (Granted claim) = Opened id cache
 opened_told id cache (Queued number) = Pending number
@@ -58,7 +59,7 @@ opened_lists l number row waiting (Granted claim) = with_open number row l
 opened_lists l number row waiting (Queued id) = with_waiting id waiting l
 opened_lists l number row waiting answer = l
 
--- what is told of locks and unlocks
+-- what locks and unlocks are answered
 abbrev pub told_as : Locking → Told
 told_as locking.Done = Locked
 told_as (locking.Failed status) = Failed status
@@ -71,7 +72,7 @@ lists_as row l (locking.Waits id) = with_waiting id row l
 
 -- ---- what it comes to
 
--- as a plan of the lists, by which this is told
+-- as a plan of the lists, by which this is answered
 abbrev pub as_plan : Lists → Plan → plans.Plan Lists Told
 as_plan l (Fails status) = plans.Tells (Failed status)
 as_plan l (Does deeds lists told) = plans.Does deeds lists told
@@ -82,7 +83,7 @@ as_plan l (Locks a row) = plans.Asking no_rows a (λ answer t. plans.Does [] (li
 abbrev pub deeds_of : ℕ → CoreState → Lists → Plan → List Deed
 deeds_of n s l plan = plans.deeds_of n s (as_plan l plan)
 
--- what is told, what the core tells of besides, the lists, and the core
+-- what is answered, what the core tells of besides, the lists, and the core
 abbrev pub Outcome : Type 0
 Outcome = plans.Outcome Lists Told
 
@@ -90,6 +91,6 @@ Outcome = plans.Outcome Lists Told
 abbrev pub carried : ℕ → CoreState → Lists → Plan → Outcome
 carried n s l plan = plans.carried n s l (as_plan l plan)
 
--- what is told and which lists are kept, by what the deeds are answered, and by the state that they leave
+-- what is answered and which lists are kept, by what the deeds are answered, and by the state that they leave
 abbrev pub answered_by : CoreState → Lists → Plan → List Answer → Told × Lists
 answered_by t l plan answers = by_answers t l Nothing (as_plan l plan) answers

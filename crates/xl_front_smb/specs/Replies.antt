@@ -1,4 +1,4 @@
--- How what a request is told is spelled (MS-SMB2 2.2, 3.3.4.1).
+-- How what a request is answered is spelled (MS-SMB2 2.2, 3.3.4.1).
 use Rattle.std.specs.Prelude.{◌≡◌, ℕ, min, max, ◌==◌, if◌then◌else◌, List, [], Option, Some, None}
 use Rattle.xl_smb.specs.Messages.{Reply, spelling}
 use Rattle.xl_smb.specs.Places.{zeros}
@@ -28,8 +28,8 @@ abbrev pub tree_id : Route → ℕ
 tree_id (Tree id) = id
 tree_id (Async id) = 0
 
--- CreditCharge, command, number, tree connect and session are those of the request, but for the session that is set up and
--- the share that is connected to (SMB-13)
+-- CreditCharge, command, number, tree connect and session are those of the request, except for the session that is set
+-- up and the share that is connected to (SMB-13)
 unfoldable pub reply_head : SmbHead → ℕ → ℕ → ℕ → SmbHead
 reply_head h status tree session = record {
   credit_charge = h.credit_charge;
@@ -68,7 +68,7 @@ head_by h _ = reply_head h 0 (tree_id h.route) h.session_id
 
 -- ---- the body
 
--- SMB 2.1 with signing enabled, leases, and 65,536 bytes at most of each kind; nothing is told of server and clock
+-- SMB 2.1 with signing enabled, leases, and 65,536 bytes at most of each kind; nothing is said of server and clock
 abbrev pub negotiated : NegotiateReplyItem
 negotiated = record { security_mode = 1; dialect = 0x0210; server_guid = zeros 16; capabilities = 2; max_transact = 65536; max_read = 65536; max_write = 65536; system_time = 0; start_time = 0; buffer = [] }
 
@@ -114,7 +114,7 @@ spelled h (Some body) = Some (spelling (Reply h body))
 unfoldable pub reply_of : SmbHead → Told → Option (List ℕ)
 reply_of h t = if h.command == 12 then None else spelled (head_by h t) (body_of t)
 
--- whether a request of this command is told so where it succeeds
+-- whether a request of this command is answered so if it succeeds
 abbrev pub IsAnswer : Option Command → Told → Type 0
 IsAnswer c told.Nothing = Unit {0}
 IsAnswer c (told.Failed status) = Unit {0}

@@ -40,7 +40,7 @@ abbrev pub read_as : CoreState → List (List ℕ) → ℕ → Lists → ℕ →
 read_as s files others l conn (Ok (Call h call)) = planned s files others l conn h call
 read_as s files others l conn _ = Fails InvalidParameter
 
--- A request of this header: it stands alone in its frame, its command has a number up to 18, and is served (SMB-10).
+-- A request of this header: it is alone in its frame, its command has a number up to 18, and is served (SMB-10).
 unfoldable pub requested : CoreState → List (List ℕ) → ℕ → Lists → ℕ → List ℕ → SmbHead → Plan
 requested s files others l conn bytes h =
     if not (h.next_command == 0) then Fails InvalidParameter

@@ -19,7 +19,7 @@ spells _ _ = false
 abbrev pub is_backslash : ℕ → ℕ → Bool
 is_backslash low high = (low == 0x5C) && (high == 0)
 
--- what stands behind the last backslash, where this part is what stands behind the one before
+-- what stands behind the last backslash, if this part is what stands behind the one before
 abbrev pub part_behind : List ℕ → List ℕ → List ℕ
 part_behind part (low ∷ high ∷ more) = if is_backslash low high then part_behind more more else part_behind part more
 part_behind part _ = part

@@ -41,7 +41,7 @@ fn is_session_on(conn: u64, found: Option<&Session>) -> bool
     }
 }
 
-/// The session of this id, where it is on the connection.
+/// The session of this id, if it is on the connection.
 #[tactic(auto, using(crate::proofs::CheckLaws::session_there))]
 pub(crate) fn session_named(core: &Core, state: &SmbState, conn: u64, id: u64) -> Option<u32>
     ensures value { result ≡ session_named core.now state.now conn id }
@@ -55,7 +55,7 @@ pub(crate) fn session_named(core: &Core, state: &SmbState, conn: u64, id: u64) -
     }
 }
 
-/// The tree connect that a request names, where it belongs to the session that it names, on a connection of this client.
+/// The tree connect that a request names, if it belongs to the session that it names, on a connection of this client.
 pub(crate) fn tree_named(
     state: &SmbState,
     conn: u64,
@@ -79,7 +79,7 @@ pub(crate) fn tree_named(
     }
 }
 
-/// Whether an open stands under this connection.
+/// Whether an open is under this connection.
 fn is_open_on(conn: u64, found: Option<&Open>) -> bool
     ensures { result ≡ is_open_on conn (option_copied found.entry) }
 {
@@ -92,7 +92,7 @@ fn is_open_on(conn: u64, found: Option<&Open>) -> bool
     }
 }
 
-/// The number in both halves of a FileId, where they are one.
+/// The number in both halves of a FileId, if they are one.
 fn file_number(core: &Core, id: FileId) -> Option<u32>
     ensures { result ≡ file_number core.now id }
 {
@@ -103,7 +103,7 @@ fn file_number(core: &Core, id: FileId) -> Option<u32>
     }
 }
 
-/// The open of this FileId, where it stands under the connection.
+/// The open of this FileId, if it is under the connection.
 #[tactic(auto, using(crate::proofs::CheckLaws::open_there))]
 pub(crate) fn open_named(core: &Core, state: &SmbState, conn: u64, id: FileId) -> Option<u32>
     ensures value { result ≡ open_named core.now state.now conn id }

@@ -51,7 +51,7 @@ fn access_of(desired: u32) -> Rwd
     }
 }
 
-/// What an open denies: what it doesn't share, but nothing where it is for none of the three.
+/// What an open denies: what it doesn't share, but nothing if it is for none of the three.
 #[tactic(auto, unfolding(crate::specs::Files::deny_of))]
 fn deny_of(access: Rwd, share: u32) -> Rwd
     ensures { result ≡ deny_of access share }
@@ -173,8 +173,8 @@ fn rooms_left(state: &SmbState, others: u32) -> Rooms
     }
 }
 
-/// What an open is told that is answered so; where it is granted it stands under its number, and where it waits the request is
-/// kept.
+/// What comes of an open whose ask is answered so; if it is granted it is under its number, and if it waits the request
+/// is kept.
 fn opened(
     alloc: Global,
     state: &mut SmbState,
@@ -253,7 +253,7 @@ fn has_room(state: &SmbState, others: u32, number: u32) -> bool
     all_opens(state, others) < OPENS as u64 && state.find_open(number).is_none()
 }
 
-/// Opens a file, where there is room.
+/// Opens a file, if there is room.
 #[tactic(auto, using(xl_plan::proofs::BudgetLaws::leaves_self))]
 fn open_file<K: Keeper>(
     alloc: Global,
@@ -309,7 +309,7 @@ fn is_key_elsewhere(state: &SmbState, file: u32, key: Option<LeaseKey>) -> bool
     }
 }
 
-/// Opens a file, where the key of the lease that is asked for isn't in use on another.
+/// Opens a file, if the key of the lease that is asked for isn't in use on another.
 #[tactic(auto, using(xl_plan::proofs::BudgetLaws::leaves_self))]
 fn open_keyed<K: Keeper>(
     alloc: Global,
@@ -347,7 +347,7 @@ fn overwrites(disposition: u32) -> bool
     disposition == 0 || disposition == 4 || disposition == 5
 }
 
-/// Opens a file on a tree connect, where there is one of this name and it is only to be opened.
+/// Opens a file on a tree connect, if there is one of this name and it is only to be opened.
 #[tactic(auto, using(xl_plan::proofs::BudgetLaws::leaves_self))]
 fn create_on<K: Keeper>(
     alloc: Global,

@@ -40,7 +40,7 @@ pub(crate) fn party_going(core: &Core, state: &SmbState, number: u32) -> Option<
 /// An open that is closed, with the party whose caches go with it.
 type Leaver = (u32, Option<Party>);
 
-/// Ends an open: all that it holds and waits for goes, and that is told behind what was told before.
+/// Ends an open: all that it holds and waits for goes, and the effects come behind those before.
 fn end_one(
     alloc: Global,
     core: &mut Core,
@@ -218,7 +218,7 @@ fn forget_requests(alloc: Global, state: &mut SmbState, conn: u64) -> Result<(),
     Ok(())
 }
 
-/// Tells those of whom these effects tell that they wait no more.
+/// Answers those of whom these effects tell that they wait no more.
 pub(crate) fn dismiss_all(
     alloc: Global,
     state: &mut SmbState,

@@ -126,7 +126,7 @@ fn answer_break(
     (told, effects)
 }
 
-/// What an acknowledgement of this level comes to, where a break of this oplock runs.
+/// What an acknowledgement of this level comes to, if a break of this oplock runs.
 #[tactic(auto, using(crate::proofs::AckLaws::left_within))]
 fn ack_running(
     alloc: Global,
@@ -153,7 +153,7 @@ fn ack_running(
     answer_break(alloc, core, cache, left, told)
 }
 
-/// Why an acknowledgement of this level is refused, where no break of this oplock runs.
+/// Why an acknowledgement of this level is refused, if no break of this oplock runs.
 fn ack_resting(alloc: Global, level: u8, kind: CacheKind) -> Done
     ensures done { (n : ℕ) (s : CoreState) (l : Lists) (id : ℕ) (cache : Claim) → carried n s l (ack_by l id level cache (Cache kind None)) ≡ (result.0, result.1, l, s) }
     ensures answer { IsAnswer (Some command.OplockBreak) result.0 }
@@ -217,7 +217,7 @@ fn ack_open(
     Ok(ack_by(alloc, core, id, level, &cache))
 }
 
-/// Whether a lease may keep this state, where this break of its cache runs.
+/// Whether a lease may keep this state, if this break of its cache runs.
 fn may_keep(state: u32, running: xl_matrix::Break) -> bool
     ensures { result ≡ may_keep state running }
 {
@@ -236,7 +236,7 @@ fn lease_left(lease: &Lease) -> Lease
     }
 }
 
-/// What an acknowledgement of this state comes to, where this is the lease's cache.
+/// What an acknowledgement of this state comes to, if this is the lease's cache.
 #[tactic(auto, using(xl_plan::proofs::BudgetLaws::leaves_self, crate::proofs::AckLaws::kept_within))]
 fn ack_lease_by(alloc: Global, core: &mut Core, lease: &Lease, cache: &Claim) -> Done
     requires ready { IsReady 0 core.old }

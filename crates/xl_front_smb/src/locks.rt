@@ -38,7 +38,7 @@ fn header_of(head: &SmbHead) -> Header
     }
 }
 
-/// Where an open stands.
+/// Where an open is.
 fn place_of(by: Holder, other: &Place) -> Place
     ensures { result ≡ place_of by other.now }
 {
@@ -74,7 +74,7 @@ fn has_room_to_wait(state: &SmbState, id: u32) -> bool
     state.count_waiting() < WAITING && state.find_waiting(id).is_none()
 }
 
-/// What locks and unlocks are told.
+/// What locks and unlocks are answered.
 fn told_as(locking: Locking) -> Told
     ensures value { result ≡ told_as locking }
     ensures answer { IsAnswer (Some command.Lock) result }
@@ -298,7 +298,7 @@ fn has_waiter(waiters: &[Waiter], id: u32) -> bool
     waiters.iter().any(|waiter| waiter.id == id)
 }
 
-/// Whether a waiter of this number stands in the queue.
+/// Whether a waiter of this number is in the queue.
 #[tactic(auto, using(crate::proofs::LockLaws::waiting_is))]
 fn is_waiting(queue: &Queue, id: u32) -> bool
     ensures { result ≡ is_waiting id queue.now }

@@ -7,7 +7,7 @@ use xl_base::Sequence;
 use xl_core::Effect;
 use xl_smb_locks::SmbStatus;
 
-/// What a request is told, and what the core told of besides.
+/// What a request is answered, and what the core told of besides.
 pub(crate) type Done = (Told, Sequence<Effect>);
 
 /// A request fails so, and nothing is done.
@@ -17,7 +17,7 @@ pub(crate) fn failed(alloc: Global, status: SmbStatus) -> Done
     (Told::Failed(status), Sequence::new(alloc))
 }
 
-/// A request is told so, and nothing is done to the core.
+/// A request is answered so, and nothing is done to the core.
 pub(crate) fn told(alloc: Global, told: Told) -> Done
     ensures { result ≡ (told, []) }
 {

@@ -1,4 +1,4 @@
-//! How what a request is told is spelled.
+//! How what a request is answered is spelled.
 ghost use Rattle.std.specs.Prelude.{◌≡◌, ℕ, true, ◌≤◌, length, option_map, IfOk, IfSome};
 ghost use Rattle.xl_smb.specs.Leases.{are_contexts};
 ghost use Rattle.xl_smb.specs.Heads.{command_of};
@@ -15,7 +15,7 @@ use xl_smb::{
 };
 use xl_smb_locks::{contexts_told, file_id, file_of, opened};
 
-/// The credits that are granted where so many are asked for.
+/// The credits that are granted if so many are asked for.
 #[tactic(auto, unfolding(crate::specs::Replies::credits_for))]
 fn credits_for(asked: u16) -> u16
     ensures { result ≡ credits_for asked }
@@ -74,7 +74,7 @@ fn pending_head(head: &SmbHead, id: u32) -> SmbHead
     }
 }
 
-/// The header of the reply that tells this.
+/// The header of the reply that says this.
 fn head_by(head: &SmbHead, told: Told) -> SmbHead
     ensures { result ≡ head_by head.now told }
 {
@@ -115,7 +115,7 @@ fn negotiated() -> NegotiateReply<'static>
     }
 }
 
-/// The contexts of the reply that tells this: those of a file that is open.
+/// The contexts of the reply that says this: those of a file that is open.
 fn contexts_of(alloc: Global, told: Told) -> Result<Vec<u8>, AllocError>
     ensures list { IfOk result (λ list. list.items ≡ contexts_of told) }
     ensures within { IfOk result (λ list. are_contexts list.items ≡ true) }
@@ -127,7 +127,7 @@ fn contexts_of(alloc: Global, told: Told) -> Result<Vec<u8>, AllocError>
     }
 }
 
-/// The body of the reply that tells this with these contexts, where one is sent.
+/// The body of the reply that says this with these contexts, if one is sent.
 fn body_of(told: Told, contexts: &[u8]) -> Option<SmbReply<'_>>
     requires { contexts.now ≡ contexts_of told }
     ensures { option_map shown_reply result ≡ body_of told }
@@ -163,7 +163,7 @@ fn body_of(told: Told, contexts: &[u8]) -> Option<SmbReply<'_>>
     }
 }
 
-/// The reply to a request of this header, where one is sent.
+/// The reply to a request of this header, if one is sent.
 #[tactic(auto, unfolding(crate::specs::Replies::reply_of), using(crate::proofs::ReplyLaws::reply_stands, crate::proofs::ReplyLaws::reply_little))]
 pub(crate) fn reply_of(
     alloc: Global,

@@ -81,7 +81,7 @@ fn set_up_as(
     Ok(told(alloc, Told::SetUp(id_of(core, number))))
 }
 
-/// A new session, where there is room.
+/// A new session, if there is room.
 #[tactic(auto, using(xl_plan::proofs::BudgetLaws::leaves_self))]
 fn set_up(
     alloc: Global,
@@ -187,7 +187,7 @@ fn connect_as(
     Ok(told(alloc, Told::Connected(number)))
 }
 
-/// A new tree connect of a session, where there is room and the path is that of the share.
+/// A new tree connect of a session, if there is room and the path is that of the share.
 #[tactic(auto, using(xl_plan::proofs::BudgetLaws::leaves_self))]
 fn connect(
     alloc: Global,

@@ -18,7 +18,7 @@ use xl_programs::sent_to;
 use xl_smb::read_head;
 use xl_smb_locks::{push_all, tell};
 
-/// What is sent to a connection, where it is answered.
+/// What is sent to a connection, if it is answered.
 fn sent_by(alloc: Global, conn: u64, reply: Option<Vec<u8>>) -> Result<Sequence<Out>, AllocError>
     requires little { IfSome reply (λ v. length v.items ≤ most_message_bytes) }
     ensures value { IfOk result (λ outs. outs ≡ sent_by conn (option_map (λ v. v.items) reply)) }
@@ -30,12 +30,13 @@ fn sent_by(alloc: Global, conn: u64, reply: Option<Vec<u8>>) -> Result<Sequence<
     }
 }
 
-/// Answers a message of the SMB connection of this number, all of one frame: the final replies to the requests that it cancels,
-/// in order of arrival, and its own reply, where there is one, each without its frame and at most 65,536 bytes long; and what
-/// the core told of besides. The other fronts have this number of opens. NEGOTIATE, SESSION_SETUP, LOGOFF, TREE_CONNECT,
-/// TREE_DISCONNECT, CREATE, CLOSE, LOCK, CANCEL, ECHO and acknowledgements of the breaks of oplocks and leases are served. A
-/// CANCEL gets no reply, nor does what has no header of SMB 2.1 or is a reply by its flags. The breaks that begin for it come
-/// first among what the core tells of. After an error nothing is known of the front and the core.
+/// Answers a message of the SMB connection of this number, all of one frame: the final replies to the requests that it
+/// cancels, in order of arrival, and its own reply, if there is one, each without its frame and at most 65,536 bytes
+/// long; and what the core told of besides. The other fronts have this number of opens. NEGOTIATE, SESSION_SETUP,
+/// LOGOFF, TREE_CONNECT, TREE_DISCONNECT, CREATE, CLOSE, LOCK, CANCEL, ECHO and acknowledgements of the breaks of
+/// oplocks and leases are served. A CANCEL gets no reply, nor does what has no header of SMB 2.1 or is a reply by its
+/// flags. The breaks that begin for it come first among what the core tells of. After an error nothing is known of the
+/// front and the core.
 #[tactic(auto, unfolding(crate::specs::FrontSmb::smb_step), using(xl_plan::proofs::BudgetLaws::leaves_self, xl_plan::proofs::BudgetLaws::leaves_more, xl_plan::proofs::BudgetLaws::ready_less, xl_smb_locks::proofs::FinalLaws::fit_both))]
 pub fn smb_step<K: Keeper>(
     alloc: Global,

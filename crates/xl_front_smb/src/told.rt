@@ -1,9 +1,9 @@
-//! What a request is told.
+//! What a request is answered.
 
 use xl_smb::Lease;
 use xl_smb_locks::{Caching, SmbStatus};
 
-/// What a request is told.
+/// What a request is answered.
 #[derive(Clone, Copy)]
 pub enum Told {
     /// Nothing: no reply is sent.

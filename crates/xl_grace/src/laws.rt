@@ -14,7 +14,7 @@ pub fn grace_runs_until_its_end()
     ensures { (stable : Stable) (now : Moment) (milliseconds : ℕ) (turns : List Turn) → is_some (after (begun stable now milliseconds) turns) ≡ (has_names stable.names && not (list_any (is_reading_from (min (now.0 + milliseconds) (2 ^ 64 - 1))) turns)) }
 {}
 
-/// What is no reclaim is told the end while grace runs, and enters if none runs (RFC 7530 9.6.2).
+/// What is no reclaim is answered with the end while grace runs, and enters if none runs (RFC 7530 9.6.2).
 #[tactic(auto, using(crate::proofs::GraceLaws::asks_from))]
 pub fn new_asks_wait_for_the_end()
     ensures { (stable : Stable) (now : Moment) (milliseconds : ℕ) (turns : List Turn) (name : Recorded) → admission (after (begun stable now milliseconds) turns) name false ≡ (if is_some (after (begun stable now milliseconds) turns) then Grace (record { 0 = min (now.0 + milliseconds) (2 ^ 64 - 1) }) else Enters) }

@@ -1,5 +1,6 @@
--- Requests of SMB that wait: each is a waiter of the core at a free moment, and each waiter of an SMB open has its request; and what
--- a turn grants to an SMB open has its open afterwards, and is told (MS-SMB2 3.3.4.2, 3.3.4.4, 3.3.5.9).
+-- Requests of SMB that wait: each is a waiter of the core at a free moment, and each waiter of an SMB open has its
+-- request; and what a turn grants to an SMB open has its open afterwards, and is answered (MS-SMB2 3.3.4.2, 3.3.4.4,
+-- 3.3.5.9).
 use Rattle.std.specs.Prelude.{◌≡◌, ℕ, zero, suc, true, List, ◌++◌, map, Option, Some, None}
 use Rattle.xl_base.specs.Lists.{IsIn}
 use Rattle.xl_base.specs.declared.event.Event.{Event}
@@ -78,8 +79,8 @@ abbrev pub IsServedBy : ℕ → Whole → Event → Whole → Type 0
 IsServedBy n s Restart t = IsAwaiting t
 IsServedBy n s event t = IsAwaiting t × turns_serve (turns_left (heard n s event).2) n s.exports t.front.smb.state (heard n s event).1 (heard n s event).2
 
--- After the entry each request of SMB that waits is a waiter of the core, and each waiter of an SMB open has its request. What a turn
--- of the entry grants to an SMB open was waited for by a request of that open, which is there after the entry, and the request is told
--- that it succeeded.
+-- After the entry each request of SMB that waits is a waiter of the core, and each waiter of an SMB open has its
+-- request. What a turn of the entry grants to an SMB open was waited for by a request of that open, which is there
+-- after the entry, and the request is answered that it succeeded.
 abbrev pub IsServed : Law
 IsServed n s e t = IsServedBy n s e.event t

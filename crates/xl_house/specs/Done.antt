@@ -102,17 +102,17 @@ end_owns f s None number = Unit {0}
 
 -- ---- the end of a call
 
--- it gives up what the call told: these bytes of the file, by the owner that the grant names
+-- it gives up what the call sent: these bytes of the file, by the owner that the grant names
 abbrev pub IsRefusal : Grant → Deed → Type 0
 IsRefusal g (Asks left a) = (a.party ≡ Named (NlmParty g.caller)) × (a.owner ≡ Named (NlmRange g.caller g.svid g.oh)) × (a.file ≡ g.file) × (a.act ≡ Unlock (Bytes g.first g.last))
 IsRefusal g deed = ⊥
 
--- each does, and where there is no grant there are none
+-- each does, and if there is no grant there are none
 abbrev pub AreRefusals : Option Grant → List Deed → Type 0
 AreRefusals None ds = ds ≡ []
 AreRefusals (Some g) ds = AllByRecursion (IsRefusal g) ds
 
--- whose they are: of the grant that the call told, where it awaits an answer and is refused
+-- whose they are: of the grant that the call sent, if it awaits an answer and is refused
 abbrev pub called_owns : FrontState → CoreState → ℕ → Option (List ℕ) → Type 0
 called_owns f s number reply = AreRefusals (refused_grant s (refuses reply) (find (λ c. c.number == number) f.calls)) (called_deeds f s number reply)
 

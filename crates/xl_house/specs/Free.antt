@@ -5,9 +5,9 @@ use Rattle.xl_core.specs.Good.{IsGood, IsSettled}
 use Rattle.xl_house.specs.Machine.{Whole, step}
 
 -- The core's state is good: any two claims may be held together by the matrix, an owner has one share and a party one
--- cache on a file, each POSIX owner's ranges are sorted maximal runs. Nobody is forgotten: each waiter is held up, by something
--- held that blocks what it asks for first, for good where it waits for that, and else by caches whose breaks all run. No store
--- of a step is left to tell of.
+-- cache on a file, each POSIX owner's ranges are sorted maximal runs. Nobody is forgotten: each waiter is held up, by
+-- something held that blocks what it asks for first, for good if it waits for that, and else by caches whose breaks all
+-- run. No store of a step is left to tell of.
 pub record IsFree (s : Whole) : Type 0 where
   pub good : IsGood s.core
   pub settled : IsSettled s.core

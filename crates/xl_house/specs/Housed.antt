@@ -25,13 +25,14 @@ abbrev pub is_spoiled : Option Halt → Bool
 is_spoiled (Some NoMemory) = true
 is_spoiled _ = false
 
--- the keeper holds this record, where it tells what it holds
+-- the keeper holds this record, if it tells what it holds
 abbrev pub Holds : Option Stable → Stable → Type 0
 Holds held stable = held ≡ option_map (λ _. stable) held
 
--- The state is the one that the entries lead to, at its place and a free moment, at which each request of SMB that waits is awaited.
--- Each entry gives out 512 numbers at most, those among them that one who comes to wait, the call that tells of its grant, and the
--- recall of a delegation that came may take later; and the names fit the messages that tell them.
+-- The state is the one that the entries lead to, at its place and a free moment, at which each request of SMB that
+-- waits is awaited. Each entry gives out 512 numbers at most, those among them that one who comes to wait, the call
+-- that sends its grant, and the recall of a delegation that came may take later; and the names fit the messages that
+-- carry them.
 pub record Stands (start : Whole) (es : List Entry) (s : Whole) : Type 0 where
   pub replayed : s ≡ replay start es
   pub place : s.place ≡ length es

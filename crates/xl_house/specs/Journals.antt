@@ -43,7 +43,7 @@ is_restart _ = false
 
 -- ---- no out before its connection's opening or after its end
 
--- the connections that are open after the event at this place, of those that were: an opening where 64 are open opens
+-- the connections that are open after the event at this place, of those that were: an opening while 64 are open opens
 -- none, and a restart ends all
 abbrev pub opened_after : List ℕ → ℕ → Event → List ℕ
 opened_after opened place (Open kind) = if nat_lt (length opened) most_connections then opened ++ place ∷ [] else opened

@@ -45,10 +45,10 @@ IsLawfulBy n s Restart t = ((p : Place) → held_at t.core p ≡ []) × (t.core.
 IsLawfulBy n s event t =
     IsChangedBy n (found s) (deeds n s event) t.core × (t.core.leases ≡ leases_after n (found s) (deeds n s event) s.core.leases) × (t.core.clock ≡ clock_after event s.core.clock)
 
--- At each place there is what the last of the entry's deeds that reaches it made of it, and where none does, what was
--- there. The leases are those that ran, but for what the deeds made of them: each client that one renews has its own for a
--- whole lease time from then on, and who expires has none. The clock shows what is read, where that is later, and else stands.
--- A restart leaves nothing but the clock.
+-- At each place there is what the last of the entry's deeds that reaches it made of it, and if none does, what was
+-- there. The leases are those that ran, except for what the deeds made of them: each client that one renews has its own
+-- for a whole lease time from then on, and who expires has none. The clock shows what is read, if that is later, and
+-- else stays. A restart leaves nothing except the clock.
 abbrev pub IsLawful : Law
 IsLawful n s e t = IsLawfulBy n s e.event t
 
@@ -59,26 +59,26 @@ abbrev pub IsWaitingBy : ℕ → Whole → Event → Whole → Type 0
 IsWaitingBy n s Restart t = t.core.waiters ≡ []
 IsWaitingBy n s event t = (t.core.waiters ≡ queue_after n (found s) (deeds n s event) s.core.waiters) × KeepNames s.core.names t.core.names
 
--- Who waits is who waited, but for those whom the deeds queued, took out, ended or served, each by its own line, in order;
--- and each name stands at its number. After a restart nobody waits.
+-- Who waits is who waited, except for those whom the deeds queued, took out, ended or served, each by its own line, in
+-- order; and each name is at its number. After a restart nobody waits.
 abbrev pub IsWaiting : Law
 IsWaiting n s e t = IsWaitingBy n s e.event t
 
 -- ---- kept until it is answered
 
--- the cache stands, and beside it no share or range that it guards against
+-- the cache is held, and beside it no share or range that it guards against
 abbrev pub IsGuarding : Claim → List Claim → Type 0
 IsGuarding c claims = IsIn c claims × AllByRecursion (λ d. is_cache d.what ≡ false → compat c d ≡ true) claims
 
--- which caches stand afterwards, by the event
+-- which caches are held afterwards, by the event
 abbrev pub IsKeptBy : ℕ → Whole → Event → Whole → Type 0
 IsKeptBy n s Restart t = t.core.claims ≡ []
 IsKeptBy n s event t = (c : Claim) → IsIn c s.core.claims → is_running c.what ≡ true → any_ends_break n (found s) c (deeds n s event) ≡ false → IsGuarding c t.core.claims
 
--- A cache of which a break runs before the entry stands after it with that break, at its full kind, and no share or range stands
--- that it guards against, unless one of the entry's deeds is its party's answer, gives it back, ends its party, is the passing of
--- its deadline, or the expiry of its client (MS-SMB2 3.3.4.6, 3.3.4.7, 3.3.6.1; RFC 7530 10.4.4 to 10.4.6). A restart leaves
--- nothing.
+-- A cache of which a break runs before the entry is held after it with that break, at its full kind, and no share or
+-- range is held that it guards against, unless one of the entry's deeds is its party's answer, gives it back, ends its
+-- party, is the passing of its deadline, or the expiry of its client (MS-SMB2 3.3.4.6, 3.3.4.7, 3.3.6.1; RFC 7530
+-- 10.4.4 to 10.4.6). A restart leaves nothing.
 abbrev pub IsKept : Law
 IsKept n s e t = IsKeptBy n s e.event t
 
@@ -134,9 +134,9 @@ may_follow (Serves left) = true
 may_follow Draws = true
 may_follow deed = false
 
--- a message's own deeds are of whom it names, or of opens of the connection that it came by, and they renew each confirmed client
--- of NFSv4 that it names; those of the end of a connection are of its opens alone, and those of the end of a call give up what
--- that call told, where it is refused
+-- a message's own deeds are of whom it names, or of opens of the connection that it came by, and they renew each
+-- confirmed client of NFSv4 that it names; those of the end of a connection are of its opens alone, and those of the
+-- end of a call give up what that call sent, if it is refused
 abbrev pub IsOwnersBy : ℕ → Whole → Event → Type 0
 IsOwnersBy n s (Message number bytes) = message_owns n s.exports s.front (found s) (kind_of s.connections number) number bytes
 IsOwnersBy n s (End number) = end_owns s.front (found s) (kind_of s.connections number) number
@@ -144,8 +144,8 @@ IsOwnersBy n s (Called number reply) = called_owns s.front.nlm (found s) number 
 IsOwnersBy n s event = Unit {0}
 
 -- Each of its own deeds is one that such an event may do; a message's are of the clients that the message names, or of
--- opens of its connection, those of a connection's end are of its opens, and those of a call's end of the grant that it told;
--- behind them stand turns alone.
+-- opens of its connection, those of a connection's end are of its opens, and those of a call's end of the grant that it
+-- sent; behind them stand turns alone.
 pub record IsCausedBy (n : ℕ) (s : Whole) (event : Event) : Type 0 where
   pub own : AllByRecursion (λ d. may_do event d ≡ true) (own_deeds n s event)
   pub clients : IsOwnersBy n s event
@@ -155,7 +155,7 @@ pub record IsCausedBy (n : ℕ) (s : Whole) (event : Event) : Type 0 where
 abbrev pub IsCaused : Law
 IsCaused n s e t = IsCausedBy n s e.event
 
--- ---- told
+-- ---- sent
 
 -- What is sent is what telling of its own deeds sends, the fronts' reply to what they were answered, and behind it what
 -- telling of the turns sends.

@@ -97,7 +97,7 @@ abbrev pub framed_by : Kind → Out → Dest → Out
 framed_by kind o (Conn number) = record { dest = Conn number; to = o.to; bytes = wrapped kind o.bytes }
 framed_by kind o (Back call) = o
 
--- an out in its frame, where it goes to a connection of this kind; a call has none
+-- an out in its frame, if it goes to a connection of this kind; a call has none
 abbrev pub framed : Kind → Out → Out
 framed kind o = framed_by kind o o.dest
 
@@ -117,8 +117,8 @@ before done outs = (done.0 ++ outs, done.1, done.2)
 abbrev pub and_then : (Fronts → CoreState → Sent) → Sent → Sent
 and_then rest done = behind done.0 (rest done.1 done.2)
 
--- all fronts hear of an effect; that of NLM may tell of a grant by a call, then that of NFSv4 recalls a delegation by one, and
--- then that of SMB sends a notice or a final reply
+-- all fronts hear of an effect; that of NLM may send a grant by a call, then that of NFSv4 recalls a delegation by one,
+-- and then that of SMB sends a notice or a final reply
 abbrev pub with_news : Fronts → Effect → List Out × FrontState × CoreState → List Out → List Out × FrontSmb → Sent
 with_news f effect r calls q = (map (framed Rpc) r.0 ++ (map (framed Rpc) calls ++ map (framed Smb) q.0), record f { nlm = r.1; nfs = nfs_shown f.nfs effect; smb = q.1 }, r.2)
 
@@ -207,7 +207,7 @@ abbrev pub begun_by : Fronts → ℕ → Kind → Fronts
 begun_by f number Rpc = f
 begun_by f number Smb = record f { smb = smb_begin f.smb number }
 
--- the fronts after the opening at this place; where there is no room nothing begins
+-- the fronts after the opening at this place; if there is no room nothing begins
 abbrev pub begun : Fronts → List Connection → ℕ → Kind → Fronts
 begun f connections place kind = if nat_lt (length connections) most_connections then begun_by f place kind else f
 

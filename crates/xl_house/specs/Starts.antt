@@ -3,7 +3,7 @@ use Rattle.std.specs.Prelude.{◌≡◌, ◌⊎◌, List, [], ◌∷◌, ◌++�
 use Rattle.xl_base.specs.Stable.{Stable, raised}
 use Rattle.xl_house.specs.Housed.{Holds}
 
--- the records given, with the loaded one with its epoch raised behind them, where they are told
+-- the records given, with the loaded one with its epoch raised behind them, if they are told
 abbrev pub given_at_start : Stable → Option (List Stable) → Option (List Stable)
 given_at_start loaded given = option_map (λ list. list ++ raised loaded ∷ []) given
 

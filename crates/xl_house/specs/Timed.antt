@@ -10,13 +10,14 @@ use Rattle.xl_core.specs.Leases.{Lease, moment_after, later, with_lease, without
 
 -- ---- leases
 
--- without that of the client of this id string, where there is one
+-- without that of the client of this id string, if there is one
 abbrev pub without_some : Option (List ℕ) → List Lease → List Lease
 without_some None leases = leases
 without_some (Some client) leases = without_lease client leases
 
--- The leases after one deed, of those that ran: that of a client that is renewed ends a whole lease time after the clock, and that
--- of one that expires is over, as it does where it left the recall of a delegation without an answer (RFC 7530 9.5, 10.4.6).
+-- The leases after one deed, of those that ran: that of a client that is renewed ends a whole lease time after the
+-- clock, and that of one that expires is over, as it does if it left the recall of a delegation without an answer (RFC
+-- 7530 9.5, 10.4.6).
 abbrev pub leases_left : CoreState → Deed → List Lease → List Lease
 leases_left s (Renews client) leases = with_lease client (moment_after s.clock s.times.lease) leases
 leases_left s (Expires client) leases = without_lease client leases
@@ -30,7 +31,7 @@ leases_after n s (d ∷ ds) leases = leases_after n (done n s d) ds (leases_left
 
 -- ---- the clock
 
--- it shows what is read, where that is later, and else what it showed; no other event moves it
+-- it shows what is read, if that is later, and else what it showed; no other event moves it
 abbrev pub clock_after : Event → Moment → Moment
 clock_after (Tick now) clock = later clock now
 clock_after event clock = clock

@@ -21,7 +21,7 @@ pub(crate) fn has_room(connections: &[Connection]) -> bool
     connections.len() < MOST_CONNECTIONS
 }
 
-/// Opens a connection where there is room.
+/// Opens a connection if there is room.
 #[tactic(auto, unfolding(crate::specs::Machine::with_connection))]
 pub(crate) fn open(
     connections: &mut Vec<Connection>,

@@ -256,8 +256,8 @@ impl<K: Keeper> House<K> {
     ///   served;
     /// - lawful: each entry leaves at each place, and of each lease, what its deeds made of it;
     /// - waiting: those who waited go on to wait, except those whom the entry served, cancelled or ended;
-    /// - kept_until_answered: while the break of a cache runs, the cache stands at its full kind, until its party answers, gives
-    ///   it back, ends or expires, or the deadline passes;
+    /// - kept_until_answered: while the break of a cache runs, the cache is held at its full kind, until its party
+    ///   answers, gives it back, ends or expires, or the deadline passes;
     /// - complete: what nothing held stands against was granted, and what was due by a reading of the clock was done;
     /// - caused: the deeds are those that the event may cause;
     /// - told: what is sent follows from the deeds and their answers;

@@ -29,13 +29,13 @@ ghost use Rattle.xl_house.specs.Free.{IsFree};
 ghost use Rattle.xl_house.specs.Lawful.{found, IsLawful, IsWaiting, IsKept, IsComplete};
 ghost use Rattle.xl_house.specs.Machine.{Whole, heard, rooms_of};
 
-/// A machine that answers that a lock is granted and keeps nothing has no lawful entry for a lock of one byte at a start; if
-/// one waits, a machine that drops it at another's test has none in which who waits is right; and if a break of a cache runs, a
-/// machine that lets the cache go at another's ask has none in which it is kept until it is answered. If a client has a lease,
-/// a machine that drops all leases at another's ask has no lawful entry for that; at a reading of the clock that is later one that
-/// leaves the clock as it was has none, and one that leaves a lease that has ended has none that is complete. A machine that forgets
-/// all requests of SMB while an SMB open's waiter stands has no entry that is served, nor has one whose first turn grants a claim to
-/// an SMB open that isn't there afterwards.
+/// A machine that answers that a lock is granted and keeps nothing has no lawful entry for a lock of one byte at a
+/// start; if one waits, a machine that drops it at another's test has none in which who waits is right; and if a break
+/// of a cache runs, a machine that lets the cache go at another's ask has none in which it is kept until it is
+/// answered. If a client has a lease, a machine that drops all leases at another's ask has no lawful entry for that; at
+/// a reading of the clock that is later one that leaves the clock as it was has none, and one that leaves a lease that
+/// has ended has none that is complete. A machine that forgets all requests of SMB while an SMB open's waiter is there
+/// has no entry that is served, nor has one whose first turn grants a claim to an SMB open that isn't there afterwards.
 #[tactic(auto, using(crate::proofs::HollowLaws::waiter_dropped_in, crate::proofs::HollowLaws::cache_let_go_in, crate::proofs::HollowLaws::leases_dropped_in, crate::proofs::HollowLaws::clock_stands_in, crate::proofs::HollowLaws::lease_runs_on_in))]
 pub fn hollow_machines_are_refused()
     ensures kept { (n stores number : ℕ) (bytes : List ℕ) (outs : List Out) (s t : Whole) (stable : Stable) (clock : Moment) (times : Times) → found s ≡ started stable clock times → deeds n s (Message number bytes) ≡ Asks all_room smallest_lock ∷ []

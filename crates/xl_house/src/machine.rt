@@ -39,7 +39,7 @@ pub(crate) struct Machine {
     pub layers: Layers,
 }
 
-/// Opens or ends a connection where the event at this place does.
+/// Opens or ends a connection if the event at this place does.
 #[tactic(auto, unfolding(crate::specs::Machine::connected))]
 fn connect(connections: &mut Vec<Connection>, place: u64, event: &Event) -> Result<(), AllocError>
     ensures { OnOk result (connections.new.items ≡ connected connections.old.items place event.now) }
@@ -207,7 +207,7 @@ fn hear<K: Keeper>(
     }
 }
 
-/// A connection of this kind opens at this place: SMB's front keeps its own, where there is room.
+/// A connection of this kind opens at this place: SMB's front keeps its own, if there is room.
 fn begin(
     front: &mut Fronts,
     connections: &[Connection],
@@ -261,7 +261,7 @@ fn hear_end(
     }
 }
 
-/// The bytes of a reply, where there is one.
+/// The bytes of a reply, if there is one.
 fn bytes_of(reply: &Option<Sequence<u8>>) -> Option<&[u8]>
     ensures { option_map (λ bytes. bytes.now) result ≡ reply.now }
 {

@@ -14,7 +14,7 @@ use xl_front_nfs::{nfs_shown, recalls};
 use xl_front_nlm::{NlmLayers, shown};
 use xl_front_smb::smb_shown;
 
-/// An out in its frame, where it goes to a connection of this kind; a call has none.
+/// An out in its frame, if it goes to a connection of this kind; a call has none.
 fn framed(alloc: Global, kind: Kind, out: Out) -> Result<Out, AllocError>
     requires { FitsFrame out }
     ensures { IfOk result (λ o. o ≡ framed kind out) }
@@ -99,7 +99,7 @@ fn show_each(
     Ok(())
 }
 
-/// Adds what the fronts send for these effects, in order. Numbers are given out to what tells of a grant.
+/// Adds what the fronts send for these effects, in order. Numbers are given out to what sends a grant.
 #[tactic(auto, using(crate::proofs::ShownLaws::all_leaves))]
 pub(crate) fn show_all(
     alloc: Global,

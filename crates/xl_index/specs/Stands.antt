@@ -43,19 +43,19 @@ abbrev pub owned_here : Stand → ℕ → Owner → ℕ
 owned_here at file (owners.Open number) = one (is_here at (who_opens number) file)
 owned_here at file (owners.Name protocol number) = 0
 
--- how often a claim is told at a stand: for its party, and for the SMB open that owns it
+-- how often a claim is counted at a stand: for its party, and for the SMB open that owns it
 abbrev pub bears : Stand → Claim → ℕ
 bears at c = one (is_here at (who_of c.party) c.file) + owned_here at c.file c.owner
 
--- how many are told there, by a map
+-- how many are counted there, by a map
 abbrev pub many_at : BTreeMap Stand ℕ → Stand → ℕ
 many_at stands at = unwrap_or (get stand_cmp stands at) 0
 
--- no stand is kept at which none is told (TABLE-14)
+-- no stand is kept at which none is counted (TABLE-14)
 abbrev pub AreTold : BTreeMap Stand ℕ → Type 0
 AreTold stands = (at : Stand) → get stand_cmp stands at ≢ Some 0
 
--- so many more are told now at one stand, and at each other as many as before
+-- so many more are counted now at one stand, and at each other as many as before
 abbrev pub ComesOne : BTreeMap Stand ℕ → BTreeMap Stand ℕ → ℕ → ℕ → Type 0
 ComesOne old new who file = (at : Stand) → many_at new at ≡ one (is_here at who file) + many_at old at
 

@@ -2,7 +2,7 @@
 use Rattle.std.specs.Prelude.{◌≡◌, ℕ, ◌+◌, Bool, true, false, List, [], ◌∷◌}
 use Rattle.xl_matrix.specs.declared.claim.Claim.{Claim}
 
--- 1 where a test passes
+-- 1 if a test passes
 abbrev pub one : Bool → ℕ
 one true = 1
 one false = 0

@@ -74,7 +74,7 @@ impl Index {
         self.count -= 1;
     }
 
-    /// Something else is claimed by one of the claims, where it stands. It takes no memory.
+    /// Something else is claimed by one of the claims, if it stands. It takes no memory.
     #[tactic(auto, using(crate::proofs::IndexLaws::rises, crate::proofs::IndexLaws::some_run, crate::proofs::IndexLaws::room_again, crate::proofs::IndexLaws::index_recast))]
     pub fn recast(&mut self, claim: &Claim, to: What)
         requires index { Has self.old (claim.now ∷ []) }

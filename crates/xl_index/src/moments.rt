@@ -73,7 +73,7 @@ fn take_one(moments: &mut Vec<u64>, moment: u64)
     take_at(moments, place);
 }
 
-/// Enters the deadline of what is claimed, where it is a cache whose break runs. The list has room for it.
+/// Enters the deadline of what is claimed, if it is a cache whose break runs. The list has room for it.
 pub(crate) fn enter_moment(moments: &mut Vec<u64>, what: What)
     requires rising { AreRising moments.old.items }
     requires room { length moments.old.items < vec_capacity moments.old }

@@ -116,7 +116,7 @@ fn go_one(stands: &mut Stands, who: u64, file: u32)
     }
 }
 
-/// One claim more at the stand of the SMB open that owns it, where one does. After an error all is as it was.
+/// One claim more at the stand of the SMB open that owns it, if one does. After an error all is as it was.
 #[tactic(auto, using(crate::proofs::StandLaws::none_owned))]
 fn come_owned(stands: &mut Stands, owner: Owner, file: u32) -> Result<(), AllocError>
     requires few { (at : Stand) → many_at stands.old at ≤ 1048576 }
@@ -131,7 +131,7 @@ fn come_owned(stands: &mut Stands, owner: Owner, file: u32) -> Result<(), AllocE
     }
 }
 
-/// One claim fewer at the stand of the SMB open that owned it, where one did.
+/// One claim fewer at the stand of the SMB open that owned it, if one did.
 #[tactic(auto, using(crate::proofs::StandLaws::none_owned))]
 fn go_owned(stands: &mut Stands, owner: Owner, file: u32)
     requires some { (at : Stand) → owned_here at file owner ≤ many_at stands.old at }

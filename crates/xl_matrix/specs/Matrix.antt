@@ -49,7 +49,7 @@ fit_by a b (Cache kind running) (Cache other due) = not (same_parties a.party b.
 unfoldable pub compat : Claim → Claim → Bool
 compat a b = not (a.file == b.file) || fit_by a b a.what b.what
 
--- the mode in which a claim locks the byte, true for exclusive; None where it is no range or has not that byte
+-- the mode in which a claim locks the byte, true for exclusive; None if it is no range or has not that byte
 abbrev pub lock_by : What → ℕ → Option Bool
 lock_by (Range extent exclusive) byte = if has_byte extent byte then Some exclusive else None
 lock_by _ byte = None

@@ -40,10 +40,10 @@ pub enum CacheKind {
     WriteDeleg,
 }
 
-/// A break of a cache that was told to its party and is not yet answered.
+/// A break of a cache that was sent to its party and is not yet answered.
 #[derive(Clone, Copy)]
 pub struct Break {
-    /// What the cache is to become; None where it is to end.
+    /// What the cache is to become; None if it is to end.
     pub target: Option<CacheKind>,
     /// When an answer is due, in milliseconds of the machine's clock.
     pub deadline: Moment,
@@ -54,7 +54,7 @@ pub struct Break {
 pub enum What {
     /// The file is open: with this access, which denies that to other opens (MS-SMB2 2.2.13, RFC 7530 9.9).
     Share(Rwd, Rwd),
-    /// A byte range is locked; exclusively where the flag is true.
+    /// A byte range is locked; exclusively if the flag is true.
     Range(Extent, bool),
     /// The party caches the file, and while a break runs its target and deadline.
     Cache(CacheKind, Option<Break>),

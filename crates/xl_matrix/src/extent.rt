@@ -24,7 +24,7 @@ fn lies_round(extent: Extent, offset: u64) -> bool
     }
 }
 
-/// Whether two ranges meet: where they have a common byte (RFC 7530 16.10), or, where both are SMB ranges, where one
+/// Whether two ranges meet: if they have a common byte (RFC 7530 16.10), or, if both are SMB ranges, if one
 /// is empty and the other has both the byte before its offset and the byte at it. At offset 0 an empty range meets
 /// none, and two empty ranges never meet.
 pub fn meet(smb: bool, a: Extent, b: Extent) -> bool

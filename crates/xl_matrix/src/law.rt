@@ -14,8 +14,8 @@ pub fn has_no_sides()
     ensures { (a b : Claim) → compat a b ≡ compat b a }
 {}
 
-/// Ranges meet by their bytes. Two ranges with bytes meet exactly where a byte is in both; an empty range meets another
-/// SMB range exactly where both the byte before its offset and the byte at it are in that; and no other range.
+/// Ranges meet by their bytes. Two ranges with bytes meet exactly if a byte is in both; an empty range meets another
+/// SMB range exactly if both the byte before its offset and the byte at it are in that; and no other range.
 pub fn meets_by_bytes()
     ensures bytes { (smb : Bool) (first last start end : ℕ) → (meeting smb (Extent.Bytes first last) (Extent.Bytes start end) ≡ true) ↔ ((byte : ℕ) × (has_byte (Extent.Bytes first last) byte ≡ true) × (has_byte (Extent.Bytes start end) byte ≡ true)) }
     ensures empty { (extent : Extent) (offset : ℕ) → (meeting true extent (Extent.Empty offset) ≡ true) ↔ ((0 < offset) × (has_byte extent (offset - 1) ≡ true) × (has_byte extent offset ≡ true)) }
@@ -23,7 +23,7 @@ pub fn meets_by_bytes()
     ensures sides { (smb : Bool) (a b : Extent) → meeting smb a b ≡ meeting smb b a }
 {}
 
-/// On one file two ranges, one of them of an NLM or NFSv4 owner, are compatible exactly where on each byte what both
+/// On one file two ranges, one of them of an NLM or NFSv4 owner, are compatible exactly if on each byte what both
 /// do to it may stand together.
 pub fn compatible_by_bytes()
     ensures { (a b : Claim) (extent place : Extent) (exclusive alone : Bool) → a.what ≡ What.Range extent exclusive → b.what ≡ What.Range place alone → a.file ≡ b.file → posix a.owner ≡ true → (compat a b ≡ true) ↔ ((byte : ℕ) → locks_agree a.owner (lock_on a byte) b.owner (lock_on b byte) ≡ true) }

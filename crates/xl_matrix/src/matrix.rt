@@ -32,7 +32,7 @@ pub fn has_handle(kind: CacheKind) -> bool
 
 /// Whether a cache of this kind stands against a share of another party, with this access and deny. R and RH stand
 /// against none; a read delegation against one that may write or denies reading (RFC 7530 10.4); a kind that may
-/// write against each share but one that has no access and denies nothing.
+/// write against each share except one that has no access and denies nothing.
 pub fn guards(kind: CacheKind, access: Rwd, deny: Rwd) -> bool
     ensures { result ≡ guarding kind access deny }
 {
@@ -105,7 +105,7 @@ fn do_fit(a: &Claim, b: &Claim) -> bool
 
 /// Whether two claims may be held together. Claims on two files always may. On one file:
 ///
-/// | pair | where |
+/// | pair | if |
 /// |---|---|
 /// | two shares | neither's access meets what the other denies |
 /// | ranges of two owners | they do not meet, or both are shared |

@@ -4,14 +4,14 @@ ghost use Rattle.xl_matrix.specs.Rights.{implies, common, empty, rights_lie_with
 
 use crate::claim::Rwd;
 
-/// Whether a right stands in both.
+/// Whether a right is in both.
 pub fn has_common(p: Rwd, q: Rwd) -> bool
     ensures { result ≡ common p q }
 {
     (p.r && q.r) || (p.w && q.w) || (p.d && q.d)
 }
 
-/// Whether no right stands in it.
+/// Whether no right is in it.
 pub fn is_none(p: Rwd) -> bool
     ensures { result ≡ empty p }
 {
@@ -25,7 +25,7 @@ pub(crate) fn follows(p: bool, q: bool) -> bool
     !p || q
 }
 
-/// Whether each right of the first stands in the second.
+/// Whether each right of the first is in the second.
 pub fn rights_within(p: Rwd, q: Rwd) -> bool
     ensures { result ≡ rights_lie_within p q }
 {

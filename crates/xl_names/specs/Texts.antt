@@ -41,7 +41,7 @@ abbrev pub text_at : Option Name → List ℕ
 text_at None = []
 text_at (Some name) = name_text name
 
--- the text of an owner or a party, where these are the names
+-- the text of an owner or a party, if these are the names
 abbrev pub owner_text : List Name → Owner → List ℕ
 owner_text names (owner.Name protocol number) = text_at (slice_get names number)
 owner_text names (owner.Open number) = open_text number

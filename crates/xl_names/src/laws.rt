@@ -10,13 +10,13 @@ pub fn same_names_are_equal()
     ensures { (a b : Name) → (same_name a b ≡ true) ↔ (a ≡ b) }
 {}
 
-/// Two names have one number exactly where they are equal.
+/// Two names have one number exactly if they are equal.
 #[tactic(auto, using(crate::proofs::NameLaws::one_number))]
 pub fn equal_names_have_one_number()
     ensures { (names : List Name) (a b : Name) (id : ℕ) → number_of a names ≡ Some id → (number_of b names ≡ Some id) ↔ (b ≡ a) }
 {}
 
-/// A name stands at its number, and of distinct names each has its place for a number.
+/// A name is at its number, and of distinct names each has its place for a number.
 #[tactic(auto, using(crate::proofs::NameLaws::number_place))]
 pub fn numbers_are_places()
     ensures { (names : List Name) (name : Name) (id : ℕ) → AreDistinct names → (number_of name names ≡ Some id) ↔ (slice_get names id ≡ Some name) }
@@ -28,14 +28,14 @@ pub fn entered_names_have_numbers()
     ensures { (names : List Name) (name : Name) → number_of name (entered name names) ≡ Some (place_of name names) }
 {}
 
-/// Where a name comes all names before it keep their numbers, and they stay distinct.
+/// If a name comes all names before it keep their numbers, and they stay distinct.
 #[tactic(auto, using(crate::proofs::NameLaws::number_stays, crate::proofs::NameLaws::distinct_entered))]
 pub fn numbers_stay()
     ensures numbers { (names : List Name) (name other : Name) (id : ℕ) → number_of other names ≡ Some id → number_of other (entered name names) ≡ Some id }
     ensures distinct { (names : List Name) (name : Name) → AreDistinct names → AreDistinct (entered name names) }
 {}
 
-/// Equal texts are of equal names, where one names an owner of NFSv4 ranges and one an owner of NFSv4 shares up to that;
+/// Equal texts are of equal names, if one names an owner of NFSv4 ranges and one an owner of NFSv4 shares up to that;
 /// and no name has the text of an SMB open, nor have two opens one text.
 #[tactic(auto, using(crate::proofs::TextLaws::equal_texts, crate::proofs::TextLaws::no_open, crate::proofs::TextLaws::equal_opens))]
 pub fn equal_texts_are_of_equal_names()

@@ -86,7 +86,7 @@ impl Names {
         self.set.is_empty()
     }
 
-    /// The number of the name, or None where it isn't kept; it takes no memory.
+    /// The number of the name, or None if it isn't kept; it takes no memory.
     pub fn find(&self, name: &Name) -> Option<u32>
         ensures { result ≡ number_of name.now self.now }
     {
@@ -111,7 +111,7 @@ impl Names {
         self.set.as_slice()
     }
 
-    /// The number of the name, which comes behind those before it where it is new. After an error nothing changed.
+    /// The number of the name, which comes behind those before it if it is new. After an error nothing changed.
     pub fn intern(&mut self, name: &Name) -> Result<u32, NameErr>
         ensures names { OnOk result (self.new ≡ entered name.now self.old) }
         ensures number { IfOk result (λ id. id ≡ place_of name.now self.old) }
@@ -127,7 +127,7 @@ impl Names {
 
 ghost use Rattle.xl_names.specs.Names.{number_of, place_of, is_kept, entered, AreDistinct, most_names};
 
-/// The number of the name among these, or None where it isn't one of them.
+/// The number of the name among these, or None if it isn't one of them.
 fn number_in(set: &IndexSet<Name>, name: &Name) -> Option<u32>
     requires { length set.now.keys ≤ most_names }
     ensures value { result ≡ number_of name.now set.now.keys }
@@ -138,7 +138,7 @@ fn number_in(set: &IndexSet<Name>, name: &Name) -> Option<u32>
     Some(number as u32)
 }
 
-/// The number of the name, which comes behind those before it where it is new.
+/// The number of the name, which comes behind those before it if it is new.
 fn enter(set: &mut IndexSet<Name>, alloc: Global, name: &Name) -> Result<u32, NameErr>
     requires distinct { AreDistinct set.old.keys }
     requires most { length set.old.keys ≤ most_names }

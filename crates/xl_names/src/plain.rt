@@ -13,14 +13,14 @@ fn same_name(a: &Name, b: &Name) -> bool
     *a == *b
 }
 
-/// The number of a name among these, or None where it isn't one of them.
+/// The number of a name among these, or None if it isn't one of them.
 pub fn number_of(name: &Name, names: &[Name]) -> Option<usize>
     ensures { result ≡ number_of name.now names.now }
 {
     names.iter().position(|kept| same_name(name, kept))
 }
 
-/// Puts a name behind these where it isn't one of them.
+/// Puts a name behind these if it isn't one of them.
 #[tactic(auto, using(crate::proofs::NameLaws::new_from_none, crate::proofs::NameLaws::kept_from_number))]
 pub fn enter(alloc: Global, names: &mut Vec<Name>, name: &Name) -> Result<(), AllocError>
     ensures { OnOk result (names.new.items ≡ entered name.now names.old.items) }

@@ -1,4 +1,4 @@
-//! The texts of owners and parties. Where memory runs out, a text to which one was to be added may hold a beginning of it.
+//! The texts of owners and parties. If memory runs out, a text to which one was to be added may hold a beginning of it.
 ghost use Rattle.std.specs.Prelude.{◌≡◌, ◌++◌, codes, slice_get, OnOk, IfOk, string_bytes};
 ghost use Rattle.std.specs.Fmt.{decimal, signed_decimal};
 ghost use Rattle.xl_names.specs.Texts.{hex_word, tagged, tagged_two, name_text, open_text, text_at, owner_text, party_text};
@@ -47,9 +47,9 @@ fn put_tagged_two(
     Ok(())
 }
 
-/// Adds the text of a name: `nlm:CALLER/SVID/OH` of the owner of NLM ranges, `nlm:CALLER/OH` of shares, `nlm:CALLER` of a
-/// client; `nfs:CLIENT/OWNER` of an NFSv4 owner, `nfs:CLIENT` of a client; `smb:GUID/KEY` of a lease. SVID is decimal, with
-/// a minus sign where it is negative; the other words are lower case hex, or a dash where there are no bytes.
+/// Adds the text of a name: `nlm:CALLER/SVID/OH` of the owner of NLM ranges, `nlm:CALLER/OH` of shares, `nlm:CALLER` of
+/// a client; `nfs:CLIENT/OWNER` of an NFSv4 owner, `nfs:CLIENT` of a client; `smb:GUID/KEY` of a lease. SVID is
+/// decimal, with a minus sign if it is negative; the other words are lower case hex, or a dash if there are no bytes.
 #[tactic(auto, unfolding(crate::specs::Texts::name_text))]
 pub fn put_name(alloc: Global, text: &mut String, name: &Name) -> Result<(), AllocError>
     ensures { OnOk result (string_bytes text.new ≡ string_bytes text.old ++ name_text name.now) }
@@ -90,7 +90,7 @@ pub fn put_open(text: &mut String, number: u32) -> Result<(), AllocError>
     Ok(())
 }
 
-/// Adds the text of the name of this number, where it is kept.
+/// Adds the text of the name of this number, if it is kept.
 fn put_kept(alloc: Global, text: &mut String, names: &Names, number: u32) -> Result<(), AllocError>
     ensures { OnOk result (string_bytes text.new ≡ string_bytes text.old ++ text_at (slice_get names.now number)) }
 {

@@ -38,7 +38,7 @@ abbrev pub outcome_status : {A : Type 0} → Result A NfsStatus → NfsStatus
 outcome_status (Ok x) = statuses.Ok
 outcome_status (Err s) = s
 
--- what follows a status: the body where it is OK, nothing else
+-- what follows a status: the body if it is OK, nothing else
 abbrev pub outcomes : {A : Type 0} → Format A RpcBad → Cases NfsStatus (Result A NfsStatus) RpcBad
 outcomes f = when is_ok statuses.Ok ok_is Ok f (others (λ s. just (Err s)))
 
@@ -51,13 +51,13 @@ pub outcome_made : {A : Type 0} (f : Format A RpcBad) (x : Result A NfsStatus) �
 outcome_made f (Ok x) = (refl, λ _ _. refl)
 outcome_made f (Err s) = (refl, λ fit bytes. read_unlisted (outcomes f) s fit bytes)
 
--- nfsstat4, and the body where it is OK
+-- nfsstat4, and the body if it is OK
 unfoldable pub outcome : {A : Type 0} → Format A RpcBad → Format (Result A NfsStatus) RpcBad
 outcome {A} f = tagged status (outcomes f) (outcome_case f)
     (λ _. refl, (λ s failed x same. subst (λ (y : Result A NfsStatus). (spelled (outcome_case f y) ≡ nothing.spell tt) × (((outcome_case f y).key ≡ s) × (outcome_case f y).Fit)) same (refl, (refl, failed)), tt))
     (outcome_made f)
 
--- ---- LOCK4res, LOCKT4res: the lock that stands against it is told behind the status Denied
+-- ---- LOCK4res, LOCKT4res: the lock that stands against it is given behind the status Denied
 
 pub data LockFaultItem : Type 0 where
   DeniedBy : DeniedItem → LockFaultItem
@@ -76,7 +76,7 @@ lock_outcome_status (Ok x) = statuses.Ok
 lock_outcome_status (Err (DeniedBy x)) = statuses.Denied
 lock_outcome_status (Err (OtherFault s)) = s
 
--- the same of a lock, with who holds it where it is denied
+-- the same of a lock, with who holds it if it is denied
 abbrev pub lock_outcomes : {A : Type 0} → Format A RpcBad → Cases NfsStatus (Result A LockFaultItem) RpcBad
 lock_outcomes f = when is_ok statuses.Ok ok_is Ok f (when is_denied statuses.Denied denied_is (λ x. Err (DeniedBy x)) denied (others (λ s. just (Err (OtherFault s)))))
 

@@ -104,7 +104,7 @@ pub(crate) fn put_handle(out: &mut XdrOut, value: &[u8]) -> Result<(), AllocErro
     out.opaque(value)
 }
 
-/// Eight bytes as they stand.
+/// Eight bytes as they are.
 #[tactic(auto, using(xl_rpc::proofs::XdrLaws::fixed_length))]
 pub(crate) fn read_verifier(xdr: &mut Xdr) -> Result<[u8; 8], RpcBad>
     ensures { Advances (λ v. v) result xdr.old.rest.now xdr.new.rest.now (verifier.at xdr.old.rest.now) }
@@ -121,7 +121,7 @@ fn eight(bytes: &[u8]) -> [u8; 8]
     *front
 }
 
-/// Twelve bytes as they stand.
+/// Twelve bytes as they are.
 #[tactic(auto, using(xl_rpc::proofs::XdrLaws::fixed_length))]
 fn read_other(xdr: &mut Xdr) -> Result<[u8; 12], RpcBad>
     ensures { Advances (λ v. v) result xdr.old.rest.now xdr.new.rest.now ((bytes 12).at xdr.old.rest.now) }

@@ -27,7 +27,7 @@ pub struct RecallReply<'a> {
     pub status: NfsStatus,
     /// The call's tag, at most 1,024 bytes.
     pub tag: &'a [u8],
-    /// How the one operation ended; None where it was not begun.
+    /// How the one operation ended; None if it was not begun.
     pub results: Option<RecallResult>,
 }
 
@@ -66,10 +66,10 @@ fn read_whole<'a>(xdr: &mut Xdr<'a>) -> Result<RecallReply<'a>, RpcBad>
     read_record!(xdr; RecallReply { status: read_status, tag: read_text, results: read_results })
 }
 
-/// A client's reply to the call that asks it for a delegation, read from the front; what stands behind it is left. A fault
-/// is the first in reading order: Short where the bytes end within it, TooLong where the tag has more than 1,024 bytes,
-/// Pad where its padding is not zero, Value where a status or the result's operation is none of its list, or where there
-/// is more than one result. It leaves the reader as it was.
+/// A client's reply to the call that asks it for a delegation, read from the front; what stands behind it is left. A
+/// fault is the first in reading order: Short if the bytes end within it, TooLong if the tag has more than 1,024 bytes,
+/// Pad if its padding is not zero, Value if a status or the result's operation is none of its list, or if there is more
+/// than one result. It leaves the reader as it was.
 pub fn read_recall_reply<'a>(body: &mut Xdr<'a>) -> Result<RecallReply<'a>, RpcBad>
     // What is read is spelled so.
     ensures found { IfOk result (λ r. (body.old.rest.now ≡ recall_reply.spell (shown_recall_reply r) ++ body.new.rest.now) × recall_reply.Fit (shown_recall_reply r)) }

@@ -15,7 +15,7 @@ pub struct SetClientIdArgs<'a> {
     pub verifier: [u8; 8],
     /// How the client names itself, at most 1,024 bytes.
     pub id: &'a [u8],
-    /// The program that the server calls; 0 where it calls none.
+    /// The program that the server calls; 0 if it calls none.
     pub program: u32,
     /// The transport of its address (RFC 5665), at most 64 bytes.
     pub netid: &'a [u8],

@@ -26,7 +26,7 @@ fn read_compound_head<'a>(xdr: &mut Xdr<'a>) -> Result<CompoundHead<'a>, RpcBad>
 }
 
 /// The head of a COMPOUND's arguments, read from the front; the operations behind it are left. A fault is the first in
-/// reading order: Short where the bytes end within it, TooLong where the tag has more than 1,024 bytes, Pad where its
+/// reading order: Short if the bytes end within it, TooLong if the tag has more than 1,024 bytes, Pad if its
 /// padding is not zero. It leaves the reader as it was.
 pub fn read_head<'a>(args: &mut Xdr<'a>) -> Result<CompoundHead<'a>, RpcBad>
     // What is read is spelled so.

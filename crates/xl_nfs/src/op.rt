@@ -143,10 +143,10 @@ fn read_op<'a>(xdr: &mut Xdr<'a>) -> Result<NfsOp<'a>, RpcBad>
     Ok(op)
 }
 
-/// One operation, read from the front; what stands behind it is left. Of an operation that is not served, and of a number
-/// of none, the number alone is read. A fault is the first in reading order: Short where the bytes end within the
-/// operation, Pad and Bool as in XDR, TooLong where a text, a handle or an address passes its bound, Value where a lock
-/// type, an open's form, its claim or a delegation's type is none of its list. It leaves the reader as it was.
+/// One operation, read from the front; what stands behind it is left. Of an operation that is not served, and of a
+/// number of none, the number alone is read. A fault is the first in reading order: Short if the bytes end within the
+/// operation, Pad and Bool as in XDR, TooLong if a text, a handle or an address passes its bound, Value if a lock type,
+/// an open's form, its claim or a delegation's type is none of its list. It leaves the reader as it was.
 pub fn next_op<'a>(args: &mut Xdr<'a>) -> Result<NfsOp<'a>, RpcBad>
     // What is read is spelled so.
     ensures found { IfOk result (λ o. (args.old.rest.now ≡ op.spell (shown_op o) ++ args.new.rest.now) × OpFits (shown_op o)) }

@@ -76,7 +76,7 @@ pub struct OpenResult<'a> {
     pub stateid: Stateid,
     /// How the directory changed.
     pub change: ChangeInfo,
-    /// 2 where the owner is to be confirmed (OPEN4_RESULT_CONFIRM).
+    /// 2 if the owner is to be confirmed (OPEN4_RESULT_CONFIRM).
     pub flags: u32,
     /// Which of the attributes were set.
     pub attributes: Bitmap<'a>,

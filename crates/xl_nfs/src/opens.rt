@@ -58,7 +58,7 @@ pub enum CreateHow<'a> {
     Unchecked(Attributes<'a>),
     /// A file that is there is an error (GUARDED4).
     Guarded(Attributes<'a>),
-    /// A file that is there is opened where it was made with this verifier (EXCLUSIVE4).
+    /// A file that is there is opened if it was made with this verifier (EXCLUSIVE4).
     Exclusive([u8; 8]),
 }
 

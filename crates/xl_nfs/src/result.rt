@@ -21,7 +21,7 @@ use std::alloc::AllocError;
 use xl_format::put_nothing;
 use xl_rpc::{RpcBad, Xdr, XdrOut, put_whole};
 
-/// The result of an operation: how it ended, and where it was done, or a LOCK or a LOCKT was denied, what it has to tell
+/// The result of an operation: how it ended, and if it was done, or a LOCK or a LOCKT was denied, what it has to give
 /// (nfs_resop4).
 #[derive(Clone, Copy)]
 pub enum NfsResult<'a> {
@@ -183,8 +183,8 @@ fn read_whole<'a>(xdr: &mut Xdr<'a>) -> Result<NfsResult<'a>, RpcBad>
 }
 
 /// The result of one operation, read from the front; what stands behind it is left. A fault is the first in reading
-/// order: Short where the bytes end within the result, Pad and Bool as in XDR, TooLong where a handle or an owner passes
-/// its bound, Value where the operation, its status or a number behind it is none of its list. It leaves the reader as it
+/// order: Short if the bytes end within the result, Pad and Bool as in XDR, TooLong if a handle or an owner passes
+/// its bound, Value if the operation, its status or a number behind it is none of its list. It leaves the reader as it
 /// was.
 pub fn read_result<'a>(body: &mut Xdr<'a>) -> Result<NfsResult<'a>, RpcBad>
     // What is read is spelled so.

@@ -1,5 +1,5 @@
--- That a client has a delegation on a file exactly where it has a cache there (RFC 7530 10.4): what the front remembers of each
--- cache that the core holds.
+-- That a client has a delegation on a file exactly if it has a cache there (RFC 7530 10.4): what the front remembers of
+-- each cache that the core holds.
 use Rattle.std.specs.Prelude.{◌≡◌, ◌≤◌, ℕ, Bool, true, not, ◌&&◌, ◌||◌, ◌==◌, bytes_eq, List, Option, Some, None, is_some, option_map, IfSome}
 use Rattle.std.specs.List.{AllByRecursion, find}
 use Rattle.std.specs.Option.{option_and_then}
@@ -39,8 +39,8 @@ delegation_kept l id file = option_and_then (delegation_numbered l.stateids file
 abbrev pub delegation_held : CoreState → List ℕ → ℕ → Option Bool
 delegation_held s id file = delegation_in (cache_held s id file)
 
--- Each client has on each file just the delegation that its cache there is: where it has a cache its record is confirmed and it
--- has a stateid for that, and where it has such a stateid it has the cache, both of one kind.
+-- Each client has on each file just the delegation that its cache there is: if it has a cache its record is confirmed
+-- and it has a stateid for that, and if it has such a stateid it has the cache, both of one kind.
 abbrev pub AreDelegated : CoreState → NfsLists → Type 0
 AreDelegated s l = (id : List ℕ) (file : ℕ) → delegation_held s id file ≡ delegation_kept l id file
 
@@ -54,7 +54,7 @@ clients_apart a b = not (a.confirmed && (b.confirmed && (a.number == b.number ||
 abbrev pub is_one_client : ClientRow → ClientRow → Bool
 is_one_client a b = not (a.number == b.number) || bytes_eq a.id b.id
 
--- the records, where this number was given out last: each has one that was given out
+-- the records, if this number was given out last: each has one that was given out
 pub record AreClients (last : ℕ) (clients : List ClientRow) : Type 0 where
   pub apart : Pairwise clients_apart clients
   pub one : Pairwise is_one_client clients
@@ -72,7 +72,7 @@ pub record IsShut (last : ℕ) (stateids : List StateidRow) (closed : Option ℕ
 abbrev pub AreShut : ℕ → List StateidRow → List OwnerRow → Type 0
 AreShut last stateids owners = AllByRecursion (λ o. IsShut last stateids o.seqids.closed) owners
 
--- what holds of the lists themselves, where this number was given out last
+-- what holds of the lists themselves, if this number was given out last
 pub record AreSet (last : ℕ) (l : NfsLists) : Type 0 where
   pub given : AreGivenOut last l
   pub shut : AreShut last l.stateids l.owners

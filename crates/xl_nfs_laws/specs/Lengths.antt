@@ -8,7 +8,7 @@ use Rattle.xl_nfs_opens.specs.Results.{denied_item, ended_as}
 use Rattle.xl_nfs_opens.specs.declared.told.Told.{Told}
 use Rattle.xl_nfs_opens.specs.declared.told.Told.TheVariants.{Ended, Client, Opened, State, Denied}
 
--- each part of what the operation of this number told has a spelling
+-- each part of what the operation of this number was answered has a spelling
 abbrev pub PartsFit : ℕ → Told → Type 0
 PartsFit number (Ended status) = ResultFits (ended_as number status)
 PartsFit number (Client confirm) = client_confirm.Fit confirm

@@ -71,10 +71,11 @@ AreLocked o file kind first last s t = AreBytes (lock_claim s o file kind first 
 abbrev pub AreFree : Opener → ℕ → ℕ → ℕ → CoreState → CoreState → Type 0
 AreFree o file first last s t = AreBytes (unlock_claim s o file first last) first last (λ _. []) s t
 
--- ---- why a LOCK or a LOCKT is told so
+-- ---- why a LOCK or a LOCKT is answered so
 
--- OK where nothing held stands against the lock and there is room for it, DENIED where something does for good, DELAY where a
--- cache keeps it off, RESOURCE where a limit is passed, and NO_GRACE for a reclaim, which comes too late; nothing else is told
+-- OK if nothing held stands against the lock and there is room for it, DENIED if something does for good, DELAY if a
+-- cache keeps it off, RESOURCE if a limit is passed, and NO_GRACE for a reclaim, which comes too late; nothing else is
+-- answered
 abbrev pub IsLockTold : CoreState → Ask → Claim → NfsStatus → Type 0
 IsLockTold s a claim statuses.Ok = IsClaimDue all_rooms s a claim (answers.Granted claim)
 IsLockTold s a claim statuses.Denied = (c : Claim) × IsClaimDue all_rooms s a claim (answers.Conflict c)
@@ -83,13 +84,13 @@ IsLockTold s a claim statuses.Resource = (limit : ℕ) × IsClaimDue all_rooms s
 IsLockTold s a claim statuses.NoGrace = IsClaimDue all_rooms s a claim (answers.NoGrace s.clock)
 IsLockTold s a claim _ = ⊥
 
--- OK where no range that is held stands against it, and DENIED where one does
+-- OK if no range that is held stands against it, and DENIED if one does
 abbrev pub IsTestTold : CoreState → Ask → Claim → NfsStatus → Type 0
 IsTestTold s a claim statuses.Ok = IsTestDue s a claim (answers.Granted claim)
 IsTestTold s a claim statuses.Denied = (c : Claim) × IsTestDue s a claim (answers.Conflict c)
 IsTestTold s a claim _ = ⊥
 
--- what is told is a claim that is held and stands against the lock: the least of those that do
+-- what is answered is a claim that is held and stands against the lock: the least of those that do
 pub record IsDenial (s : CoreState) (l : NfsLists) (claim : Claim) (held : HeldLock) : Type 0 where
   pub by : Claim
   pub is_held : IsIn by s.claims

@@ -19,7 +19,7 @@ pub record HaveBothCome (b : BothOwners) (o : Opener) (bytes : List ℕ) (old ne
   pub open_kept : find (is_kept b.number) new.kept ≡ Some (record { owner = b.number; result = bytes })
   pub lock_kept : find (is_kept (opener_number o old)) new.kept ≡ Some (record { owner = opener_number o old; result = bytes })
 
--- where it ends so that it counts, it counts with both
+-- if it ends so that it counts, it counts with both
 abbrev pub CountsWithBoth : BothOwners → Opener → NfsLists → Outcome → Type 0
 CountsWithBoth b o l r = advances (status_of r.0) ≡ true → HaveBothCome b o (spelled 12 r.0) l r.3
 

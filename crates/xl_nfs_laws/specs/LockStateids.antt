@@ -34,8 +34,8 @@ pub record IsNextOn (s : CoreState) (l : NfsLists) (current : Option ℕ) (seqid
   pub seqids_is : seqids ≡ row.seqids
   pub seqid_is : seqid ≡ next_seqid row.seqids.seqid
 
--- These bytes are told again. The owner of the open, which stood so before, advances by the LOCK, which is kept for it; the
--- lock owner stands as it did, and the core stays.
+-- These bytes are sent again. The owner of the open, which was so before, advances by the LOCK, which is kept for it;
+-- the lock owner stays as it was, and the core stays.
 pub record HasComeAgain (owner : ℕ) (was : OwnerRow) (o : Opener) (bytes : List ℕ) (l : NfsLists) (s : CoreState) (r : Outcome) : Type 0 where
   pub told : r.0 ≡ Kept bytes
   pub open_owner : HasAdvanced owner was (seqids_after was 12 was.seqids.confirmed None) bytes l r.3

@@ -29,7 +29,7 @@ use Rattle.xl_nfs_opens.specs.declared.opener.Judged.TheVariants as judgements
 use Rattle.xl_nfs_opens.specs.declared.opener.Opener.{Opener}
 use Rattle.xl_nfs_opens.specs.declared.told.Told.TheVariants.{Kept}
 
--- these bytes are told again, and nothing changes: neither what is remembered nor the core
+-- these bytes are sent again, and nothing changes: neither what is remembered nor the core
 abbrev pub IsRepeated : List ℕ → NfsLists → CoreState → Outcome → Type 0
 IsRepeated bytes l s r = (r.0 ≡ Kept bytes) × (r.3 ≡ l) × (r.4 ≡ s)
 
@@ -57,9 +57,9 @@ share_claim s o a file = asked_claim (share_ask None o a file) (whats.Share (rig
 abbrev pub share_way : CoreState → Option Bool → Opener → OpenArgsItem → ℕ → CoreState
 share_way s wish o a file = (way all_rooms s (share_ask wish o a file)).1
 
--- OK where nothing stands against the share and there is room for it, SHARE_DENIED where something does for good, DELAY where
--- a cache keeps it off, RESOURCE where a limit is passed, and NO_GRACE for a reclaim, which comes too late; nothing else is
--- told
+-- OK if nothing stands against the share and there is room for it, SHARE_DENIED if something does for good, DELAY if
+-- a cache keeps it off, RESOURCE if a limit is passed, and NO_GRACE for a reclaim, which comes too late; nothing else
+-- is answered
 abbrev pub IsOpenTold : CoreState → Ask → Claim → NfsStatus → Type 0
 IsOpenTold s a claim statuses.Ok = IsClaimDue all_rooms s a claim (answers.Granted claim)
 IsOpenTold s a claim statuses.ShareDenied = (c : Claim) × IsClaimDue all_rooms s a claim (answers.Conflict c)

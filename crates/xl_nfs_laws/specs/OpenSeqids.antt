@@ -1,4 +1,4 @@
--- What a request of an owner that is known leaves, where it counts and where it doesn't (RFC 7530 9.1.7, 9.1.8).
+-- What a request of an owner that is known leaves, if it counts and if it doesn't (RFC 7530 9.1.7, 9.1.8).
 use Rattle.std.specs.Prelude.{◌≡◌, ℕ, Bool, true, ◌||◌, if◌then◌else◌, List, Option, Some, None}
 use Rattle.std.specs.List.{find}
 use Rattle.xl_nfs.specs.Outcomes.{is_ok}
@@ -14,8 +14,8 @@ use Rattle.xl_nfs_opens.specs.Plans.{Outcome, status_of}
 use Rattle.xl_nfs_opens.specs.Results.{spelled}
 use Rattle.xl_nfs_opens.specs.Seqids.{advances}
 
--- The requests of this owner, which stood so before, have come this far, and these bytes are kept for it. Each other owner stands as
--- it did, and what is kept for it is as it was.
+-- The requests of this owner, which were so before, have come this far, and these bytes are kept for it. Each other
+-- owner stays as it was, and what is kept for it is as it was.
 pub record HasAdvanced (owner : ℕ) (was : OwnerRow) (seqids : SeqidState) (bytes : List ℕ) (old new : NfsLists) : Type 0 where
   pub own : find (is_owner owner) new.owners ≡ Some (with_seqids seqids was)
   pub kept : find (is_kept owner) new.kept ≡ Some (record { owner = owner; result = bytes })
@@ -26,7 +26,7 @@ pub record HasAdvanced (owner : ℕ) (was : OwnerRow) (seqids : SeqidState) (byt
 abbrev pub seqids_after : OwnerRow → ℕ → Bool → Option ℕ → SeqidState
 seqids_after was op confirmed closed = next_seqids op (next_seqid was.seqids.seqid) confirmed closed
 
--- where the operation ends so that it counts, the owner's requests have come this far, and what was told is kept
+-- if the operation ends so that it counts, the owner's requests have come this far, and what was answered is kept
 abbrev pub CountsFor : ℕ → OwnerRow → SeqidState → ℕ → NfsLists → Outcome → Type 0
 CountsFor owner was seqids op l r = advances (status_of r.0) ≡ true → HasAdvanced owner was seqids (spelled op r.0) l r.3
 

@@ -25,7 +25,7 @@ abbrev pub closes : Option ℕ → ℕ → Bool
 closes None number = false
 closes (Some closed) number = closed == number
 
--- The owner is there, is the stateid's client's, and of this kind; and an open is closed exactly where its owner's last
+-- The owner is there, is the stateid's client's, and of this kind; and an open is closed exactly if its owner's last
 -- request closed it.
 abbrev pub IsOwnedBy : StateidRow → OwnerKind → Option OwnerRow → Type 0
 IsOwnedBy r kind None = ⊥
@@ -46,8 +46,8 @@ pub record IsOrderly (l : NfsLists) : Type 0 where
   pub apart : Pairwise are_apart l.stateids
   pub held : AllByRecursion (λ r. IsHeldBy l.owners r r.holder) l.stateids
 
--- what was told names one open from then on: of this owner, on the file that is the current one, with the access and the
--- deny that were asked, and not closed
+-- what was answered names one open from then on: of this owner, on the file that is the current one, with the access
+-- and the deny that were asked, and not closed
 pub record IsKnown (o : Opener) (a : OpenArgsItem) (stateid : Stateid) (done : Outcome) : Type 0 where
   pub row : StateidRow
   pub owner : OwnerRow
@@ -60,8 +60,8 @@ pub record IsKnown (o : Opener) (a : OpenArgsItem) (stateid : Stateid) (done : O
   pub access : rights_lie_within (rights_of a.access) (rights_of row.standing.access) ≡ true
   pub deny : rights_lie_within (rights_of a.deny) (rights_of row.standing.deny) ≡ true
 
--- what was told names the client's delegation on the file that is the current one, for writing or else for reading, and the
--- client has a cache there
+-- what was answered names the client's delegation on the file that is the current one, for writing or else for reading,
+-- and the client has a cache there
 pub record IsDelegated (o : Opener) (given : Stateid) (write : Bool) (done : Outcome) : Type 0 where
   pub row : StateidRow
   pub found : find (is_stateid row.number) done.3.stateids ≡ Some row

@@ -20,7 +20,7 @@ use Rattle.xl_front_nfs.specs.Steps.{Step, Runs, Course, begun, step_plan, goes_
 
 -- ---- whose leases are renewed
 
--- the first record, where there is one, else the second
+-- the first record, if there is one, else the second
 abbrev pub else_row : Option ClientRow → Option ClientRow → Option ClientRow
 else_row None held = held
 else_row (Some r) held = Some r
@@ -37,14 +37,14 @@ IsToRenew s l op id = Names s l op id
 
 -- ---- whose deeds they are
 
--- an operation's deeds are of the clients that it names, and they renew those that it renews; where its arguments can't be read
--- it has none
+-- an operation's deeds are of the clients that it names, and they renew those that it renews; if its arguments can't be
+-- read it has none
 abbrev pub IsTheirs : List (List ℕ) → ℕ → ℕ → Course → CoreState → NfsLists → Step → Type 0
 IsTheirs files others n c s l (Runs op) =
     AreBy n s (Names s l op) (deeds_of n s (step_plan files others c s l (Runs op))) × ((id : List ℕ) → IsToRenew s l op id → IsIn (Renews id) (deeds_of n s (step_plan files others c s l (Runs op))))
 IsTheirs files others n c s l step = deeds_of n s (step_plan files others c s l step) ≡ []
 
--- where others are run behind it
+-- if others are run behind it
 abbrev pub IfMore : Bool → Type 0 → Type 0
 IfMore true Rest = Rest
 IfMore false Rest = Unit {0}

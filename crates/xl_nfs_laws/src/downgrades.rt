@@ -23,8 +23,9 @@ ghost use Rattle.xl_nfs_opens.specs.Opens.{rights_of, share_held};
 ghost use Rattle.xl_nfs_opens.specs.Plans.{carried};
 ghost use Rattle.xl_nfs_opens.specs.declared.opener.Opener.{Opener as OpenOwner};
 
-/// An OPEN_DOWNGRADE that is done leaves its open with just the access and the deny that were asked, and its owner's share on
-/// the file likewise, where that had these (RFC 7530 16.19). What the owner's request before closed is another open.
+/// An OPEN_DOWNGRADE that is done leaves its open with just the access and the deny that were asked, and its owner's
+/// share on the file likewise, if that had these (RFC 7530 16.19). What the owner's request before closed is another
+/// open.
 pub fn downgrades_leave_what_was_asked()
     ensures row { (n : ℕ) (s : CoreState) (l : NfsLists) (current : Option ℕ) (a : OpenDowngradeArgs) (r : StateidRow) (owner by : ℕ) (seqids : OwnerSeqids) → find (is_stateid r.number) l.stateids ≡ Some r → r.holder ≡ OfOpen by → (seqids.closed ≡ Some r.number → ⊥) → find (is_stateid r.number) (carried n s l (downgrade_done s l current a r owner seqids None)).3.stateids ≡ Some (with_standing (record { seqid = next_seqid r.standing.seqid; access = a.access; deny = a.deny; closed = false }) r) }
     ensures share { (n : ℕ) (s : CoreState) (l : NfsLists) (current : Option ℕ) (a : OpenDowngradeArgs) (r : StateidRow) (owner number : ℕ) (seqids : OwnerSeqids) (o : OpenOwner) (claim : HeldClaim) → IsGood s → opener_by l r.client owner ≡ Some o → number_of (NfsShare o.id o.owner) s.names ≡ Some number → share_held s o r.file ≡ Some claim → share_has claim.what (rights_of a.access) (rights_of a.deny) ≡ true → shares_of r.file (Name Nfs number) (carried n s l (downgrade_done s l current a r owner seqids None)).4.claims ≡ (rights_of a.access, rights_of a.deny) ∷ [] }

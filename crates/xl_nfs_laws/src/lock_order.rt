@@ -14,8 +14,8 @@ ghost use Rattle.xl_nfs_laws.specs.Delegated.{AreTied};
 ghost use Rattle.xl_nfs_laws.specs.Orderly.{IsOrderly};
 ghost use Rattle.xl_nfs_opens.specs.Plans.{carried};
 
-/// Each stateid has a number and a place of its own, and an owner of its client and kind; and one is closed exactly where its
-/// owner's last request closed it (RFC 7530 9.1.4, 9.1.8). So it stays whatever an operation on locks comes to.
+/// Each stateid has a number and a place of its own, and an owner of its client and kind; and one is closed exactly if
+/// its owner's last request closed it (RFC 7530 9.1.4, 9.1.8). So it stays whatever an operation on locks comes to.
 pub fn stateids_stay_orderly()
     ensures locks { (n : ℕ) (s : CoreState) (l : NfsLists) (current : Option ℕ) (a : LockArgsItem) → IsOrderly l → IsOrderly (carried n s l (lock s l current a)).3 }
     ensures tests { (n : ℕ) (s : CoreState) (l : NfsLists) (current : Option ℕ) (a : LockTestArgsItem) → IsOrderly l → IsOrderly (carried n s l (lock_test s l current a)).3 }
@@ -23,8 +23,8 @@ pub fn stateids_stay_orderly()
     ensures releases { (n : ℕ) (s : CoreState) (l : NfsLists) (current : Option ℕ) (a : OwnerItem) → IsOrderly l → IsOrderly (carried n s l (release s l current a)).3 }
 {}
 
-/// Each client has a delegation on a file exactly where it has a cache there, both of one kind (RFC 7530 10.4). So it stays
-/// whatever an operation on locks comes to.
+/// Each client has a delegation on a file exactly if it has a cache there, both of one kind (RFC 7530 10.4). So it
+/// stays whatever an operation on locks comes to.
 pub fn delegations_stay_caches()
     ensures locks { (n : ℕ) (s : CoreState) (l : NfsLists) (current : Option ℕ) (a : LockArgsItem) → IsGood s → AreTied s l → AreTied (carried n s l (lock s l current a)).4 (carried n s l (lock s l current a)).3 }
     ensures tests { (n : ℕ) (s : CoreState) (l : NfsLists) (current : Option ℕ) (a : LockTestArgsItem) → IsGood s → AreTied s l → AreTied (carried n s l (lock_test s l current a)).4 (carried n s l (lock_test s l current a)).3 }

@@ -32,9 +32,10 @@ ghost use Rattle.xl_nfs_opens.specs.declared.opener.Checked.TheVariants.{Passed,
 ghost use Rattle.xl_nfs_opens.specs.declared.opener.Opener.{Opener as LockOwner};
 ghost use Rattle.xl_nfs_opens.specs.declared.told.Told.TheVariants.{Ended};
 
-/// A LOCK by a lock's stateid, or a LOCKU, is judged further exactly where its stateid is of this start, of locks that are
-/// there, on the current file, and its seqid is the one after their owner's last. By the seqid and the operation of the last
-/// it is a repeat; by any other it is BAD_SEQID (RFC 7530 9.1.4, 9.1.7, 9.1.8). One that is refused so doesn't count.
+/// A LOCK by a lock's stateid, or a LOCKU, is judged further exactly if its stateid is of this start, of locks that are
+/// there, on the current file, and its seqid is the one after their owner's last. By the seqid and the operation of the
+/// last it is a repeat; by any other it is BAD_SEQID (RFC 7530 9.1.4, 9.1.7, 9.1.8). One that is refused so doesn't
+/// count.
 pub fn known_locks_are_judged()
     ensures exactly { (s : CoreState) (l : NfsLists) (current : Option ℕ) (op seqid : ℕ) (stateid : Stateid) (r : StateidRow) (w : ℕ) (seqids : OwnerSeqids) → (locks_found s l current op seqid stateid ≡ Passed r w seqids) ↔ IsNextOn s l current seqid stateid r w seqids }
     ensures last { (s : CoreState) (l : NfsLists) (op seqid : ℕ) (stateid : Stateid) (r : StateidRow) (w : ℕ) (o : OwnerRow) → IsLocksOf s l stateid r w o → seqid ≡ o.seqids.seqid → op ≡ o.seqids.op → seqid < 2 ^ 32 → locks_found s l (Some r.file) op seqid stateid ≡ Repeated w }
@@ -42,18 +43,18 @@ pub fn known_locks_are_judged()
     ensures refused { (s : CoreState) (l : NfsLists) (current : Option ℕ) (op seqid : ℕ) (stateid : Stateid) (status : Status) → locks_found s l current op seqid stateid ≡ Refused status → advances status ≡ false }
 {}
 
-/// A LOCK or LOCKU of a lock owner that comes again is told the bytes that were kept of it, and nothing changes: neither what
-/// is remembered nor the core, but for the lease that each request renews before (RFC 7530 9.1.8). So is a LOCK under an open
-/// that comes again by the seqid of the open's owner.
+/// A LOCK or LOCKU of a lock owner that comes again is sent the bytes that were kept of it, and nothing changes:
+/// neither what is remembered nor the core, except for the lease that each request renews before (RFC 7530 9.1.8). So
+/// is a LOCK under an open that comes again by the seqid of the open's owner.
 pub fn repeated_locks_change_nothing()
     ensures locks { (n : ℕ) (s : CoreState) (l : NfsLists) (current : Option ℕ) (a : LockArgsItem) (x : Locker) (number : ℕ) (k : KeptRow) → find (is_kept number) l.kept ≡ Some k → IsRepeated k.result l s (carried n s l (lock_found s l current a x (Repeated number))) }
     ensures unlocks { (n : ℕ) (s : CoreState) (l : NfsLists) (current : Option ℕ) (a : Unlocked) (number : ℕ) (k : KeptRow) → find (is_kept number) l.kept ≡ Some k → IsRepeated k.result l s (carried n s l (unlock_found s l current a (Repeated number))) }
     ensures first { (n : ℕ) (s : CoreState) (l : NfsLists) (current : Option ℕ) (a : LockArgsItem) (x : NewLockerItem) (number : ℕ) (k : KeptRow) → find (is_kept number) l.kept ≡ Some k → IsRepeated k.result l s (carried n s l (join_checked s l current a x (Repeated number))) }
 {}
 
-/// A LOCK by a lock's stateid, or a LOCKU, that is judged further, and ends so that it counts, advances its lock owner's seqid
-/// by one, and no other owner's; what it told is kept for its owner, and what is kept for others stays (RFC 7530 9.1.7, 9.1.8).
-/// One that ends so that it doesn't count leaves what is remembered as it was.
+/// A LOCK by a lock's stateid, or a LOCKU, that is judged further, and ends so that it counts, advances its lock
+/// owner's seqid by one, and no other owner's; what it was answered is kept for its owner, and what is kept for others
+/// stays (RFC 7530 9.1.7, 9.1.8). One that ends so that it doesn't count leaves what is remembered as it was.
 pub fn requests_on_locks_advance_by_one()
     ensures locks { (n : ℕ) (s : CoreState) (l : NfsLists) (current : Option ℕ) (a : LockArgsItem) (x : Locker) (r : StateidRow) (owner : ℕ) (seqids : OwnerSeqids) (o : OwnerRow) → IsSound l → locks_found s l current 12 x.seqid x.stateid ≡ Passed r owner seqids → find (is_owner owner) l.owners ≡ Some o → CountsFor owner o (seqids_after o 12 o.seqids.confirmed None) 12 l (carried n s l (lock_found s l current a x (locks_found s l current 12 x.seqid x.stateid))) }
     ensures unlocks { (n : ℕ) (s : CoreState) (l : NfsLists) (current : Option ℕ) (a : Unlocked) (r : StateidRow) (owner : ℕ) (seqids : OwnerSeqids) (o : OwnerRow) → IsSound l → locks_found s l current 14 a.seqid a.stateid ≡ Passed r owner seqids → find (is_owner owner) l.owners ≡ Some o → CountsFor owner o (seqids_after o 14 o.seqids.confirmed None) 14 l (carried n s l (unlock_found s l current a (locks_found s l current 14 a.seqid a.stateid))) }
@@ -61,11 +62,11 @@ pub fn requests_on_locks_advance_by_one()
     ensures unlocks_only { (n : ℕ) (s : CoreState) (l : NfsLists) (current : Option ℕ) (a : Unlocked) → advances (status_of (carried n s l (unlock_found s l current a (locks_found s l current 14 a.seqid a.stateid))).0) ≡ false → (carried n s l (unlock_found s l current a (locks_found s l current 14 a.seqid a.stateid))).3 ≡ l }
 {}
 
-/// A LOCK under an open by the seqid after the last of the open's owner, whose lock owner's seqid and operation are its last,
-/// is told what was kept for the lock owner. The open's owner advances by it, and keeps it too; the lock owner stands as it
-/// did, and no other owner changes, nor does the core (RFC 7530 9.1.7, 9.1.8). One that fails by the open's stateid, or names
-/// another client's lock owner, counts with the open's owner alone; and one that ends so that it doesn't count leaves what is
-/// remembered as it was.
+/// A LOCK under an open by the seqid after the last of the open's owner, whose lock owner's seqid and operation are its
+/// last, is sent what was kept for the lock owner. The open's owner advances by it, and keeps it too; the lock owner
+/// stays as it was, and no other owner changes, nor does the core (RFC 7530 9.1.7, 9.1.8). One that fails by the open's
+/// stateid, or names another client's lock owner, counts with the open's owner alone; and one that ends so that it
+/// doesn't count leaves what is remembered as it was.
 pub fn repeated_first_locks_count_with_the_open()
     ensures last { (l : NfsLists) (r : StateidRow) (o : LockOwner) (w : OwnerRow) (seqid : ℕ) → find (is_opener o) l.owners ≡ Some w → fits_under r.number (live (find (owned_on w.number r.file) l.stateids)) ≡ true → seqid ≡ w.seqids.seqid → w.seqids.op ≡ 12 → seqid < 2 ^ 32 → found_joined l r o seqid ≡ Again w.number }
     ensures again { (n : ℕ) (s : CoreState) (l : NfsLists) (current : Option ℕ) (a : LockArgsItem) (x : NewLockerItem) (r : StateidRow) (owner : ℕ) (seqids : OwnerSeqids) (p : OwnerRow) (o : LockOwner) (number : ℕ) (k : KeptRow) → checked s l current 12 x.open_seqid x.open_stateid ≡ Passed r owner seqids → find (is_owner owner) l.owners ≡ Some p → p.name.kind ≡ OfOpens → standing_fault r seqids x.open_stateid.seqid true ≡ None → locker_under r x.owner.owner (client_in s l x.owner.clientid) ≡ Some o → found_joined l r o x.lock_seqid ≡ Again number → find (is_kept number) l.kept ≡ Some k → HasComeAgain owner p o k.result l s (carried n s l (join_checked s l current a x (checked s l current 12 x.open_seqid x.open_stateid))) }
@@ -74,8 +75,8 @@ pub fn repeated_first_locks_count_with_the_open()
     ensures only { (n : ℕ) (s : CoreState) (l : NfsLists) (current : Option ℕ) (a : LockArgsItem) (x : NewLockerItem) (status : Status) → (carried n s l (join_checked s l current a x (checked s l current 12 x.open_seqid x.open_stateid))).0 ≡ Ended status → advances status ≡ false → (carried n s l (join_checked s l current a x (checked s l current 12 x.open_seqid x.open_stateid))).3 ≡ l }
 {}
 
-/// A LOCK and a LOCKU that are no repeats are never told SERVERFAULT: of each stateid of locks that is there the client and the
-/// owner are there. A repeat is told the bytes that were kept.
+/// A LOCK and a LOCKU that are no repeats are never answered with SERVERFAULT: of each stateid of locks that is there
+/// the client and the owner are there. A repeat is sent the bytes that were kept.
 pub fn server_faults_are_never_told()
     ensures locks { (n : ℕ) (s : CoreState) (l : NfsLists) (current : Option ℕ) (a : LockArgsItem) → IsSound l → (carried n s l (lock s l current a)).0 ≡ Ended ServerFault → ⊥ }
     ensures unlocks { (n : ℕ) (s : CoreState) (l : NfsLists) (current : Option ℕ) (a : Unlocked) → IsGood s → IsSound l → (carried n s l (unlock s l current a)).0 ≡ Ended ServerFault → ⊥ }

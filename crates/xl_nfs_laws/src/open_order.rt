@@ -1,5 +1,5 @@
-//! What holds of owners and stateids at all times, and so of what an OPEN tells. The functions do nothing: each has laws as
-//! its clauses.
+//! What holds of owners and stateids at all times, and so of what an OPEN is answered. The functions do nothing: each
+//! has laws as its clauses.
 ghost use Rattle.std.specs.Prelude.{◌≡◌, ℕ, Bool, true, List, [], Option, Some, None, option_map};
 ghost use Rattle.std.specs.List.{find};
 ghost use Rattle.xl_base.specs.declared.name.Owner.TheVariants.{Name};
@@ -28,9 +28,9 @@ ghost use Rattle.xl_nfs_opens.specs.declared.opener.Checked.TheVariants.{Passed}
 ghost use Rattle.xl_nfs_opens.specs.declared.opener.Opener.{Opener as OpenOwner};
 ghost use Rattle.xl_nfs_opens.specs.declared.told.Told.TheVariants.{Opened};
 
-/// Each stateid has a number and a place of its own, and an owner of its client; and an open is closed exactly where its
-/// owner's last request closed it (RFC 7530 9.1.4, 9.1.8). So it is at a start, and stays whatever an operation on opens
-/// comes to.
+/// Each stateid has a number and a place of its own, and an owner of its client; and an open is closed exactly if its
+/// owner's last request closed it (RFC 7530 9.1.4, 9.1.8). So it is at a start, and stays whatever an operation on
+/// opens comes to.
 pub fn stateids_stay_orderly()
     ensures start { IsOrderly no_lists }
     ensures opens { (n : ℕ) (files : List (List ℕ)) (others : ℕ) (s : CoreState) (l : NfsLists) (current : Option ℕ) (a : OpenArgsItem) → IsOrderly l → IsOrderly (carried n s l (open_file files others s l current a)).3 }
@@ -40,8 +40,8 @@ pub fn stateids_stay_orderly()
     ensures returns { (n : ℕ) (s : CoreState) (l : NfsLists) (current : Option ℕ) (stateid : Stateid) → IsOrderly l → IsOrderly (carried n s l (deleg_return s l current stateid)).3 }
 {}
 
-/// The stateid that an OPEN tells names one open from then on: its owner's, on the file that is the current one then, not
-/// closed, with the access and the deny that were asked (RFC 7530 9.1.4, 16.16).
+/// The stateid that an OPEN is given names one open from then on: its owner's, on the file that is the current one
+/// then, not closed, with the access and the deny that were asked (RFC 7530 9.1.4, 16.16).
 pub fn told_opens_are_known()
     ensures { (n : ℕ) (files : List (List ℕ)) (others : ℕ) (s : CoreState) (l : NfsLists) (current : Option ℕ) (at : ℕ) (c : ClientRow) (a : OpenArgsItem) (stateid : Stateid) (flags : ℕ) (delegation : Option (Stateid × Bool)) → IsOrderly l → client_in s l a.owner.clientid ≡ Some c → (carried n s l (open_judged files others s l current at (opener_of c a) a (judged l (opener_of c a) a.seqid))).0 ≡ Opened stateid flags delegation → IsKnown (opener_of c a) a stateid (carried n s l (open_judged files others s l current at (opener_of c a) a (judged l (opener_of c a) a.seqid))) }
 {}

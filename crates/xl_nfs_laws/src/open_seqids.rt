@@ -18,18 +18,19 @@ ghost use Rattle.xl_nfs_opens.specs.Plans.{carried, status_of};
 ghost use Rattle.xl_nfs_opens.specs.Seqids.{advances};
 ghost use Rattle.xl_nfs_opens.specs.declared.opener.Checked.TheVariants.{Passed, Refused};
 
-/// An OPEN_CONFIRM, OPEN_DOWNGRADE or CLOSE that is judged further, and ends so that it counts, advances its owner's seqid by
-/// one, and no other owner's; what it told is kept for its owner, and what is kept for others stays (RFC 7530 9.1.7, 9.1.8).
-/// One that is OK confirms the owner, where it is an OPEN_CONFIRM, and closes the open, where it is a CLOSE.
+/// An OPEN_CONFIRM, OPEN_DOWNGRADE or CLOSE that is judged further, and ends so that it counts, advances its owner's
+/// seqid by one, and no other owner's; what it was answered is kept for its owner, and what is kept for others stays
+/// (RFC 7530 9.1.7, 9.1.8). One that is OK confirms the owner, if it is an OPEN_CONFIRM, and closes the open, if it is
+/// a CLOSE.
 pub fn requests_on_opens_advance_by_one()
     ensures confirms { (n : ℕ) (s : CoreState) (l : NfsLists) (current : Option ℕ) (a : OpenConfirmArgs) (r : StateidRow) (owner : ℕ) (seqids : OwnerSeqids) (o : OwnerRow) → checked s l current 20 a.seqid a.stateid ≡ Passed r owner seqids → find (is_owner owner) l.owners ≡ Some o → CountsFor owner o (seqids_after o 20 (confirmed_by (status_of (carried n s l (confirm_by s l current a (checked s l current 20 a.seqid a.stateid))).0) o.seqids.confirmed) None) 20 l (carried n s l (confirm_by s l current a (checked s l current 20 a.seqid a.stateid))) }
     ensures downgrades { (n : ℕ) (s : CoreState) (l : NfsLists) (current : Option ℕ) (a : OpenDowngradeArgs) (r : StateidRow) (owner : ℕ) (seqids : OwnerSeqids) (o : OwnerRow) → checked s l current 21 a.seqid a.stateid ≡ Passed r owner seqids → find (is_owner owner) l.owners ≡ Some o → CountsFor owner o (seqids_after o 21 o.seqids.confirmed None) 21 l (carried n s l (downgrade_by s l current a (checked s l current 21 a.seqid a.stateid))) }
     ensures closes { (n : ℕ) (s : CoreState) (l : NfsLists) (current : Option ℕ) (a : CloseArgs) (r : StateidRow) (owner : ℕ) (seqids : OwnerSeqids) (o : OwnerRow) → checked s l current 4 a.seqid a.stateid ≡ Passed r owner seqids → find (is_owner owner) l.owners ≡ Some o → CountsFor owner o (seqids_after o 4 o.seqids.confirmed (closed_by (status_of (carried n s l (close_by s l current a (checked s l current 4 a.seqid a.stateid))).0) r.number)) 4 l (carried n s l (close_by s l current a (checked s l current 4 a.seqid a.stateid))) }
 {}
 
-/// An OPEN_CONFIRM, OPEN_DOWNGRADE or CLOSE that ends so that it doesn't count changes nothing, neither what is remembered nor
-/// the core, but for the lease that it renews before. So ends each that is refused by the check of its stateid and of its
-/// owner's seqid (RFC 7530 9.1.7).
+/// An OPEN_CONFIRM, OPEN_DOWNGRADE or CLOSE that ends so that it doesn't count changes nothing, neither what is
+/// remembered nor the core, except for the lease that it renews before. So ends each that is refused by the check of
+/// its stateid and of its owner's seqid (RFC 7530 9.1.7).
 pub fn requests_that_do_not_count_change_nothing()
     ensures confirms { (n : ℕ) (s : CoreState) (l : NfsLists) (current : Option ℕ) (a : OpenConfirmArgs) → advances (status_of (carried n s l (confirm_by s l current a (checked s l current 20 a.seqid a.stateid))).0) ≡ false → IsAlone l s (carried n s l (confirm_by s l current a (checked s l current 20 a.seqid a.stateid))) }
     ensures downgrades { (n : ℕ) (s : CoreState) (l : NfsLists) (current : Option ℕ) (a : OpenDowngradeArgs) → advances (status_of (carried n s l (downgrade_by s l current a (checked s l current 21 a.seqid a.stateid))).0) ≡ false → IsAlone l s (carried n s l (downgrade_by s l current a (checked s l current 21 a.seqid a.stateid))) }

@@ -38,9 +38,9 @@ ghost use Rattle.xl_core.specs.State.{CoreState};
 ghost use Rattle.xl_nfs_opens.specs.Plans.{carried, status_of};
 ghost use Rattle.xl_nfs_opens.specs.declared.told.Told.TheVariants.{Ended};
 
-/// A request that comes again is told the bytes that were kept of it, and nothing changes: neither what is remembered nor
-/// the core, but for the lease that each request renews before (RFC 7530 9.1.8). The last OPEN of an owner comes again by
-/// its seqid, whatever else it asks.
+/// A request that comes again is sent the bytes that were kept of it, and nothing changes: neither what is remembered
+/// nor the core, except for the lease that each request renews before (RFC 7530 9.1.8). The last OPEN of an owner comes
+/// again by its seqid, whatever else it asks.
 pub fn repeats_change_nothing()
     ensures opens { (n : ℕ) (files : List (List ℕ)) (others : ℕ) (s : CoreState) (l : NfsLists) (current : Option ℕ) (at : ℕ) (o : OpenOwner) (a : OpenArgsItem) (number : ℕ) (k : KeptRow) → find (is_kept number) l.kept ≡ Some k → IsRepeated k.result l s (carried n s l (open_judged files others s l current at o a (Repeats number))) }
     ensures confirms { (n : ℕ) (s : CoreState) (l : NfsLists) (current : Option ℕ) (a : OpenConfirmArgs) (number : ℕ) (k : KeptRow) → find (is_kept number) l.kept ≡ Some k → IsRepeated k.result l s (carried n s l (confirm_by s l current a (Repeated number))) }
@@ -69,15 +69,16 @@ pub fn opens_have_what_was_asked()
     ensures { (had asked : ℕ) → rights_lie_within (rights_of asked) (rights_of (either_bits had asked)) ≡ true }
 {}
 
-/// An OPEN of a confirmed owner that is known is judged further exactly with the seqid after the owner's last; its last OPEN
-/// comes again by its seqid (see `repeats_change_nothing`); any other is told BAD_SEQID, and nothing changes (RFC 7530 9.1.7).
+/// An OPEN of a confirmed owner that is known is judged further exactly with the seqid after the owner's last; its last
+/// OPEN comes again by its seqid (see `repeats_change_nothing`); any other is answered with BAD_SEQID, and nothing
+/// changes (RFC 7530 9.1.7).
 pub fn opens_come_in_order()
     ensures next { (l : NfsLists) (o : OpenOwner) (r : OwnerRow) (seqid : ℕ) → find (is_opener o) l.owners ≡ Some r → r.seqids.confirmed ≡ true → seqid ≡ next_seqid r.seqids.seqid → judged l o seqid ≡ Next }
     ensures others { (n : ℕ) (files : List (List ℕ)) (others : ℕ) (s : CoreState) (l : NfsLists) (current : Option ℕ) (at : ℕ) (o : OpenOwner) (a : OpenArgsItem) (r : OwnerRow) → find (is_opener o) l.owners ≡ Some r → r.seqids.confirmed ≡ true → (a.seqid ≡ next_seqid r.seqids.seqid → ⊥) → (a.seqid ≡ r.seqids.seqid → r.seqids.op ≡ 18 → ⊥) → carried n s l (open_judged files others s l current at o a (judged l o a.seqid)) ≡ (Ended BadSeqid, current, [], l, s) }
 {}
 
 /// A new open is known by its number from then on: of its owner and file, with the access and the deny that were asked,
-/// where it can come (RFC 7530 9.1.4, 16.16).
+/// if it can come (RFC 7530 9.1.4, 16.16).
 pub fn new_opens_are_known()
     ensures { (n : ℕ) (s : CoreState) (l : NfsLists) (current : Option ℕ) (o : OpenOwner) (a : OpenArgsItem) (file : ℕ) (confirmed : Bool) (write : Option Bool) → can_come s l o a file confirmed ≡ true → find (is_stateid (s.counter + 1)) (carried n s l (granted_new s l o a file confirmed write)).3.stateids ≡ Some (record { number = s.counter + 1; client = o.client; file = file; holder = OfOpen (opener_number o l); standing = record { seqid = 1; access = a.access; deny = a.deny; closed = false } }) }
 {}
@@ -88,9 +89,9 @@ pub fn closed_opens_are_marked()
     ensures { (n : ℕ) (s : CoreState) (l : NfsLists) (current : Option ℕ) (a : CloseArgs) (r : StateidRow) (owner by : ℕ) (seqids : OwnerSeqids) → find (is_stateid r.number) l.stateids ≡ Some r → r.holder ≡ OfOpen by → (seqids.closed ≡ Some r.number → ⊥) → option_map (λ (x : StateidRow). x.standing.closed) (find (is_stateid r.number) (carried n s l (close_done s l current a r owner seqids None)).3.stateids) ≡ Some true }
 {}
 
-/// The result of a request that counts is kept for its owner, as it was told, in the place of the one before: of an OPEN, of
-/// a new owner's too where there is room for it, OPEN_CONFIRM, OPEN_DOWNGRADE and CLOSE, whether they were done or refused
-/// (RFC 7530 9.1.8). It is what a repeat is told (see `repeats_change_nothing`).
+/// The result of a request that counts is kept for its owner, as it was sent, in the place of the one before: of an
+/// OPEN, of a new owner's too if there is room for it, OPEN_CONFIRM, OPEN_DOWNGRADE and CLOSE, whether they were done
+/// or refused (RFC 7530 9.1.8). It is what a repeat is sent (see `repeats_change_nothing`).
 pub fn results_are_kept()
     ensures first { (n : ℕ) (s : CoreState) (l : NfsLists) (current : Option ℕ) (o : OpenOwner) (a : OpenArgsItem) (file : ℕ) (confirmed : Bool) (write : Option Bool) → is_room_for o l ≡ true → find (is_kept (opener_number o l)) (carried n s l (granted_new s l o a file confirmed write)).3.kept ≡ Some (record { owner = opener_number o l; result = spelled 18 (carried n s l (granted_new s l o a file confirmed write)).0 }) }
     ensures more { (n : ℕ) (s : CoreState) (l : NfsLists) (current : Option ℕ) (o : OpenOwner) (a : OpenArgsItem) (file : ℕ) (confirmed : Bool) (write : Option Bool) (r : StateidRow) → is_room_for o l ≡ true → find (is_kept (opener_number o l)) (carried n s l (granted_more s l o a file confirmed write r)).3.kept ≡ Some (record { owner = opener_number o l; result = spelled 18 (carried n s l (granted_more s l o a file confirmed write r)).0 }) }
@@ -101,9 +102,10 @@ pub fn results_are_kept()
     ensures fails { (l : NfsLists) (owner : ℕ) (seqids : OwnerSeqids) (op seqid : ℕ) (status : NfsStatus) → advances status ≡ true → is_some (find (is_owner owner) l.owners) ≡ true → find (is_kept owner) (failed_lists l owner seqids op seqid status).kept ≡ Some (record { owner = owner; result = spelled op (Ended status) }) }
 {}
 
-/// OPEN_CONFIRM, OPEN_DOWNGRADE and CLOSE on an open that is there, where its file is the current one: with the seqid after
-/// its owner's last they are judged further, unless it is closed; with the owner's last seqid and operation they are a
-/// repeat, also on one that is closed; any other is told BAD_SEQID on one that isn't closed (RFC 7530 9.1.7, 9.1.8).
+/// OPEN_CONFIRM, OPEN_DOWNGRADE and CLOSE on an open that is there, if its file is the current one: with the seqid
+/// after its owner's last they are judged further, unless it is closed; with the owner's last seqid and operation they
+/// are a repeat, also on one that is closed; any other is answered with BAD_SEQID on one that isn't closed (RFC 7530
+/// 9.1.7, 9.1.8).
 pub fn known_opens_are_judged()
     ensures next { (s : CoreState) (l : NfsLists) (op seqid : ℕ) (stateid : Stateid) (r : StateidRow) (w : ℕ) (o : OwnerRow) → IsOpenOf s l stateid r w o → seqid ≡ next_seqid o.seqids.seqid → r.standing.closed ≡ false → checked s l (Some r.file) op seqid stateid ≡ Passed r w o.seqids }
     ensures last { (s : CoreState) (l : NfsLists) (op seqid : ℕ) (stateid : Stateid) (r : StateidRow) (w : ℕ) (o : OwnerRow) → IsOpenOf s l stateid r w o → seqid ≡ o.seqids.seqid → op ≡ o.seqids.op → seqid < 2 ^ 32 → checked s l (Some r.file) op seqid stateid ≡ Repeated w }
@@ -126,12 +128,13 @@ pub fn opens_again_are_widened()
     ensures { (n : ℕ) (s : CoreState) (l : NfsLists) (current : Option ℕ) (o : OpenOwner) (a : OpenArgsItem) (file : ℕ) (confirmed : Bool) (write : Option Bool) (r : StateidRow) (by : ℕ) → find (is_stateid r.number) l.stateids ≡ Some r → r.holder ≡ OfOpen by → (option_and_then (λ (y : OwnerRow). y.seqids.closed) (find (is_opener o) l.owners) ≡ Some r.number → ⊥) → find (is_stateid r.number) (carried n s l (granted_more s l o a file confirmed write r)).3.stateids ≡ Some (with_standing (record { seqid = next_seqid r.standing.seqid; access = either_bits r.standing.access a.access; deny = either_bits r.standing.deny a.deny; closed = false }) r) }
 {}
 
-/// An OPEN that is judged further is told each status exactly where that has its cause (RFC 7530 9.9, 16.16). What it opens
-/// can't be opened: the first check that fails, and the core stays as it is. There is no room for its owner or for the open:
-/// RESOURCE, and nothing changes. Else the breaks begin of the caches in its way, where nothing stands against its share for
-/// good; and then it is told OK where nothing held stands against its share, SHARE_DENIED where something does for good, DELAY
-/// where a cache keeps it off, RESOURCE where the core has no room, NO_GRACE where it reclaims, and no other. So is that of an
-/// owner that was never confirmed, once the shares of its opens are given back and it is gone.
+/// An OPEN that is judged further is answered with each status exactly if that has its cause (RFC 7530 9.9, 16.16).
+/// What it opens can't be opened: the first check that fails, and the core stays as it is. There is no room for its
+/// owner or for the open: RESOURCE, and nothing changes. Else the breaks of the caches in its way begin, if nothing
+/// stands against its share for good; and then it is answered with OK if nothing held stands against its share,
+/// SHARE_DENIED if something does for good, DELAY if a cache keeps it off, RESOURCE if the core has no room, NO_GRACE
+/// if it reclaims, and no other. So is that of an owner that was never confirmed, once the shares of its opens are
+/// given back and it is gone.
 pub fn open_statuses_have_causes()
     ensures told { (n : ℕ) (files : List (List ℕ)) (others : ℕ) (s : CoreState) (l : NfsLists) (current : Option ℕ) (at : ℕ) (o : OpenOwner) (a : OpenArgsItem) (confirmed : Bool) (file : ℕ) (status : NfsStatus) → goes_on (judged l o a.seqid) ≡ Some confirmed → opened_file files s l o.client at a ≡ Ok file → has_room others l o file ≡ true → (status_of (carried n s l (open_judged files others s l current at o a (judged l o a.seqid))).0 ≡ status) ↔ IsOpenTold (share_way s (wish_of s l o a confirmed file) o a file) (share_ask (wish_of s l o a confirmed file) o a file) (share_claim s o a file) status }
     ensures anew { (n : ℕ) (files : List (List ℕ)) (others : ℕ) (s t : CoreState) (l : NfsLists) (current : Option ℕ) (at : ℕ) (o : OpenOwner) (a : OpenArgsItem) (number file : ℕ) (status : NfsStatus) → judged l o a.seqid ≡ Anew number → t ≡ all_done n s (gives_all s o (filter (is_whose (OfOwner number)) l.stateids)) → opened_file files t (without_owner number l) o.client at a ≡ Ok file → has_room others (without_owner number l) o file ≡ true → (status_of (carried n s l (open_judged files others s l current at o a (judged l o a.seqid))).0 ≡ status) ↔ IsOpenTold (share_way t (wish_of t (without_owner number l) o a false file) o a file) (share_ask (wish_of t (without_owner number l) o a false file) o a file) (share_claim t o a file) status }
@@ -147,8 +150,9 @@ pub fn opens_are_shares()
     ensures anew { (n : ℕ) (files : List (List ℕ)) (others : ℕ) (s t : CoreState) (l : NfsLists) (current : Option ℕ) (at : ℕ) (o : OpenOwner) (a : OpenArgsItem) (number file : ℕ) → IsGood s → judged l o a.seqid ≡ Anew number → t ≡ all_done n s (gives_all s o (filter (is_whose (OfOwner number)) l.stateids)) → opened_file files t (without_owner number l) o.client at a ≡ Ok file → has_room others (without_owner number l) o file ≡ true → status_of (carried n s l (open_judged files others s l current at o a (judged l o a.seqid))).0 ≡ Fine → IsShared (rights_of a.access) (rights_of a.deny) (shares_of file (asker (share_ask None o a file) t.names) (carried n s l (open_judged files others s l current at o a (judged l o a.seqid))).4.claims) }
 {}
 
-/// Of a request on an open that is judged further, the stateid passes exactly where its seqid is the open's own and the owner
-/// is confirmed, or of OPEN_CONFIRM isn't yet (RFC 7530 9.1.4, 16.18); and an OPEN_CONFIRM that is done confirms the owner.
+/// Of a request on an open that is judged further, the stateid passes exactly if its seqid is the open's own and the
+/// owner is confirmed, or of OPEN_CONFIRM isn't yet (RFC 7530 9.1.4, 16.18); and an OPEN_CONFIRM that is done confirms
+/// the owner.
 pub fn current_stateids_stand()
     ensures stands { (r : StateidRow) (seqids : OwnerSeqids) (seqid : ℕ) (confirmed : Bool) → (standing_fault r seqids seqid confirmed ≡ None) ↔ ((seqid ≡ r.standing.seqid) × (seqids.confirmed ≡ confirmed)) }
     ensures confirms { (n : ℕ) (s : CoreState) (l : NfsLists) (current : Option ℕ) (a : OpenConfirmArgs) (r : StateidRow) (owner : ℕ) (seqids : OwnerSeqids) (o : OwnerRow) → find (is_owner owner) l.owners ≡ Some o → find (is_owner owner) (carried n s l (confirm_done s l current a r owner seqids None)).3.owners ≡ Some (with_seqids (record { seqid = a.seqid; op = 20; confirmed = true; closed = None }) o) }

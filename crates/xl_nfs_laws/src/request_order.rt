@@ -29,7 +29,7 @@ ghost use Rattle.xl_nfs_laws.specs.OwnerRequests.{has_seqid};
 ghost use Rattle.xl_front_nfs.specs.State.{empty_nfs_front, FrontNfs, nfs_shown, nfs_tick};
 ghost use Rattle.xl_front_nfs.specs.Steps.{planned};
 
-/// Each stateid has a number and a place of its own, and an owner of its client; and an open is closed exactly where its
+/// Each stateid has a number and a place of its own, and an owner of its client; and an open is closed exactly if its
 /// owner's last request closed it (RFC 7530 9.1.4, 9.1.8). So it is at a start, and stays by each operation, by a whole
 /// request, as time passes and as clients expire; so it is at all times.
 pub fn stateids_are_orderly()
@@ -46,9 +46,10 @@ pub fn only_owners_requests_count()
     ensures { (n : ℕ) (files : List (List ℕ)) (others : ℕ) (s : CoreState) (l : NfsLists) (current : Option ℕ) (item : OpItem) (o : OwnerRow) → has_seqid item ≡ false → IsIn o (carried n s l (planned files others s l current item)).3.owners → IsIn o l.owners }
 {}
 
-/// Each client has a delegation on a file exactly where it has a cache there, both of one kind (RFC 7530 10.4). So it is at a
-/// start, and stays by each operation, by a whole request, and as unconfirmed records go. Where a client expires, whose lease has
-/// ended or who didn't return a delegation in time, all its caches go, and once the front is told all its delegations.
+/// Each client has a delegation on a file exactly if it has a cache there, both of one kind (RFC 7530 10.4). So it is
+/// at a start, and stays by each operation, by a whole request, and as unconfirmed records go. If a client expires,
+/// whose lease has ended or who didn't return a delegation in time, all its caches go, and once the front is told all
+/// its delegations.
 pub fn delegations_are_caches()
     ensures start { (stable : StableRecord) (clock : Moment) (times : CoreTimes) → AreTied (started stable clock times) empty_nfs_front.state }
     ensures operations { (n : ℕ) (files : List (List ℕ)) (others : ℕ) (s : CoreState) (l : NfsLists) (current : Option ℕ) (item : OpItem) → IsGood s → IsOrderly l → AreTied s l → AreTied (carried n s l (planned files others s l current item)).4 (carried n s l (planned files others s l current item)).3 }
@@ -59,8 +60,9 @@ pub fn delegations_are_caches()
     ensures shown { (s : CoreState) (gone : List (List ℕ)) (f : FrontNfs) (id : List ℕ) → AreTiedBut (id ∷ gone) s f.state → AreTiedBut gone s (nfs_shown f (Expired id)).state }
 {}
 
-/// So each break of a client's delegation, whose call has a later number than were given out before, is told by one call: to the
-/// callback of the client, which is confirmed, for the delegation that it has on the file (RFC 7530 10.4.4, 18.2).
+/// So each break of a client's delegation, whose call has a later number than were given out before, is sent by one
+/// call: to the callback of the client, which is confirmed, for the delegation that it has on the file (RFC 7530
+/// 10.4.4, 18.2).
 pub fn each_break_is_recalled()
     ensures { (f : FrontNfs) (s t : CoreState) (cache : Claim) (to : Option CacheKind) (number : ℕ) (id : List ℕ) → IsGood s → AreTied s f.state → IsIn cache s.claims → is_cache cache.what ≡ true → client_of s.names cache.party ≡ Some id → client_of t.names cache.party ≡ Some id → s.counter < number → IsRecalledOnce f t cache to number id }
 {}

@@ -58,8 +58,8 @@ pub fn replies_go_back()
     ensures { (n : ℕ) (exports : Exports) (others : ℕ) (f : FrontNfs) (s : CoreState) (conn : ℕ) (r : RequestItem) → (nfs_step n exports others f s conn r).0 ≡ sent_to conn (nfs_reply n exports others f s r) }
 {}
 
-/// An operation that isn't OK leaves the current handle, as a LOOKUP of a name that is none; and nothing behind it is done:
-/// it is the last that is told, and there are no deeds but those before it and its own.
+/// An operation that isn't OK leaves the current handle, as a LOOKUP of a name that is none; and nothing behind it is
+/// done: it is the last that is answered, and there are no deeds except those before it and its own.
 #[tactic(auto, using(crate::proofs::HandleLaws::handle_stays, crate::proofs::HandleLaws::nothing_behind, crate::proofs::HandleLaws::no_deeds_behind))]
 pub fn a_failure_ends_it()
     ensures handle { (n : ℕ) (files : List (List ℕ)) (others : ℕ) (s : CoreState) (l : NfsLists) (current : Option ℕ) (item : OpItem) → is_ok (status_of (carried n s l (planned files others s l current item)).0) ≡ false → (carried n s l (planned files others s l current item)).1 ≡ current }
@@ -73,10 +73,10 @@ pub fn records_go_in_time()
     ensures { (f : FrontNfs) (now : Moment) (r : ClientRow) → IsIn r (nfs_tick f now).state.clients ↔ (IsIn r f.state.clients × (is_due now r ≡ false)) }
 {}
 
-/// The break of a delegation, which has a call's number, is sent as one call of this number at most: to the callback of the
-/// client that the cache is of, as it is confirmed now, for the delegation that this client has on the file, by the delegation's
-/// own stateid (RFC 7530 10.4.4, 18.2). There is no call where the client isn't confirmed, or has no delegation there, or has
-/// one that came after the break; nor for a break without a call's number.
+/// The break of a delegation, which has a call's number, is sent as one call of this number at most: to the callback of
+/// the client that the cache is of, as it is confirmed now, for the delegation that this client has on the file, by the
+/// delegation's own stateid (RFC 7530 10.4.4, 18.2). There is no call if the client isn't confirmed, or has no
+/// delegation there, or has one that came after the break; nor for a break without a call's number.
 pub fn recalls_name_the_delegation()
     ensures exactly { (f : FrontNfs) (s : CoreState) (cache : Claim) (to : Option CacheKind) (number : ℕ) (out : Out) → IsIn out (recalls f s (Begun cache to (Some number))) ↔ IsRecall f s cache number out }
     ensures alone { (f : FrontNfs) (s : CoreState) (cache : Claim) (to : Option CacheKind) (number : ℕ) (out : Out) → IsIn out (recalls f s (Begun cache to (Some number))) → recalls f s (Begun cache to (Some number)) ≡ out ∷ [] }

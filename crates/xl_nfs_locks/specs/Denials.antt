@@ -1,4 +1,4 @@
--- The lock that stands against another, as it is told (RFC 7531, LOCK4denied).
+-- The lock that stands against another, as it is sent (RFC 7531, LOCK4denied).
 use Rattle.std.specs.Prelude.{ℕ, Bool, true, nat_le, if◌then◌else◌, List, length, codes, Option, Some, None, slice_get}
 use Rattle.std.specs.List.{find}
 use Rattle.xl_base.specs.declared.name.Owner.{Owner}
@@ -44,7 +44,8 @@ holder_parts s l (owners.Open number) = (0, codes "smb")
 abbrev pub kind_of : Bool → LockType
 kind_of exclusive = if exclusive then types.Write else types.Read
 
--- the lock that is told: its first byte, its length and its type, and who holds it; what is no range is told as all bytes
+-- the lock that is sent: its first byte, its length and its type, and who holds it; what is no range is sent as all
+-- bytes
 abbrev pub held_by : ℕ × List ℕ → What → HeldLock
 held_by who (Range (Bytes first last) exclusive) = record { offset = first; len = length_of first last; kind = kind_of exclusive; clientid = who.0; owner = who.1 }
 held_by who _ = record { offset = 0; len = all_ones; kind = types.Write; clientid = who.0; owner = who.1 }
@@ -52,7 +53,7 @@ held_by who _ = record { offset = 0; len = all_ones; kind = types.Write; clienti
 abbrev pub held_lock : CoreState → NfsLists → Claim → HeldLock
 held_lock s l c = held_by (holder_parts s l c.owner) c.what
 
--- what is told by the core's answer
+-- what is sent by the core's answer
 abbrev pub lock_told : CoreState → NfsLists → Bool → Answer → Told
 lock_told s l reclaim (answers.Conflict c) = if reclaim then Ended statuses.ReclaimConflict else Denied (held_lock s l c)
 lock_told s l reclaim answer = Ended (answer_status reclaim answer)

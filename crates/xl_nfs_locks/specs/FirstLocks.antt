@@ -46,11 +46,11 @@ use Rattle.xl_nfs_opens.specs.declared.told.Told.TheVariants.{Ended, State, Kept
 abbrev pub counted_open : BothOwners → List ℕ → NfsLists → NfsLists
 counted_open b bytes l = counted b.number b.seqids.closed (next_seqids 12 b.open_seqid b.seqids.confirmed None) bytes l
 
--- so has the lock owner, which comes where it is new
+-- so has the lock owner, which comes if it is new
 abbrev pub counted_both : BothOwners → Opener → List ℕ → NfsLists → NfsLists
 counted_both b o bytes l = remembered o (next_seqids 12 b.lock_seqid true None) bytes (counted_open b bytes l)
 
--- it was refused, and counts with both where its status does (NFS-24)
+-- it was refused, and counts with both if its status does (NFS-24)
 abbrev pub both_refused : NfsLists → Option ℕ → BothOwners → Opener → Told → Plan
 both_refused l current b o told = Does [] (if advances (status_of told) then counted_both b o (spelled 12 told) l else l) (told, current)
 
@@ -147,7 +147,7 @@ join_as l current a b o r (Joins q) = join_in l current a b o r q
 abbrev pub join_by : NfsLists → Option ℕ → LockArgsItem → NewLockerItem → BothOwners → StateidRow → Opener → Plan
 join_by l current a x b r o = join_as l current a b o r (found_joined l r o x.lock_seqid)
 
--- the lock owner, where it is of the open's client (NFS-24)
+-- the lock owner, if it is of the open's client (NFS-24)
 abbrev pub locker_under : StateidRow → List ℕ → Option ClientRow → Option Opener
 locker_under r owner None = None
 locker_under r owner (Some c) = if c.number == r.client then Some (locker_of c owner) else None

@@ -31,7 +31,7 @@ use Rattle.xl_nfs_opens.specs.declared.told.Told.TheVariants.{Ended}
 
 -- ---- by the core's answer
 
--- it was refused, and is kept where its status counts
+-- it was refused, and is kept if its status counts
 abbrev pub refused_lists : NfsLists → ℕ → SeqidState → ℕ → Told → NfsLists
 refused_lists l owner seqids seqid told =
     if advances (status_of told) then counted owner seqids.closed (next_seqids 12 seqid seqids.confirmed None) (spelled 12 told) l else l

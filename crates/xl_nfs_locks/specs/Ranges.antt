@@ -18,7 +18,7 @@ last_byte offset len =
     else if nat_le (offset + len) all_ones then Some (offset + len - 1)
     else None
 
--- the length by which a range is told (NFS-27)
+-- the length by which a range is sent (NFS-27)
 abbrev pub length_of : ℕ → ℕ → ℕ
 length_of first last = if last == all_ones then all_ones else last + 1 - first
 

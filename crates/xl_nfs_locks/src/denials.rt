@@ -1,4 +1,4 @@
-//! The lock that stands against another, as LOCK and LOCKT tell it (RFC 7531, LOCK4denied).
+//! The lock that stands against another, as LOCK and LOCKT send it (RFC 7531, LOCK4denied).
 ghost use Rattle.std.specs.Prelude.{◌≡◌, ◌≤◌, true, length, IfOk};
 ghost use Rattle.std.specs.List.{find};
 ghost use Rattle.xl_nfs.specs.Basics.{most_text_bytes};
@@ -51,7 +51,7 @@ fn kind_of(exclusive: bool) -> LockType
     }
 }
 
-/// What is claimed, as it is told, with who holds it.
+/// What is claimed, as it is sent, with who holds it.
 fn held_by(clientid: u64, owner: HolderBytes, what: What) -> HeldLock
     ensures { result ≡ held_by (clientid, owner) what }
 {
@@ -73,7 +73,7 @@ fn held_by(clientid: u64, owner: HolderBytes, what: What) -> HeldLock
     }
 }
 
-/// A claim, as it is told.
+/// A claim, as it is sent.
 fn held_lock(
     alloc: Global,
     state: &NfsState,
@@ -87,7 +87,7 @@ fn held_lock(
     Ok(held_by(clientid, bytes, claim.what))
 }
 
-/// What is told by the core's answer.
+/// What is sent by the core's answer.
 pub(crate) fn lock_told(
     alloc: Global,
     state: &NfsState,

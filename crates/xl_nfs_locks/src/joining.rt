@@ -69,7 +69,7 @@ fn count_open(state: &mut NfsState, both: BothOwners, bytes: ResultBytes) -> Res
     Ok(())
 }
 
-/// So has the lock owner, which comes where it is new.
+/// So has the lock owner, which comes if it is new.
 #[tactic(auto, using(crate::proofs::FirstLaws::client_stays))]
 fn count_both(
     alloc: Global,
@@ -92,7 +92,7 @@ fn count_both(
     Ok(())
 }
 
-/// It was refused; it counts with both where its status does.
+/// It was refused; it counts with both if its status does.
 fn refuse_both(
     alloc: Global,
     state: &mut NfsState,
@@ -448,7 +448,7 @@ fn join_as<K: Keeper>(
     }
 }
 
-/// The lock owner, where it is of the open's client.
+/// The lock owner, if it is of the open's client.
 fn locker_under(
     alloc: Global,
     above: &StateidRow,
@@ -596,11 +596,11 @@ fn lock_named<K: Keeper>(
     Ok(done)
 }
 
-/// LOCK under an open, which counts with its owner's seqid and with the lock owner's: the bytes of the range are the lock
-/// owner's, in this mode. BAD_STATEID, OLD_STATEID, STALE_STATEID and BAD_SEQID by the open's stateid; INVAL where the lock
-/// owner is of another client; BAD_SEQID by the lock owner's seqid, and where it has locks on the file under another open;
-/// INVAL for a range of no bytes or past the last one, OPENMODE where the open's access doesn't allow it; RESOURCE where
-/// there is no room for the owner or for the range; DENIED with a lock that stands against it.
+/// LOCK under an open, which counts with its owner's seqid and with the lock owner's: the bytes of the range are the
+/// lock owner's, in this mode. BAD_STATEID, OLD_STATEID, STALE_STATEID and BAD_SEQID by the open's stateid; INVAL if
+/// the lock owner is of another client; BAD_SEQID by the lock owner's seqid, and if it has locks on the file under
+/// another open; INVAL for a range of no bytes or past the last one, OPENMODE if the open's access doesn't allow it;
+/// RESOURCE if there is no room for the owner or for the range; DENIED with a lock that stands against it.
 #[tactic(auto, unfolding(crate::specs::FirstLocks::lock_new), using(xl_plan::proofs::BudgetLaws::leaves_then, xl_plan::proofs::BudgetLaws::ready_then))]
 pub(crate) fn lock_new<K: Keeper>(
     alloc: Global,

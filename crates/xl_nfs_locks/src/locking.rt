@@ -27,7 +27,7 @@ use xl_nfs_opens::{
 };
 use xl_nfs_state::{Holder, NfsState, SeqidState, StateidRow};
 
-/// It was refused; the result is kept where its status counts.
+/// It was refused; the result is kept if its status counts.
 fn refuse(
     alloc: Global,
     state: &mut NfsState,
@@ -264,9 +264,9 @@ fn lock_found<K: Keeper>(
     }
 }
 
-/// LOCK by a lock owner that has a stateid under the open: the bytes of the range are the owner's, in this mode. DENIED with
-/// a lock that stands against it; INVAL for a range of no bytes or past the last one, OPENMODE where the open's access
-/// doesn't allow it; BAD_STATEID, OLD_STATEID, STALE_STATEID and BAD_SEQID by the lock's stateid.
+/// LOCK by a lock owner that has a stateid under the open: the bytes of the range are the owner's, in this mode. DENIED
+/// with a lock that stands against it; INVAL for a range of no bytes or past the last one, OPENMODE if the open's
+/// access doesn't allow it; BAD_STATEID, OLD_STATEID, STALE_STATEID and BAD_SEQID by the lock's stateid.
 #[tactic(auto, unfolding(crate::specs::Locks::lock_known), using(crate::proofs::FoundLaws::locks_there, xl_plan::proofs::BudgetLaws::leaves_then, xl_plan::proofs::BudgetLaws::ready_then))]
 pub(crate) fn lock_known<K: Keeper>(
     alloc: Global,

@@ -16,9 +16,9 @@ use xl_nfs::{LockArgs, Locker};
 use xl_nfs_opens::Done;
 use xl_nfs_state::NfsState;
 
-/// LOCK: the bytes of the range are the lock owner's, in this mode, and count with its seqid; where it gives the stateid of
-/// an open, the open's owner counts too. DENIED with a lock that stands against it; INVAL, OPENMODE, RESOURCE, and BAD_STATEID,
-/// OLD_STATEID, STALE_STATEID and BAD_SEQID by the stateid and the seqids.
+/// LOCK: the bytes of the range are the lock owner's, in this mode, and count with its seqid; if it gives the stateid
+/// of an open, the open's owner counts too. DENIED with a lock that stands against it; INVAL, OPENMODE, RESOURCE, and
+/// BAD_STATEID, OLD_STATEID, STALE_STATEID and BAD_SEQID by the stateid and the seqids.
 #[tactic(auto, unfolding(crate::specs::FirstLocks::lock), using(xl_plan::proofs::BudgetLaws::leaves_more, xl_plan::proofs::BudgetLaws::ready_less))]
 pub fn lock<K: Keeper>(
     alloc: Global,

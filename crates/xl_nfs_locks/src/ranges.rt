@@ -4,7 +4,7 @@ ghost use Rattle.xl_nfs_locks.specs.Ranges.{is_exclusive, last_byte, length_of, 
 
 use xl_nfs::LockType;
 
-/// The last byte of a range, where the length names one: all ones reaches the last byte that there is.
+/// The last byte of a range, if the length names one: all ones reaches the last byte that there is.
 #[tactic(auto, unfolding(crate::specs::Ranges::last_byte))]
 pub(crate) fn last_byte(offset: u64, len: u64) -> Option<u64>
     ensures value { result ≡ last_byte offset len }
@@ -20,7 +20,7 @@ pub(crate) fn last_byte(offset: u64, len: u64) -> Option<u64>
     Some(past - 1)
 }
 
-/// The length by which a range is told.
+/// The length by which a range is sent.
 pub(crate) fn length_of(first: u64, last: u64) -> u64
     ensures { result ≡ length_of first last }
 {

@@ -72,8 +72,8 @@ fn release_of(
     Ok(ended_as(alloc, NfsStatus::Ok, current))
 }
 
-/// RELEASE_LOCKOWNER: what is known of a lock owner goes, where it holds no range. LOCKS_HELD where it does, STALE_CLIENTID
-/// where its client is none.
+/// RELEASE_LOCKOWNER: what is known of a lock owner goes, if it holds no range. LOCKS_HELD if it does, STALE_CLIENTID
+/// if its client is none.
 #[tactic(auto, unfolding(crate::specs::Releases::release), using(xl_plan::proofs::BudgetLaws::leaves_then, xl_plan::proofs::BudgetLaws::leaves_self))]
 pub fn release(
     alloc: Global,

@@ -30,7 +30,7 @@ pub(crate) fn locker_of(alloc: Global, row: &ClientRow, owner: &[u8]) -> Result<
     })
 }
 
-/// What LOCKT tells by the core's answer.
+/// What LOCKT answers by the core's answer.
 fn tested_told(
     alloc: Global,
     state: &NfsState,

@@ -23,7 +23,7 @@ use xl_nfs_opens::{
 };
 use xl_nfs_state::{NfsState, SeqidState, StateidRow};
 
-/// How the core's answer is told: bytes that aren't held are unlocked already.
+/// How the core's answer is sent: bytes that aren't held are unlocked already.
 fn unlock_status(answer: Answer) -> NfsStatus
     ensures { result ≡ unlock_status answer }
 {
@@ -207,9 +207,9 @@ fn unlock_found<K: Keeper>(
     }
 }
 
-/// LOCKU: the bytes of the range are no longer the lock owner's, held or not. INVAL for a range of no bytes or past the last
-/// one; BAD_STATEID, OLD_STATEID, STALE_STATEID and BAD_SEQID by the lock's stateid; RESOURCE where what is left of a lock
-/// that is cut has no room.
+/// LOCKU: the bytes of the range are no longer the lock owner's, held or not. INVAL for a range of no bytes or past the
+/// last one; BAD_STATEID, OLD_STATEID, STALE_STATEID and BAD_SEQID by the lock's stateid; RESOURCE if what is left of a
+/// lock that is cut has no room.
 #[tactic(auto, unfolding(crate::specs::Unlocks::unlock), using(crate::proofs::FoundLaws::locks_there, xl_plan::proofs::BudgetLaws::leaves_then, xl_plan::proofs::BudgetLaws::ready_then))]
 pub fn unlock<K: Keeper>(
     alloc: Global,

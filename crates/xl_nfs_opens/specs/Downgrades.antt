@@ -21,7 +21,7 @@ use Rattle.xl_nfs_opens.specs.declared.opener.Checked.{Checked}
 use Rattle.xl_nfs_opens.specs.declared.opener.Checked.TheVariants.{Refused, Repeated, Passed}
 use Rattle.xl_nfs_opens.specs.declared.told.Told.TheVariants.{Ended}
 
--- the share has no more than these rights from then on, where they lie within what it has
+-- the share has no more than these rights from then on, if they lie within what it has
 abbrev pub weakens : Option Claim → Rwd → Rwd → List Deed
 weakens None access deny = []
 weakens (Some claim) access deny = if share_has claim.what access deny then Weakens claim access deny ∷ [] else []

@@ -214,15 +214,15 @@ abbrev pub has_program : Option ClientRow → Bool
 has_program None = false
 has_program (Some c) = not (c.details.callback.program == 0)
 
--- whether a delegation that is claimed from before a restart is for writing, where it is one (open_delegation_type4)
+-- whether a delegation that is claimed from before a restart is for writing, if it is one (open_delegation_type4)
 abbrev pub type_claimed : DelegationType → Option Bool
 type_claimed types.None = None
 type_claimed types.Read = Some false
 type_claimed types.Write = Some true
 
--- Whether the delegation is for writing that a claim may get, where it may. A file that is claimed by its name: of a confirmed owner
--- whose client can be called back, for writing where the access has that, else for reading. A file that was open before a
--- restart: what is claimed with it, by any owner and of any client (RFC 7530 9.6.2, 10.2.1) (NFS-16).
+-- Whether the delegation is for writing that a claim may get, if it may. A file that is claimed by its name: of a
+-- confirmed owner whose client can be called back, for writing if the access has that, else for reading. A file that
+-- was open before a restart: what is claimed with it, by any owner and of any client (RFC 7530 9.6.2, 10.2.1) (NFS-16).
 abbrev pub kind_for : Option ClientRow → OpenArgsItem → Bool → OpenClaimItem → Option Bool
 kind_for client a confirmed (Null name) = if confirmed && has_program client then Some (rights_of a.access).w else None
 kind_for client a confirmed (Previous type) = type_claimed type
@@ -242,7 +242,7 @@ cache_held s id file = cache_by s.claims file (party_named s.names (NfsParty id)
 abbrev pub has_none : CoreState → NfsLists → Opener → ℕ → Bool
 has_none s l o file = not (is_some (cache_held s o.id file)) && not (is_some (find (delegated_on o.client file) l.stateids))
 
--- nothing is wished for where the client has one there (NFS-16)
+-- nothing is wished for if the client has one there (NFS-16)
 abbrev pub unless_held : CoreState → NfsLists → Opener → ℕ → Option Bool → Option Bool
 unless_held s l o file None = None
 unless_held s l o file (Some write) = if has_none s l o file then Some write else None
@@ -272,7 +272,7 @@ share_ask wish o a file = record {
   rows = no_rows;
 }
 
--- whether a delegation is for writing, where this is one
+-- whether a delegation is for writing, if this is one
 abbrev pub delegation_of : What → Option Bool
 delegation_of (Cache cache_kinds.WriteDeleg running) = Some true
 delegation_of (Cache cache_kinds.ReadDeleg running) = Some false
@@ -282,7 +282,7 @@ abbrev pub delegation_in : Option Claim → Option Bool
 delegation_in None = None
 delegation_in (Some cache) = delegation_of cache.what
 
--- the wish was granted where the client has a delegation there then, which is told for what it is
+-- the wish was granted if the client has a delegation there then, which is sent as what it is
 abbrev pub granted_wish : CoreState → Opener → ℕ → Option Bool → Option Bool
 granted_wish s o file None = None
 granted_wish s o file (Some write) = delegation_in (cache_held s o.id file)
@@ -372,7 +372,7 @@ can_stand r l = not (is_some (find (is_stateid r.number) l.stateids)) && (not (i
 unfoldable pub delegated_in : StateidRow → NfsLists → NfsLists
 delegated_in r l = if can_stand r l then with_stateids l (l.stateids ++ r ∷ []) else l
 
--- where one is granted, under the next number (NFS-16)
+-- if one is granted, under the next number (NFS-16)
 abbrev pub delegated : CoreState → Opener → ℕ → Option Bool → NfsLists → NfsLists
 delegated s o file None l = l
 delegated s o file (Some write) l = delegated_in (delegation_row (s.counter + 1) o file write) l
@@ -386,7 +386,7 @@ abbrev pub drawn_for : Option Bool → CoreState → CoreState
 drawn_for None s = s
 drawn_for (Some write) s = drawn s
 
--- what is told of it: its stateid, and whether it is for writing
+-- what is sent of it: its stateid, and whether it is for writing
 abbrev pub delegation_told : CoreState → Option Bool → Option (Stateid × Bool)
 delegation_told s None = None
 delegation_told s (Some write) = Some (stateid_of (drawn s) (s.counter + 1) 1, write)

@@ -10,11 +10,11 @@ use Rattle.xl_nfs_opens.specs.Seqids.{kept_status}
 use Rattle.xl_nfs_opens.specs.declared.told.Told.{Told}
 use Rattle.xl_nfs_opens.specs.declared.told.Told.TheVariants.{Ended, Handle, Client, Opened, State, Free, Denied, Kept}
 
--- an operation is told this, with the current handle then
+-- an operation is answered with this, with the current handle then
 abbrev pub Plan : Type 0
 Plan = plans.Plan NfsLists (Told × Option ℕ)
 
--- what is told, the current handle, what the core tells of besides, what is remembered of the clients, and the core
+-- what is answered, the current handle, what the core tells of besides, what is remembered of the clients, and the core
 abbrev pub Outcome : Type 0
 Outcome = Told × Option ℕ × List Effect × NfsLists × CoreState
 

@@ -21,7 +21,7 @@ stateid_of s number seqid = record { seqid = seqid; other = to_be_bytes w32 s.st
 abbrev pub same_stateid : Stateid → Stateid → Bool
 same_stateid a b = (a.seqid == b.seqid) && bytes_eq a.other b.other
 
--- the number in a stateid, where it is of this start
+-- the number in a stateid, if it is of this start
 unfoldable pub number_of : CoreState → List ℕ → Option ℕ
 number_of s other = if from_be_bytes w32 (take 4 other) == s.stable.epoch then Some (from_be_bytes w64 (drop 4 other)) else None
 
@@ -44,7 +44,7 @@ abbrev pub renewals_by : Option ClientRow → List Deed
 renewals_by None = []
 renewals_by (Some r) = Renews r.id ∷ []
 
--- the lease of the client of this number, where it is confirmed, is renewed (NFS-13)
+-- the lease of the client of this number, if it is confirmed, is renewed (NFS-13)
 abbrev pub renewals : NfsLists → Option ℕ → List Deed
 renewals l None = []
 renewals l (Some number) = renewals_by (find (is_client number true) l.clients)

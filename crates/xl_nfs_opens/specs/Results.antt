@@ -1,4 +1,4 @@
--- How what an operation told is spelled (RFC 7531, nfs_resop4).
+-- How what an operation was answered is spelled (RFC 7531, nfs_resop4).
 use Rattle.std.specs.Prelude.{ℕ, ◌-◌, ◌^◌, Bool, true, false, ◌==◌, if◌then◌else◌, List, [], ◌++◌, Option, Some, None, Ok, Err}
 use Rattle.xl_base.specs.Handles.{handle}
 use Rattle.xl_nfs.specs.Opened.{AceItem, DelegationItem, NoDelegation, ReadDelegated, WriteDelegated, OpenResultItem}
@@ -31,7 +31,7 @@ state_as number stateid =
     if number == 4 then CloseAnswer (Ok stateid) else if number == 12 then LockAnswer (Ok stateid) else if number == 14 then LockUAnswer (Ok stateid)
     else if number == 20 then OpenConfirmAnswer (Ok stateid) else OpenDowngradeAnswer (Ok stateid)
 
--- no permissions are told beside a delegation
+-- no permissions are sent beside a delegation
 abbrev pub no_permissions : AceItem
 no_permissions = record { kind = 0; flag = 0; mask = 0; who = [] }
 
@@ -59,7 +59,7 @@ denied_item h = record { offset = h.offset; len = h.len; kind = h.kind; owner = 
 abbrev pub denied_as : ℕ → HeldLock → ResultItem
 denied_as number h = if number == 13 then LockTAnswer (Err (DeniedBy (denied_item h))) else LockAnswer (Err (DeniedBy (denied_item h)))
 
--- what an operation told, as its result is spelled
+-- what an operation was answered, as its result is spelled
 abbrev pub spelled : ℕ → Told → List ℕ
 spelled number (Ended status) = nfs_result.spell (ended_as number status)
 spelled number (Handle file) = nfs_result.spell (GetFhAnswer (Ok (handle file)))

@@ -80,11 +80,11 @@ abbrev pub seated_by : Opener → SeqidState → NfsLists → Option OwnerRow �
 seated_by o seqids l None = seated_new o seqids l (next_owner l.owners)
 seated_by o seqids l (Some r) = closed_gone r.seqids.closed (seqid_set r.number seqids l)
 
--- the owner's requests have come this far: a new owner comes where there is room for it
+-- the owner's requests have come this far: a new owner comes if there is room for it
 unfoldable pub seated : Opener → SeqidState → NfsLists → NfsLists
 seated o seqids l = seated_by o seqids l (find (is_opener o) l.owners)
 
--- a request of the owner counted; where there is no room for a new owner nothing is kept of it (NFS-14)
+-- a request of the owner counted; if there is no room for a new owner nothing is kept of it (NFS-14)
 unfoldable pub remembered : Opener → SeqidState → List ℕ → NfsLists → NfsLists
 remembered o seqids bytes l = if is_room_for o l then kept_for (opener_number o l) bytes (seated o seqids l) else l
 
@@ -94,8 +94,8 @@ abbrev pub read_status : {F : Type 0} → Result (ResultItem × List ℕ) F → 
 read_status (Ok read) = result_status read.0
 read_status (Err fault) = statuses.ServerFault
 
--- how many bytes a result has at most, but that of a lock that is denied: as many as that of OPEN with no attributes and a
--- delegation for writing
+-- how many bytes a result has at most, except that of a lock that is denied: as many as that of OPEN with no attributes
+-- and a delegation for writing
 abbrev pub most_short : ℕ
 most_short = 104
 
@@ -106,6 +106,6 @@ is_short bytes = nat_le (length bytes) most_short
 unfoldable pub kept_status : List ℕ → NfsStatus
 kept_status bytes = if is_short bytes then read_status (nfs_result.at bytes) else statuses.Denied
 
--- how many bytes the result of an operation has at most that ended so: the holder of a lock is told where one is denied
+-- how many bytes the result of an operation has at most that ended so: the holder of a lock is sent if one is denied
 abbrev pub most_told : NfsStatus → ℕ
 most_told status = if is_ok status then most_short else most_result_bytes

@@ -80,7 +80,7 @@ fn is_delegation(core: &Core, state: &NfsState, client: u32, file: u32, stateid:
     is_stateid_of(core, stateid, state.find_delegation(client, file))
 }
 
-/// The file of this name, where the stateid is that of the client's delegation on it.
+/// The file of this name, if the stateid is that of the client's delegation on it.
 fn by_delegation(
     core: &Core,
     state: &NfsState,
@@ -98,7 +98,7 @@ fn by_delegation(
     }
 }
 
-/// The file of a claim, where it is one.
+/// The file of a claim, if it is one.
 fn file_of_claim(
     files: &[Sequence<u8>],
     core: &Core,

@@ -48,7 +48,7 @@ pub fn range_ask(
     })
 }
 
-/// What is asked where a lock owner gives up bytes.
+/// What is asked if a lock owner gives up bytes.
 pub fn unlock_ask(
     alloc: Global,
     owner: &Opener,

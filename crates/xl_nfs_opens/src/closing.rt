@@ -121,7 +121,7 @@ pub fn next_seqids(op: u32, seqid: u32, confirmed: bool, closed: Option<u64>) ->
     }
 }
 
-/// It failed so; the result is kept where it counts.
+/// It failed so; the result is kept if it counts.
 pub fn fail(
     alloc: Global,
     state: &mut NfsState,

@@ -33,7 +33,7 @@ fn has_program(client: Option<&ClientRow>) -> bool
     }
 }
 
-/// Whether a delegation that is claimed from before a restart is for writing, where it is one.
+/// Whether a delegation that is claimed from before a restart is for writing, if it is one.
 fn type_claimed(kind: DelegationType) -> Option<bool>
     ensures { result ≡ type_claimed kind }
 {
@@ -44,8 +44,9 @@ fn type_claimed(kind: DelegationType) -> Option<bool>
     }
 }
 
-/// Whether the delegation is for writing that a claim may get, where it may: of a file by its name that of a confirmed owner
-/// whose client can be called back, by the access; of a file that was open before a restart what is claimed with it.
+/// Whether the delegation is for writing that a claim may get, if it may: of a file by its name that of a confirmed
+/// owner whose client can be called back, by the access; of a file that was open before a restart what is claimed with
+/// it.
 fn kind_for(client: Option<&ClientRow>, args: &OpenArgs, confirmed: bool) -> Option<bool>
     ensures { result ≡ kind_for (option_copied client.entry) (shown_open_args args.now) confirmed (shown_open_claim args.now.claim) }
 {
@@ -86,7 +87,7 @@ fn cache_by(
     Ok(cache_in(&caches, party))
 }
 
-/// The party that the client of this id string is, where it has something or waits, or had or did.
+/// The party that the client of this id string is, if it has something or waits, or had or did.
 pub fn party_of(alloc: Global, core: &Core, id: &[u8]) -> Result<Option<Party>, AllocError>
     ensures { IfOk result (λ party. party ≡ party_named core.now.names (NfsParty id.now)) }
 {
@@ -127,7 +128,7 @@ fn has_none(
     Ok(cache.is_none() && state.find_delegation(opener.client, file).is_none())
 }
 
-/// The delegation for which an OPEN wishes: what its claim may get, where the client has none there.
+/// The delegation for which an OPEN wishes: what its claim may get, if the client has none there.
 #[tactic(auto, unfolding(crate::specs::Opens::wish_of))]
 pub(crate) fn wish_of(
     alloc: Global,
@@ -166,7 +167,7 @@ pub(crate) fn wished_kinds(
     Ok(kinds)
 }
 
-/// Whether the delegation is for writing, where this is one.
+/// Whether the delegation is for writing, if this is one.
 fn delegation_of(what: What) -> Option<bool>
     ensures { result ≡ delegation_of what }
 {
@@ -177,7 +178,7 @@ fn delegation_of(what: What) -> Option<bool>
     }
 }
 
-/// The wish, where it was granted: the client has a delegation there then, which is told for what it is.
+/// The wish, if it was granted: the client has a delegation there then, which is sent as what it is.
 pub(crate) fn granted_wish(
     alloc: Global,
     core: &Core,
@@ -250,7 +251,7 @@ fn enter_delegation(
     }
 }
 
-/// A delegation comes under the next number, where one is granted, and this is told of it.
+/// A delegation comes under the next number, if one is granted, and this is sent of it.
 #[tactic(auto, using(xl_plan::proofs::BudgetLaws::leaves_self, xl_plan::proofs::BudgetLaws::leaves_more, xl_plan::proofs::BudgetLaws::ready_less))]
 pub(crate) fn delegate(
     alloc: Global,

@@ -7,7 +7,7 @@ use xl_base::Sequence;
 use xl_core::Effect;
 use xl_nfs::NfsStatus;
 
-/// What an operation told, the current handle then, and what the core told of besides.
+/// What an operation was answered, the current handle then, and what the core told of besides.
 pub type Done = (Told, Option<u32>, Sequence<Effect>);
 
 /// It ended so, and the current handle stays.
@@ -17,7 +17,7 @@ pub fn ended_as(alloc: Global, status: NfsStatus, current: Option<u32>) -> Done
     (Told::Ended(status), current, Sequence::new(alloc))
 }
 
-/// It told so, and the core tells of nothing besides.
+/// It was answered so, and the core tells of nothing besides.
 pub fn beside(alloc: Global, done: (Told, Option<u32>)) -> Done
     ensures { result ≡ (done.0, done.1, []) }
 {

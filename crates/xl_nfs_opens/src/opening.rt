@@ -79,7 +79,7 @@ fn judge(state: &NfsState, opener: &Opener, seqid: u32) -> Judged
     }
 }
 
-/// It is refused so; the result is kept where it counts.
+/// It is refused so; the result is kept if it counts.
 #[tactic(auto, using(crate::proofs::ResultLaws::fits_18))]
 fn refuse(
     alloc: Global,
@@ -170,7 +170,7 @@ fn grant_more(
     Ok((told, Some(file)))
 }
 
-/// The share is granted, and a delegation where that was wished for and could be.
+/// The share is granted, and a delegation if that was wished for and could be.
 fn grant(
     alloc: Global,
     state: &mut NfsState,
@@ -231,7 +231,7 @@ fn answer(
     Ok(ended)
 }
 
-/// The share of the file is asked for, where there is room beside so many opens of others.
+/// The share of the file is asked for, if there is room beside so many opens of others.
 #[tactic(auto, using(crate::proofs::LeaveLaws::ask_ready, crate::proofs::LeaveLaws::asked_leaves, xl_plan::proofs::BudgetLaws::leaves_self, xl_plan::proofs::BudgetLaws::leaves_more))]
 fn open_on<K: Keeper>(
     alloc: Global,
@@ -390,7 +390,7 @@ pub fn client_in<'a>(state: &'a NfsState, core: &Core, clientid: u64) -> Option<
     state.find_client(number, true)
 }
 
-/// OPEN where a file or the root is the current one.
+/// OPEN if a file or the root is the current one.
 #[tactic(auto, using(xl_plan::proofs::BudgetLaws::leaves_self, xl_plan::proofs::BudgetLaws::leaves_more))]
 fn open_at<K: Keeper>(
     alloc: Global,

@@ -31,7 +31,7 @@ pub(crate) fn same_stateid(a: &Stateid, b: &Stateid) -> bool
     a.seqid == b.seqid && a.other == b.other
 }
 
-/// The number in a stateid, where it is of this start.
+/// The number in a stateid, if it is of this start.
 #[tactic(auto, unfolding(crate::specs::Renewing::number_of))]
 pub fn number_of(core: &Core, other: &[u8; 12]) -> Option<u64>
     ensures { result ≡ number_of core.now other.now }
@@ -55,7 +55,7 @@ pub fn state_client(state: &NfsState, core: &Core, stateid: &Stateid) -> Option<
     }
 }
 
-/// Renews the lease of the client of this number, where it is confirmed.
+/// Renews the lease of the client of this number, if it is confirmed.
 #[tactic(auto, using(xl_plan::proofs::BudgetLaws::leaves_self, crate::proofs::RenewLaws::renewals_done, crate::proofs::RenewLaws::renewals_told))]
 pub fn renew_for(
     alloc: Global,

@@ -64,7 +64,7 @@ pub fn repeat(
     Ok((Told::Kept(bytes.copy(alloc)?), handle, Sequence::new(alloc)))
 }
 
-/// Keeps what the operation of this number told for the owner of that number.
+/// Keeps what the operation of this number was answered for the owner of that number.
 pub(crate) fn keep_told(
     alloc: Global,
     state: &mut NfsState,

@@ -1,4 +1,4 @@
-//! How what an operation told is spelled.
+//! How what an operation was answered is spelled.
 ghost use Rattle.std.specs.Prelude.{◌≡◌, ◌+◌, ◌≤◌, ◌++◌, if◌then◌else◌, length, Ok, IfOk, OnOk};
 ghost use Rattle.xl_nfs.specs.Basics.{most_text_bytes};
 ghost use Rattle.xl_nfs.specs.Opened.{shown_delegation};
@@ -70,7 +70,7 @@ fn state_as<'a>(number: u32, stateid: Stateid) -> NfsResult<'a>
     }
 }
 
-/// What is told of a delegation: it isn't recalled already, any length may be written, and no permissions are told.
+/// What is sent of a delegation: it isn't recalled already, any length may be written, and no permissions are sent.
 fn delegation_as<'a>(given: Option<(Stateid, bool)>) -> Delegation<'a>
     ensures { shown_delegation result ≡ delegation_item given }
 {
@@ -113,7 +113,7 @@ fn opened_as<'a>(stateid: Stateid, flags: u32, delegation: Option<(Stateid, bool
     }))
 }
 
-/// Writes bytes as they stand.
+/// Writes bytes as they are.
 #[tactic(auto, using(crate::proofs::ResultLaws::unpadded))]
 fn put_bytes(out: &mut XdrOut, bytes: &[u8]) -> Result<(), AllocError>
     requires { length bytes.now ≤ most_result_bytes }
@@ -221,7 +221,7 @@ fn put_denied(out: &mut XdrOut, number: u32, held: &HeldLock) -> Result<(), Allo
     Ok(())
 }
 
-/// Writes what the operation of this number told.
+/// Writes what the operation of this number was answered.
 #[tactic(auto, using(crate::proofs::HeldLaws::kept_grown, crate::proofs::HeldLaws::ended_told))]
 pub fn put_result(out: &mut XdrOut, number: u32, told: &Told) -> Result<(), AllocError>
     requires fits { ToldFits number told.now }
@@ -243,7 +243,7 @@ pub fn put_result(out: &mut XdrOut, number: u32, told: &Told) -> Result<(), Allo
     Ok(())
 }
 
-/// What the operation of this number told, as its result is spelled.
+/// What the operation of this number was answered, as its result is spelled.
 #[tactic(auto, using(crate::proofs::HeldLaws::most_most))]
 pub fn result_bytes(alloc: Global, number: u32, told: &Told) -> Result<ResultBytes, AllocError>
     requires fits { ToldFits number told.now }

@@ -117,7 +117,7 @@ pub fn opener_number(state: &NfsState, opener: &Opener) -> u64
     }
 }
 
-/// A new owner comes, where there is room.
+/// A new owner comes, if there is room.
 fn seat_new(
     alloc: Global,
     state: &mut NfsState,
@@ -150,7 +150,7 @@ fn seat_new(
     }
 }
 
-/// The owner's requests have come this far; a new owner comes, where there is room.
+/// The owner's requests have come this far; a new owner comes, if there is room.
 #[tactic(auto, unfolding(crate::specs::Seqids::seated), using(crate::proofs::OwnerLaws::named_there))]
 pub(crate) fn seat(
     alloc: Global,
@@ -170,7 +170,7 @@ pub(crate) fn seat(
     Ok(())
 }
 
-/// A request of the owner counted; where there is no room for a new owner nothing is kept of it.
+/// A request of the owner counted; if there is no room for a new owner nothing is kept of it.
 #[tactic(auto, unfolding(crate::specs::Seqids::remembered))]
 pub fn remember(
     alloc: Global,

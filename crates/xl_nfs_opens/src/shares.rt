@@ -103,7 +103,7 @@ fn share_has(what: What, access: Rwd, deny: Rwd) -> bool
     }
 }
 
-/// Makes a claim weaker, which is held, if it is one, where it is a share and has these rights.
+/// Leaves a claim that is held no more than these rights, if there is one, and it is a share that has them.
 #[tactic(auto, using(xl_plan::proofs::BudgetLaws::leaves_self))]
 pub(crate) fn weaken(alloc: Global, core: &mut Core, share: Option<Claim>, access: Rwd, deny: Rwd)
     requires ready { IsReady 0 core.old }

@@ -1,4 +1,4 @@
-//! What an operation tells.
+//! What an operation is answered.
 ghost use Rattle.std.specs.Prelude.{◌≡◌, ◌≤◌, length};
 ghost use Rattle.xl_nfs.specs.Basics.{most_text_bytes};
 ghost use Rattle.xl_nfs_opens.specs.Plans.{status_of};
@@ -10,8 +10,8 @@ use xl_nfs::{ClientConfirm, LockType, NfsStatus, Stateid, read_result};
 use xl_nfs_state::ResultBytes;
 use xl_rpc::Xdr;
 
-/// How many bytes a result has at most, but that of a lock that is denied: the length of OPEN's with no attributes and a
-/// delegation for writing.
+/// How many bytes a result has at most, except that of a lock that is denied: the length of OPEN's with no attributes
+/// and a delegation for writing.
 const MOST_SHORT: usize = 104;
 
 /// The bytes of an owner that holds a lock, 1,024 at most. A contract sees the bytes.
@@ -49,7 +49,7 @@ impl HolderBytes {
     }
 }
 
-/// A lock that stands against another, as LOCK and LOCKT tell it (RFC 7531, LOCK4denied).
+/// A lock that stands against another, as LOCK and LOCKT send it (RFC 7531, LOCK4denied).
 #[derive(Drop)]
 pub struct HeldLock {
     /// The first byte.
@@ -64,7 +64,7 @@ pub struct HeldLock {
     pub owner: HolderBytes,
 }
 
-/// What an operation tells: how it ended, and behind the status OK what it gives.
+/// What an operation is answered: how it ended, and behind the status OK what it gives.
 #[derive(Drop)]
 pub enum Told {
     /// It ended so, and gives nothing.
@@ -85,7 +85,7 @@ pub enum Told {
     Kept(ResultBytes),
 }
 
-/// Whether it is as short as every result but that of a lock that is denied: 104 bytes at most.
+/// Whether it is as short as every result except that of a lock that is denied: 104 bytes at most.
 pub(crate) fn is_short(bytes: &[u8]) -> bool
     ensures { result ≡ is_short bytes.now }
 {

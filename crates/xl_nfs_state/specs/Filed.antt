@@ -10,7 +10,7 @@ abbrev pub places : {K : Type 0} → List (K × ℕ) → List ℕ
 places entries = map (λ e. e.1) entries
 
 module _ {R : Type 0} where
-  -- a row where there is one, in front of others
+  -- a row if there is one, in front of others
   abbrev pub front : Option R → List R → List R
   front None rows = rows
   front (Some row) rows = row ∷ rows
@@ -20,12 +20,12 @@ module _ {R : Type 0} where
   rows_at slab [] = []
   rows_at slab (at ∷ ats) = front (get slab at) (rows_at slab ats)
 
-  -- the row, where it isn't dropped
+  -- the row, if it isn't dropped
   abbrev pub left : (R → Bool) → Option R → Option R
   left drops None = None
   left drops (Some row) = cond (drops row) None (Some row)
 
-  -- the row, changed where it stands at the place that was found
+  -- the row, changed if it stands at the place that was found
   abbrev pub written : (R → R) → Option ℕ → ℕ → Option R → Option R
   written to None at row = row
   written to (Some place) at row = option_map (λ r. cond (place == at) (to r) r) row

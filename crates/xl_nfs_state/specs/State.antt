@@ -100,7 +100,7 @@ last_number [] = 0
 last_number (o ∷ []) = o.number
 last_number (o ∷ p ∷ os) = last_number (p ∷ os)
 
--- the number that a new owner takes; None where there is no room, or no further number (STATE-2)
+-- the number that a new owner takes; None if there is no room, or no further number (STATE-2)
 abbrev pub next_owner : List OwnerRow → Option ℕ
 next_owner os = if nat_lt (length os) most_owners && nat_lt (last_number os + 1) (2 ^ 64) then Some (last_number os + 1) else None
 

@@ -8,7 +8,7 @@ use Rattle.xl_nfs_state.specs.declared.seqid.SeqidVerdict.TheVariants.{New, Next
 abbrev pub next_seqid : ℕ → ℕ
 next_seqid seqid = (seqid + 1) % 2 ^ 32
 
--- An owner that isn't there may begin anywhere. Else the seqid after the last is next; the last itself is a repeat, where
+-- An owner that isn't there may begin anywhere. Else the seqid after the last is next; the last itself is a repeat, if
 -- the operation is the last one's too; and any other is bad (STATE-3).
 abbrev pub verdict : Option SeqidState → ℕ → ℕ → SeqidVerdict
 verdict None op seqid = New

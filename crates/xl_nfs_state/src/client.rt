@@ -14,7 +14,7 @@ use xl_base::{Moment, Sequence};
 /// Where a client is called back (RFC 7530 16.33, `cb_client4` and `callback_ident`).
 #[derive(Drop)]
 pub struct Callback {
-    /// The program number of the client's callbacks; 0 where it takes none.
+    /// The program number of the client's callbacks; 0 if it takes none.
     pub program: u32,
     /// The network that the address is of (RFC 5665).
     pub netid: Sequence<u8>,
@@ -27,7 +27,7 @@ pub struct Callback {
 /// What a client's record says beside its keys.
 #[derive(Drop)]
 pub struct ClientDetails {
-    /// The verifier that changes where the client starts anew (RFC 7530 9.1.1).
+    /// The verifier that changes if the client starts anew (RFC 7530 9.1.1).
     pub verifier: [u8; 8],
     /// The verifier that SETCLIENTID_CONFIRM has to repeat (RFC 7530 16.34).
     pub confirm: [u8; 8],

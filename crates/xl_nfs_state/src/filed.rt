@@ -142,7 +142,7 @@ impl<R: Row> Filed<R> {
         Ok(())
     }
 
-    /// Changes the row of this first key, where there is one.
+    /// Changes the row of this first key, if there is one.
     pub(crate) fn change<Q: Equivalent<R::Number>, C: Change<R> + Drop>(&mut self, number: Q, to: C)
         ensures { self.new ≡ changed (λ row. Q.equivalent number (R.number row)) (C.after to) self.old }
     {

@@ -13,7 +13,7 @@ use indexmap::IndexMap;
 use std::alloc::{AllocError, Global};
 use std::marker::Model;
 
-/// A result that is kept: it answers its owner's last request where that comes again (RFC 7530 9.1.8).
+/// A result that is kept: it answers its owner's last request if that comes again (RFC 7530 9.1.8).
 #[derive(Drop)]
 pub struct KeptRow {
     /// The number of the owner.

@@ -33,7 +33,7 @@ impl SeqidState {
     }
 }
 
-/// What the seqid says of a request by an owner whose requests have come this far; None where the owner is new. The
+/// What the seqid says of a request by an owner whose requests have come this far; None if the owner is new. The
 /// seqid after 2^32 - 1 is 0.
 pub fn verdict(seqids: Option<SeqidState>, op: u32, seqid: u32) -> SeqidVerdict
     ensures { result ≡ verdict seqids op seqid }

@@ -37,9 +37,9 @@ impl From<AllocError> for NfsStateErr {
 }
 
 /// What the server remembers of its NFSv4.0 clients. A contract sees four lists, each in order of arrival: clients,
-/// where an id string's confirmed and its unconfirmed record are two rows; owners, of opens and of locks; stateids, of
-/// opens (a closed one as long as it is known), locks and delegations; and kept results, one an owner. A row is found
-/// by its number or name without a walk.
+/// of which an id string's confirmed and its unconfirmed record are two rows; owners, of opens and of locks; stateids,
+/// of opens (a closed one as long as it is known), locks and delegations; and kept results, one an owner. A row is
+/// found by its number or name without a walk.
 #[derive(Drop)]
 pub struct NfsState {
     clients: Filed<ClientRow>,

@@ -41,7 +41,7 @@ unfoldable pub holder : Format HolderItem RpcBad
 holder = seen (λ h. record { exclusive = h.0; svid = h.1.0; oh = h.1.1.0; l_offset = h.1.1.1.0; l_len = h.1.1.1.1 })
     (λ h. (h.exclusive, (h.svid, (h.oh, (h.l_offset, h.l_len))))) (flag ⋆ i32 ⋆ name ⋆ u64 ⋆ u64) (λ _. refl) (λ _. refl)
 
--- a holder stands just where the status is Denied
+-- a holder stands just if the status is Denied
 abbrev pub is_denied : NlmStatus → Bool
 is_denied stats.Denied = true
 is_denied _ = false

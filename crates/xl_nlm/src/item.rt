@@ -33,7 +33,7 @@ pub struct TestArgs<'a> {
 pub struct LockArgs<'a> {
     /// What the reply repeats.
     pub cookie: &'a [u8],
-    /// Whether the request waits where the lock can't be had.
+    /// Whether the request waits if the lock can't be had.
     pub block: bool,
     /// Whether the lock is exclusive.
     pub exclusive: bool,
@@ -176,11 +176,11 @@ pub struct TestRes<'a> {
     pub cookie: &'a [u8],
     /// How it ended.
     pub stat: NlmStatus,
-    /// The holder, just where the status is Denied.
+    /// The holder, just if the status is Denied.
     pub holder: Option<Holder<'a>>,
 }
 
-/// The result of the calls on locks but TEST (nlm4_res).
+/// The result of the calls on locks except TEST (nlm4_res).
 #[derive(Clone, Copy)]
 pub struct Res<'a> {
     /// The call's cookie.

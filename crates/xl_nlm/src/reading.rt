@@ -120,8 +120,8 @@ pub fn is_known(proc: u32) -> bool
 }
 
 /// The arguments of a procedure whose arguments are known, read from the front; what stands behind them is left. A
-/// fault is the first in reading order: Short where the bytes end within them, Pad and Bool as in XDR, TooLong where a
-/// name or a netobj has more than 1,024 bytes, Value where a mode or an access is above 3. It leaves the reader as it
+/// fault is the first in reading order: Short if the bytes end within them, Pad and Bool as in XDR, TooLong if a
+/// name or a netobj has more than 1,024 bytes, Value if a mode or an access is above 3. It leaves the reader as it
 /// was.
 pub fn read<'a>(proc: u32, args: &mut Xdr<'a>) -> Result<NlmCall<'a>, RpcBad>
     requires { IsTrue (is_known proc) }

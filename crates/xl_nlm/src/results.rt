@@ -92,8 +92,8 @@ fn read_results<'a>(proc: u32, body: &mut Xdr<'a>) -> Result<NlmReply<'a>, RpcBa
 }
 
 /// The results of a procedure whose results are known, read from the front; what stands behind them is left. A fault is
-/// the first in reading order: Short where the bytes end within them, Pad and Bool as in XDR, TooLong where a cookie or
-/// an owner has more than 1,024 bytes, Value where a status is above 9. It leaves the reader as it was.
+/// the first in reading order: Short if the bytes end within them, Pad and Bool as in XDR, TooLong if a cookie or
+/// an owner has more than 1,024 bytes, Value if a status is above 9. It leaves the reader as it was.
 pub fn read_result<'a>(proc: u32, body: &mut Xdr<'a>) -> Result<NlmReply<'a>, RpcBad>
     requires { IsTrue (is_known proc) }
     // What is read is spelled so.

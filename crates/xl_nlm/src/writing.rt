@@ -193,7 +193,7 @@ fn put_results(out: &mut XdrOut, reply: &NlmReply) -> Result<(), AllocError>
     }
 }
 
-/// Writes the results of a call, whose cookie and owner have at most 1,024 bytes and which have a holder just where the
+/// Writes the results of a call, whose cookie and owner have at most 1,024 bytes and which have a holder just if the
 /// status is Denied. Want of memory leaves what was written before as it was.
 #[tactic(auto, using(xl_rpc::proofs::XdrLaws::taken_back, crate::proofs::AgainLaws::reply_again))]
 pub fn write_result(out: &mut XdrOut, reply: &NlmReply) -> Result<(), AllocError>

@@ -22,8 +22,8 @@ pub record IsReady (most : ℕ) (s : CoreState) : Type 0 where
   pub good : IsGood s
   pub numbers : numbers_of s + most + numbers_left < 2 ^ 32
 
--- the state is good, the stores of the step go on, these numbers more were given out at most, also with those that who waits
--- and the recalls of delegations may take, and no name came but one of which P holds
+-- the state is good, the stores of the step go on, these numbers more were given out at most, also with those that who
+-- waits and the recalls of delegations may take, and no name came except one of which P holds
 pub record Leaves (P : Name → Type 0) (most : ℕ) (old new : CoreState) : Type 0 where
   pub on : GoesOn old new
   pub good : IsGood new

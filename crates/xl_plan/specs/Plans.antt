@@ -10,9 +10,10 @@ use Rattle.xl_core.specs.declared.ask.Effect.{Effect}
 
 -- ---- a plan
 
--- F is what the front keeps, and T what an operation is told. It is told this, and nothing is done; or these deeds are done to
--- the core, this is kept and this is told; or these deeds are done and this is kept, and the rest is by the core that is left;
--- or this is asked, with this room left in the fronts' tables, and the rest is by the answer and the core that is left.
+-- F is what the front keeps, and T what an operation is answered. It is answered with this, and nothing is done; or
+-- these deeds are done to the core, this is kept and this is answered; or these deeds are done and this is kept, and
+-- the rest is by the core that is left; or this is asked, with this room left in the fronts' tables, and the rest is by
+-- the answer and the core that is left.
 pub data Plan (F T : Type 0) : Type 0 where
   Tells : T → Plan F T
   Does : List Deed → F → T → Plan F T
@@ -26,7 +27,7 @@ deeds_of n s (Does deeds kept told) = deeds
 deeds_of n s (Behind deeds kept rest) = deeds ++ deeds_of n (all_done n s deeds) (rest (all_done n s deeds))
 deeds_of n s (Asking left a rest) = Asks left a ∷ deeds_of n (ask n left s a).2 (rest (ask n left s a).0 (ask n left s a).2)
 
--- what is told, what the core tells of besides, what the front keeps, and the core
+-- what is answered, what the core tells of besides, what the front keeps, and the core
 abbrev pub Outcome : Type 0 → Type 0 → Type 0
 Outcome F T = T × List Effect × F × CoreState
 
@@ -34,7 +35,7 @@ Outcome F T = T × List Effect × F × CoreState
 abbrev pub told_behind : {F T : Type 0} → List Effect → Outcome F T → Outcome F T
 told_behind effects r = (r.0, effects ++ r.1, r.2, r.3)
 
--- what it comes to, where the front kept this before
+-- what it comes to, if the front kept this before
 abbrev pub carried : {F T : Type 0} → ℕ → CoreState → F → Plan F T → Outcome F T
 carried n s f (Tells told) = (told, [], f, s)
 carried n s f (Does deeds kept told) = (told, all_told_of n s deeds, kept, all_done n s deeds)
@@ -43,7 +44,7 @@ carried n s f (Asking left a rest) = told_behind (ask n left s a).1 (carried n (
 
 -- ---- one behind another
 
--- the second is planned by what the first is told, by the core that it leaves, and by what the front keeps then
+-- the second is planned by what the first is answered, by the core that it leaves, and by what the front keeps then
 abbrev pub bind : {F T U : Type 0} → CoreState → F → Plan F T → (T → CoreState → F → Plan F U) → Plan F U
 bind s f (Tells told) next = next told s f
 bind s f (Does deeds kept told) next = Behind deeds kept (λ t. next told t kept)
@@ -59,7 +60,7 @@ deeds_next n r next = deeds_of n r.3 (next r.0 r.3 r.2)
 
 -- ---- a plan within a larger one
 
--- a plan of a part of what the front keeps: G is kept while the part is F, and at its end this is told and kept
+-- a plan of a part of what the front keeps: G is kept while the part is F, and at its end this is answered and kept
 abbrev pub within : {F G T U : Type 0} → (F → G) → (T → F → U × G) → F → Plan F T → Plan G U
 within keep end f (Tells told) = Does [] (end told f).1 (end told f).0
 within keep end f (Does deeds kept told) = Does deeds (end told kept).1 (end told kept).0
@@ -82,7 +83,7 @@ AllDeeds P n s plan = AllAt P n s (deeds_of n s plan)
 
 -- ---- what holds whichever way it goes, whatever is answered and whatever core is left
 
--- of what is told at each end
+-- of what is answered at each end
 abbrev pub AllEnds : {F T : Type 0} → (T → Type 0) → Plan F T → Type 0
 AllEnds E (Tells told) = E told
 AllEnds E (Does deeds kept told) = E told

@@ -9,8 +9,8 @@ ghost use Rattle.xl_names.specs.declared.name.Name.{Name};
 ghost use Rattle.xl_plan.specs.Budgets.{IsReady, Leaves};
 ghost use Rattle.xl_plan.specs.Rows.{row};
 
-/// A plan leaves what its deeds leave, and tells of what they tell of. Where each of its deeds is one that the core takes, the
-/// core takes them in a row, and stays good; and what is true of each of them is true of all in a row.
+/// A plan leaves what its deeds leave, and tells of what they tell of. If each of its deeds is one that the core takes,
+/// the core takes them in a row, and stays good; and what is true of each of them is true of all in a row.
 #[tactic(auto, using(crate::proofs::PlanLaws::plan_does, crate::proofs::PlanLaws::plan_tells, crate::proofs::PlanLaws::plan_fits, crate::proofs::PlanLaws::plan_each, crate::proofs::PlanLaws::plan_good))]
 pub fn plans_are_their_deeds<F, T>()
     ensures done { (n : ℕ) (s : CoreState) (f : F) (p : Plan F T) → (carried n s f p).3 ≡ all_done n s (deeds_of n s p) }
@@ -20,8 +20,8 @@ pub fn plans_are_their_deeds<F, T>()
     ensures good { (n : ℕ) (s : CoreState) (f : F) (p : Plan F T) → IsGood s → AllDeeds IsFitDeed n s p → IsGood (carried n s f p).3 }
 {}
 
-/// What is true at each end of a plan, whichever way it goes, is true of what is told; and what is true of all that the front
-/// keeps along it, and of what it kept before, is true of what it keeps then.
+/// What is true at each end of a plan, whichever way it goes, is true of what is answered; and what is true of all that
+/// the front keeps along it, and of what it kept before, is true of what it keeps then.
 #[tactic(auto, using(crate::proofs::PlanLaws::ends_so, crate::proofs::PlanLaws::kept_so))]
 pub fn plans_end_as_all_their_ends<F, T>()
     ensures told { (n : ℕ) (s : CoreState) (f : F) (p : Plan F T) (test : T → Bool) → AllEnds (λ told. test told ≡ true) p → test (carried n s f p).0 ≡ true }
@@ -36,8 +36,8 @@ pub fn plans_follow_one_another<F, T, U>()
     ensures carried { (n : ℕ) (s : CoreState) (f : F) (p : Plan F T) (next : T → CoreState → F → Plan F U) → carried n s f (bind s f p next) ≡ carried_next n (carried n s f p) next }
 {}
 
-/// Operations in a row: where others go on behind the first they come to what they come to behind it, with what it told of;
-/// where none does the row comes to what the first comes to, and does what it does.
+/// Operations in a row: if others go on behind the first they come to what they come to behind it, with what it told
+/// of; if none does the row comes to what the first comes to, and does what it does.
 #[tactic(auto, using(crate::proofs::RowLaws::row_goes, crate::proofs::RowLaws::row_stops, crate::proofs::RowLaws::row_ends))]
 pub fn rows_go_on<F, T, Op>()
     ensures goes { (plan : T → CoreState → F → Op → Plan F T) (goes : T → Bool) (n : ℕ) (told : T) (s : CoreState) (f : F) (op : Op) (ops : List Op) → goes (carried n s f (plan told s f op)).0 ≡ true → carried n s f (row plan goes told s f (op ∷ ops)) ≡ told_behind (carried n s f (plan told s f op)).1 (carried n (carried n s f (plan told s f op)).3 (carried n s f (plan told s f op)).2 (row plan goes (carried n s f (plan told s f op)).0 (carried n s f (plan told s f op)).3 (carried n s f (plan told s f op)).2 ops)) }

@@ -1,6 +1,6 @@
-//! Plans: what becomes of an operation of a front, whatever protocol it came by, as a value. It has the deeds that are done to
-//! the core, what the front keeps, and what is told; plans follow one another. Here are the definitions and their laws; there
-//! is no code.
+//! Plans: what becomes of an operation of a front, whatever protocol it came by, as a value. It has the deeds that are
+//! done to the core, what the front keeps, and what is answered; plans follow one another. Here are the definitions and
+//! their laws; there is no code.
 #![tactic(auto)]
 
 mod law;

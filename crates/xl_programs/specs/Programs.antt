@@ -73,6 +73,7 @@ incoming_by (Ok call) = in_some call.0 call.1 (program_at call.0.prog)
 incoming_by (Err (bad.Version xid)) = Refused xid (RpcMismatch 2 2)
 incoming_by (Err _) = Unanswered
 
--- what isn't a call of ONC RPC is not answered, except that a call of another version of it is told so (RPC-2, RPC-3)
+-- what isn't a call of ONC RPC is not answered, except that a call of another version of it is answered so (RPC-2,
+-- RPC-3)
 unfoldable pub incoming_at : List ℕ → IncomingItem
 incoming_at bytes = incoming_by (call_at bytes)

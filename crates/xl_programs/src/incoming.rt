@@ -54,7 +54,7 @@ fn in_program<'a>(call: Call<'a>, program: Program) -> Incoming<'a>
     }
 }
 
-/// What a record without its frame is: no call (RFC 5531 9) is not answered, but one of another RPC version is told
+/// What a record without its frame is: no call (RFC 5531 9) is not answered, except one of another RPC version, with
 /// RPC_MISMATCH; then PROG_UNAVAIL, PROG_MISMATCH and PROC_UNAVAIL are answered, in this order.
 #[tactic(auto, unfolding(crate::specs::Programs::incoming_at))]
 pub fn read_incoming(bytes: &[u8]) -> Incoming<'_>

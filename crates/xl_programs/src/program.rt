@@ -21,7 +21,7 @@ pub const NFS: u32 = 100_003;
 pub const NFS_VERSION: u32 = 4;
 
 impl Program {
-    /// The program of this number, where it is served in some version.
+    /// The program of this number, if it is served in some version.
     pub fn at(number: u32) -> Option<Program>
         ensures { result ≡ program_at number }
     {

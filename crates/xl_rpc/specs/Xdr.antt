@@ -103,7 +103,7 @@ Begins front bytes = (rest : List ℕ) × (bytes ≡ front ++ rest)
 abbrev pub Keeps : List ℕ → List ℕ → Type 0
 Keeps old new = (front : List ℕ) → Begins front old → Begins front new
 
--- Behind what was written before, this was written; where memory ran out within it, all that stood before stands still.
+-- Behind what was written before, this was written; if memory ran out within it, all that stood before stands still.
 abbrev pub Puts : {E : Type 0} → Result (Unit {0}) E → List ℕ → List ℕ → List ℕ → Type 0
 Puts result old new text = OnOk result (new ≡ old ++ text) × Keeps old new
 

@@ -92,9 +92,9 @@ fn read_head(bytes: &[u8]) -> Result<Call<'_>, RpcBad>
     Ok(Call { head, args: xdr })
 }
 
-/// The call at the front of a record, with its arguments unread. A fault is the first in reading order: Short where the
-/// bytes end within the head, NotCall where the message type is not 0, Version where the RPC version is not 2, TooLong
-/// where a credential or verifier has more than 400 bytes, Pad where its padding is not zero.
+/// The call at the front of a record, with its arguments unread. A fault is the first in reading order: Short if the
+/// bytes end within the head, NotCall if the message type is not 0, Version if the RPC version is not 2, TooLong
+/// if a credential or verifier has more than 400 bytes, Pad if its padding is not zero.
 pub fn read_call(bytes: &[u8]) -> Result<Call<'_>, RpcBad>
     // What is read is spelled so.
     ensures found { IfOk result (λ c. (bytes.now ≡ call (shown_head c.head) ++ c.args.rest.now) × HeadFits (shown_head c.head)) }

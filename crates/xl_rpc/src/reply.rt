@@ -153,8 +153,8 @@ fn read_all(bytes: &[u8]) -> Result<Reply<'_>, RpcBad>
 }
 
 /// The reply at the front of a record, with what stands behind it unread. A fault is the first in reading order: Short
-/// where the bytes end within it, NotCall where the message type is not 1, Value where a stat is none of its item or the
-/// verifier of an accepted reply is not AUTH_NONE, TooLong where that verifier has bytes.
+/// if the bytes end within it, NotCall if the message type is not 1, Value if a stat is none of its item or the
+/// verifier of an accepted reply is not AUTH_NONE, TooLong if that verifier has bytes.
 pub fn read_reply(bytes: &[u8]) -> Result<Reply<'_>, RpcBad>
     // What is read is spelled so.
     ensures found { IfOk result (λ r. (bytes.now ≡ reply r.xid r.verdict ++ r.body.rest.now) × (UnsignedFits r.xid × VerdictFits r.verdict)) }
@@ -230,7 +230,7 @@ fn put_reply(out: &mut XdrOut, xid: u32, verdict: Verdict) -> Result<(), AllocEr
     Ok(())
 }
 
-/// Writes a reply up to its results, which follow it where the verdict is Success. Want of memory leaves what was
+/// Writes a reply up to its results, which follow it if the verdict is Success. Want of memory leaves what was
 /// written before as it was.
 #[tactic(auto, using(crate::proofs::XdrLaws::taken_back, crate::proofs::ReplyLaws::reply_again))]
 pub fn write_reply(out: &mut XdrOut, xid: u32, verdict: Verdict) -> Result<(), AllocError>

@@ -6,7 +6,7 @@ use crate::xdr::padding;
 use std::alloc::{AllocError, Global};
 use std::marker::Model;
 
-/// Writes a message by an expression that writes its items one behind the other: where memory runs out within it, what
+/// Writes a message by an expression that writes its items one behind the other: if memory runs out within it, what
 /// was written of it is taken back.
 #[macro_export]
 macro_rules! put_whole {

@@ -30,7 +30,7 @@ impl<'a> Xdr<'a> {
         self.rest
     }
 
-    /// An unsigned integer (RFC 4506 4.2). Short where fewer than four bytes are left.
+    /// An unsigned integer (RFC 4506 4.2). Short if fewer than four bytes are left.
     pub fn u32(&mut self) -> Result<u32, RpcBad>
         ensures { Advances (λ n. n) result self.old.rest.now self.new.rest.now (unsigned_at self.old.rest.now) }
     {
@@ -39,7 +39,7 @@ impl<'a> Xdr<'a> {
         Ok(number)
     }
 
-    /// An unsigned hyper integer (RFC 4506 4.5). Short where fewer than eight bytes are left.
+    /// An unsigned hyper integer (RFC 4506 4.5). Short if fewer than eight bytes are left.
     pub fn u64(&mut self) -> Result<u64, RpcBad>
         ensures { Advances (λ n. n) result self.old.rest.now self.new.rest.now (hyper_at self.old.rest.now) }
     {
@@ -48,7 +48,7 @@ impl<'a> Xdr<'a> {
         Ok(number)
     }
 
-    /// An integer (RFC 4506 4.1). Short where fewer than four bytes are left.
+    /// An integer (RFC 4506 4.1). Short if fewer than four bytes are left.
     pub fn i32(&mut self) -> Result<i32, RpcBad>
         ensures { Advances (λ z. z) result self.old.rest.now self.new.rest.now (signed_at self.old.rest.now) }
     {
@@ -57,7 +57,7 @@ impl<'a> Xdr<'a> {
         Ok(number)
     }
 
-    /// A bool (RFC 4506 4.4). Short where fewer than four bytes are left, Bool where they are another number than 0
+    /// A bool (RFC 4506 4.4). Short if fewer than four bytes are left, Bool if they are another number than 0
     /// and 1.
     pub fn boolean(&mut self) -> Result<bool, RpcBad>
         ensures { Advances (λ b. b) result self.old.rest.now self.new.rest.now (boolean_at self.old.rest.now) }
@@ -67,8 +67,8 @@ impl<'a> Xdr<'a> {
         Ok(flag)
     }
 
-    /// Opaque data or a string of at most `max` bytes (RFC 4506 4.10, 4.11). Short where the length, the data or the
-    /// padding is cut, TooLong where the length is above `max`, Pad where the padding is not zero.
+    /// Opaque data or a string of at most `max` bytes (RFC 4506 4.10, 4.11). Short if the length, the data or the
+    /// padding is cut, TooLong if the length is above `max`, Pad if the padding is not zero.
     pub fn opaque(&mut self, max: u32) -> Result<&'a [u8], RpcBad>
         ensures { Advances (λ s. s.now) result self.old.rest.now self.new.rest.now (opaque_at max self.old.rest.now) }
     {
@@ -77,7 +77,7 @@ impl<'a> Xdr<'a> {
         Ok(bytes)
     }
 
-    /// Opaque data of just `n` bytes (RFC 4506 4.9). Short where the data or the padding is cut, Pad where the padding
+    /// Opaque data of just `n` bytes (RFC 4506 4.9). Short if the data or the padding is cut, Pad if the padding
     /// is not zero.
     pub fn fixed(&mut self, n: u32) -> Result<&'a [u8], RpcBad>
         ensures { Advances (λ s. s.now) result self.old.rest.now self.new.rest.now (opaque_fixed_at n self.old.rest.now) }
@@ -87,7 +87,7 @@ impl<'a> Xdr<'a> {
         Ok(bytes)
     }
 
-    /// An array of unsigned integers (RFC 4506 4.13), as the bytes of its words. Short where the count or a word is cut.
+    /// An array of unsigned integers (RFC 4506 4.13), as the bytes of its words. Short if the count or a word is cut.
     pub fn words(&mut self) -> Result<&'a [u8], RpcBad>
         ensures { Advances (λ s. s.now) result self.old.rest.now self.new.rest.now (words_at self.old.rest.now) }
     {

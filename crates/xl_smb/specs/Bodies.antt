@@ -12,7 +12,7 @@ number_of_fault Magic = 2
 number_of_fault (Size command found) = 3
 number_of_fault Offset = 4
 
--- the size with which a body begins, 0 where its two bytes are cut
+-- the size with which a body begins, 0 if its two bytes are cut
 unfoldable pub size_found : List ℕ → ℕ
 size_found body = if nat_lt (length body) 2 then 0 else u16_at 0 body
 
@@ -24,7 +24,7 @@ has_fixed size fixed body = (size_found body == size) && not (nat_lt (length bod
 unfoldable pub part_at : ℕ → ℕ → List ℕ → Result (List ℕ) SmbBad
 part_at start count frame = if count == 0 then Ok [] else if nat_lt (length frame) (start + count) then Err Offset else Ok (bytes_at count start frame)
 
--- the answer where a command's body begins with this size and its fixed part, of so many bytes, is whole
+-- the answer if a command's body begins with this size and its fixed part, of so many bytes, is whole
 abbrev pub when_fixed : {A : Type 0} → ℕ → ℕ → ℕ → List ℕ → Result A SmbBad → Result A SmbBad
 when_fixed command size fixed body answer = if has_fixed size fixed body then answer else Err (Size command (size_found body))
 

@@ -17,7 +17,7 @@ use Rattle.xl_smb.specs.declared.file.FileStatus.{FileStatus}
 unfoldable pub contexts_at : ℕ → ℕ → List ℕ → Result (List ℕ) SmbBad
 contexts_at start count frame = part_at start count frame >>= λ list. if are_contexts list then Ok list else Err Offset
 
--- where the contexts begin that stand behind so many bytes of the frame, 0 where there are none
+-- where the contexts begin that stand behind so many bytes of the frame, 0 if there are none
 unfoldable pub contexts_place : ℕ → ℕ → ℕ
 contexts_place before contexts = if contexts == 0 then 0 else before
 

@@ -11,7 +11,7 @@ use Rattle.xl_smb.specs.declared.fault.SmbBad.{SmbBad}
 use Rattle.xl_smb.specs.declared.fault.SmbBad.TheVariants.{Short, Magic, Size, Offset}
 use Rattle.xl_smb.specs.declared.head.SmbHead.{SmbHead}
 
--- ---- forms: the size with which a body begins, and the bytes of its fixed part; None where no body is looked at
+-- ---- forms: the size with which a body begins, and the bytes of its fixed part; None if no body is looked at
 
 -- of a request; an odd size counts the first byte behind the fixed part, and that of LOCK its first range (SMB-3)
 abbrev pub call_forms : Option Command → Option (List (ℕ × ℕ))

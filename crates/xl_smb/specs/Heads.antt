@@ -46,7 +46,7 @@ has_mark frame = bytes_eq (bytes_at 6 0 frame) mark
 abbrev pub is_set : ℕ → ℕ → Bool
 is_set flag flags = not (bit_and flags flag == 0)
 
--- the tree, or the pending request where flag 2 is set
+-- the tree, or the pending request if flag 2 is set
 unfoldable pub route_at : List ℕ → Route
 route_at frame = if is_set 2 (u32_at 16 frame) then Async (u64_at 32 frame) else Tree (u32_at 36 frame)
 

@@ -24,7 +24,7 @@ pub enum Break {
     Lease(Lease),
 }
 
-/// What the server tells a client whose cache is broken.
+/// What the server sends a client whose cache is broken.
 #[derive(Clone, Copy)]
 pub enum Notice {
     /// Of an oplock: the level that may be kept, and the open (MS-SMB2 2.2.23.1).
@@ -36,7 +36,7 @@ pub enum Notice {
 /// The break of a lease.
 #[derive(Clone, Copy)]
 pub struct LeaseNotice {
-    /// 1 where an acknowledgement is awaited.
+    /// 1 if an acknowledgement is awaited.
     pub flags: u32,
     /// The lease's key.
     pub key: [u8; 16],

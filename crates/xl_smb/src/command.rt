@@ -30,7 +30,7 @@ pub enum Command {
 }
 
 impl Command {
-    /// The command of a number, None where its messages aren't read.
+    /// The command of a number, None if its messages aren't read.
     pub fn of(number: u16) -> Option<Command>
         ensures { result ≡ command_of number }
     {

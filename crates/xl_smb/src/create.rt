@@ -21,7 +21,7 @@ pub struct CreateCall<'a> {
     pub desired_access: u32,
     /// What others may open it for: 1 read, 2 write, 4 delete.
     pub share_access: u32,
-    /// What to do where the file is there or isn't, 0 to 5.
+    /// What to do if the file is there or isn't, 0 to 5.
     pub disposition: u32,
     /// How to open it.
     pub options: u32,
@@ -95,7 +95,7 @@ pub(crate) fn create_reply_at<'a>(frame: &'a [u8], body: &[u8]) -> Result<Create
     })
 }
 
-/// How many zeros stand between a name and the contexts behind it, which begin at a multiple of 8; none where there are
+/// How many zeros stand between a name and the contexts behind it, which begin at a multiple of 8; none if there are
 /// no contexts.
 #[tactic(auto, unfolding(crate::specs::Creates::padding))]
 fn padding(name: usize, contexts: usize) -> usize
@@ -108,7 +108,7 @@ fn padding(name: usize, contexts: usize) -> usize
     (8 - name % 8) % 8
 }
 
-/// Where the contexts begin that stand behind so many bytes of the frame, 0 where there are none.
+/// Where the contexts begin that stand behind so many bytes of the frame, 0 if there are none.
 #[tactic(auto, unfolding(crate::specs::Creates::contexts_place))]
 fn contexts_place(before: usize, contexts: usize) -> u32
     requires { before < 2 ^ 32 }

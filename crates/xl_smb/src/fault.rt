@@ -14,7 +14,7 @@ pub enum SmbBad {
     #[error("the mark or the header's size is another")]
     Magic,
     /// The body of this command begins with another size than its layouts have, the second number, or is cut within
-    /// its fixed part. The size is 0 where its two bytes are cut.
+    /// its fixed part. The size is 0 if its two bytes are cut.
     #[error("the body of command {0} is cut, or has another size than its own; it begins with the size {1}")]
     Size(u16, u16),
     /// A part that the body names leaves the frame, or a create context leaves its list.

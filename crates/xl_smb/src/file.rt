@@ -13,7 +13,7 @@ pub struct FileId {
     pub volatile: u64,
 }
 
-/// What a file is, as the replies to CREATE and CLOSE tell. Times are in units of 100 ns since 1601.
+/// What a file is, as the replies to CREATE and CLOSE give it. Times are in units of 100 ns since 1601.
 #[derive(Clone, Copy)]
 pub struct FileStatus {
     /// When it was made.

@@ -37,7 +37,7 @@ pub struct SmbHead {
     pub route: Route,
     /// The session, 0 for none.
     pub session_id: u64,
-    /// The signature, zeros where the message isn't signed.
+    /// The signature, zeros if the message isn't signed.
     pub signature: [u8; 16],
 }
 
@@ -92,7 +92,7 @@ fn route_at(frame: &[u8]) -> Route
     }
 }
 
-/// Reads the header of a message, whatever stands behind it: Short where there are fewer than 64 bytes, else Magic where
+/// Reads the header of a message, whatever stands behind it: Short if there are fewer than 64 bytes, else Magic if
 /// the first six aren't the mark and the header's size.
 #[tactic(auto, unfolding(crate::specs::Heads::head_of))]
 pub fn read_head(frame: &[u8]) -> Result<SmbHead, SmbBad>

@@ -16,7 +16,7 @@ pub struct Lease {
     pub key: [u8; 16],
     /// What may be cached: 1 read, 2 handle, 4 write.
     pub state: u32,
-    /// 2 where a break runs.
+    /// 2 if a break runs.
     pub flags: u32,
     /// Not used; zero.
     pub duration: u64,
@@ -36,7 +36,7 @@ struct Context<'a> {
 }
 
 impl<'a> Contexts<'a> {
-    /// The data of the first context of this name and this length. None where there is none, and where a context leaves
+    /// The data of the first context of this name and this length. None if there is none, and if a context leaves
     /// the list, which no message that was read has.
     pub fn find(self, name: &[u8], size: usize) -> Option<&'a [u8]>
         ensures { option_map (λ content. content.now) result ≡ find name.now size self.entry.0.now }
@@ -73,7 +73,7 @@ fn context_at(list: &[u8]) -> Result<Context<'_>, SmbBad>
     })
 }
 
-/// What stands so far on in a list; nothing where that is past its end.
+/// What stands so far on in a list; nothing if that is past its end.
 fn after(list: &[u8], next: u32) -> &[u8]
     ensures { result.now ≡ drop next list.now }
 {

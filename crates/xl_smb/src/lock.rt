@@ -24,9 +24,9 @@ pub struct CloseCall {
 /// What a server answers to CLOSE (MS-SMB2 2.2.16).
 #[derive(Clone, Copy)]
 pub struct CloseReply {
-    /// 1 where the status was asked for.
+    /// 1 if the status was asked for.
     pub flags: u16,
-    /// What the file was, zeros where that wasn't asked for.
+    /// What the file was, zeros if that wasn't asked for.
     pub status: FileStatus,
 }
 

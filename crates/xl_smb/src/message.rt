@@ -24,7 +24,7 @@ pub enum SmbMessage<'a> {
     Call(SmbHead, SmbCall<'a>),
     /// A reply, flag 1.
     Reply(SmbHead, SmbReply<'a>),
-    /// What the server tells without a request. Its header is a reply's to command 18 at status 0 with flag 1 alone, no
+    /// What the server sends without a request. Its header is a reply's to command 18 at status 0 with flag 1 alone, no
     /// credits, no session, no tree, and a message number of all ones.
     Notice(Notice),
 }
@@ -74,11 +74,12 @@ fn told_at<'a>(head: SmbHead, frame: &'a [u8], body: &'a [u8]) -> Result<SmbMess
     Ok(SmbMessage::Call(head, call_of(head.command, frame, body)?))
 }
 
-/// Reads a message, all of the frame. Nothing is copied but numbers: what is as long as its sender likes is borrowed.
+/// Reads a message, all of the frame. Nothing is copied except numbers: what is as long as its sender likes is
+/// borrowed.
 pub fn read(frame: &[u8]) -> Result<SmbMessage<'_>, SmbBad>
     // Which message, or which fault, it is.
     ensures exact { Gives shown result (message_at frame.now) }
-    // The fault is the first that the bytes show, and there is a message just where they show none.
+    // The fault is the first that the bytes show, and there is a message just if they show none.
     ensures fault { result_err result ≡ fault_of frame.now }
     // What is read is of its header, and can be written.
     ensures found { IfOk result (λ message. IsOf (head_at frame.now) (shown message) × HasSpelling (shown message)) }
@@ -138,10 +139,10 @@ fn put_message(out: &mut Vec<u8>, message: SmbMessage<'_>) -> Result<(), AllocEr
     Ok(())
 }
 
-/// Writes a message; the bytes that no field names are zeros. The message has a spelling: its header's flags say whether
-/// it is a reply and which form the header has, its command is that of what it asks or answers, a reply is of the error
-/// form just where its status isn't 0, and none has a notice's header; each length fits its number, ranges and dialects
-/// are whole, and contexts lie within their list.
+/// Writes a message; the bytes that no field names are zeros. The message has a spelling: its header's flags say
+/// whether it is a reply and which form the header has, its command is that of what it asks or answers, a reply is of
+/// the error form just if its status isn't 0, and none has a notice's header; each length fits its number, ranges and
+/// dialects are whole, and contexts lie within their list.
 #[tactic(auto, using(crate::proofs::MessageLaws::message_again, crate::proofs::LengthLaws::message_has))]
 pub fn write(alloc: Global, message: &SmbMessage<'_>) -> Result<Vec<u8>, AllocError>
     requires { HasSpelling (shown message.now) }

@@ -45,7 +45,7 @@ pub(crate) fn u64_at(bytes: &[u8], place: usize) -> u64
     u64::from_le_bytes(bytes_at(bytes, place))
 }
 
-/// The size with which a body begins, 0 where its two bytes are cut.
+/// The size with which a body begins, 0 if its two bytes are cut.
 #[tactic(auto, unfolding(crate::specs::Bodies::size_found))]
 pub(crate) fn size_found(body: &[u8]) -> u16
     ensures { result ≡ size_found body.now }

@@ -36,7 +36,7 @@ all_unlocked (e ∷ es) held = all_unlocked es (unlocked_elements (extent_of e) 
 abbrev pub has_range : Extent → List What → Bool
 has_range extent held = is_among (Range extent true) held || is_among (Range extent false) held
 
--- the unlock is in order, and where these are held one is of its range
+-- the unlock is in order, and if these are held one is of its range
 abbrev pub may_unlock : LockElement → List What → Bool
 may_unlock e held = not (is_some (unlock_fault e)) && has_range (extent_of e) held
 
@@ -49,7 +49,7 @@ abbrev pub fails_or : Option SmbStatus → Told → Told
 fails_or None rest = rest
 fails_or (Some status) rest = Failed status
 
--- what they are told: that they are done, or why the first can't be that can't
+-- what they are answered: that they are done, or why the first can't be that can't
 abbrev pub unlocks_told : List LockElement → List What → Told
 unlocks_told [] held = Locked
 unlocks_told (e ∷ es) held = fails_or (unlock_fault e) (if has_range (extent_of e) held then unlocks_told es (unlocked_elements (extent_of e) held) else Failed RangeNotLocked)

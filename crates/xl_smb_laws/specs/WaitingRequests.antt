@@ -35,10 +35,10 @@ pub record IsUsedOn (key : LeaseKey) (file : ℕ) (l : Lists) : Type 0 where
   pub leases : AllByRecursion (IsOnFile key file) l.leases
   pub waiting : (x : ℕ × Waiting) → IsIn x l.waiting → (other : ℕ) → file_for key x.1.request ≡ Some other → other ≡ file
 
--- The open that this request waits to make may stand: its tree connect is to be the one that the request came by, which is
--- there, on a connection of the open's client; no open stands under its number, which was given out before the request's own; no
--- other request waits to make an open of this number; and the key of the lease that it asks for, if it does, is in use on its file
--- alone.
+-- The open that this request waits to make may stand: its tree connect is to be the one that the request came by, which
+-- is there, on a connection of the open's client; no open is under its number, which was given out before the request's
+-- own; no other request waits to make an open of this number; and the key of the lease that it asks for, if it does, is
+-- in use on its file alone.
 pub record MayStand (l : Lists) (e : ℕ × Waiting) (made : Open) : Type 0 where
   pub held : made.holder ≡ holder.Tree e.1.place
   pub place : has_place e.1.place made.client l ≡ true
@@ -47,8 +47,8 @@ pub record MayStand (l : Lists) (e : ℕ × Waiting) (made : Open) : Type 0 wher
   pub single : (x : ℕ × Waiting) → IsIn x l.waiting → makes_open x.1.request ≡ true → x.1.opened ≡ e.1.opened → x.0 ≡ e.0
   pub keyed : (key : LeaseKey) → is_key key made.client made.lease ≡ true → IsUsedOn key made.file l
 
--- the open whose ranges a request waits for stands under the connection that it came by; an open that it waits to make may stand
--- once it is granted
+-- the open whose ranges a request waits for is under the connection that it came by; an open that it waits to make may
+-- stand once it is granted
 abbrev pub IsUnder : Lists → ℕ × Waiting → Request → Type 0
 IsUnder l e request.Lock = is_open_on e.1.place.connection (open_of e.1.opened l) ≡ true
 IsUnder l e (request.Create made) = MayStand l e made
@@ -66,9 +66,9 @@ abbrev pub IsAskerOf : Waiter → ℕ → Request → Type 0
 IsAskerOf w number request.Lock = Unit {0}
 IsAskerOf w number (request.Create made) = AsksToOpen w number made
 
--- The request of this row waits in the core: a waiter of its number asks for claims of the row's open, and of no other, which is
--- the share alone where the request makes the open; and the open stands under the connection that the request came by, or may
--- stand once it is made.
+-- The request of this row waits in the core: a waiter of its number asks for claims of the row's open, and of no other,
+-- which is the share alone if the request makes the open; and the open is under the connection that the request came
+-- by, or may stand once it is made.
 pub record IsAwaited (s : CoreState) (l : Lists) (e : ℕ × Waiting) : Type 0 where
   pub waiter : Waiter
   pub waits : IsIn waiter s.waiters
@@ -82,7 +82,7 @@ pub record IsAwaited (s : CoreState) (l : Lists) (e : ℕ × Waiting) : Type 0 w
 abbrev pub AreAwaited : CoreState → Lists → Type 0
 AreAwaited s l = AllByRecursion (IsAwaited s l) l.waiting
 
--- The waiter has its row, where it asks for claims of an SMB open: a row of its number, of that open.
+-- The waiter has its row, if it asks for claims of an SMB open: a row of its number, of that open.
 abbrev pub IsKept : Lists → Waiter → Type 0
 IsKept l w = (k : ℕ) → waits_as k w ≡ true → (row : Waiting) × (waiting_of w.id l ≡ Some row) × (row.opened ≡ k)
 

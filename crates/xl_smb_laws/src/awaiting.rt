@@ -32,13 +32,13 @@ ghost use Rattle.xl_front_smb.specs.Laws.{IsLeased};
 ghost use Rattle.xl_front_smb.specs.Plans.{has_room_to_wait};
 ghost use Rattle.xl_front_smb.specs.State.{FrontSmb, empty_smb_front, smb_begin};
 
-/// Each request that waits in the front's lists is a waiter of the core, of the request's open; that stands under the connection
-/// that the request came by, or, where the request makes it, may stand once it is granted: on the tree connect that the request
-/// came by, which is there, under a number that no open has and no other request waits for, and under a lease whose key is in use
-/// on its file alone (MS-SMB2 3.3.4.2, 3.3.5.9, 3.3.5.9.8). So it is at
-/// a start, and stays where a connection opens or ends, and whatever a message does; behind any deeds of the core it is so of each
-/// of which they don't tell that it waits no more; and where the core tells so of one, the others are all that is left. So there is
-/// room for each that is told to wait, and it is kept.
+/// Each request that waits in the front's lists is a waiter of the core, of the request's open; that is under the
+/// connection that the request came by, or, if the request makes it, may stand once it is granted: on the tree connect
+/// that the request came by, which is there, under a number that no open has and no other request waits for, and under
+/// a lease whose key is in use on its file alone (MS-SMB2 3.3.4.2, 3.3.5.9, 3.3.5.9.8). So it is at a start, and stays
+/// if a connection opens or ends, and whatever a message does; behind any deeds of the core it is so of each of which
+/// they don't tell that it waits no more; and if the core tells so of one, the others are all that is left. So there is
+/// room for each that is let wait, and it is kept.
 pub fn waiting_requests_are_awaited()
     ensures kept { (n : ℕ) (left : Rooms) (s : CoreState) (l : Lists) (a : Ask) (id : ℕ) → IsGood s → IsFit a → IsDistinct nat_eq (keys_of l.waiting) → AreAwaited s l → (ask n left s a).0 ≡ Answer.Queued id → has_room_to_wait l id ≡ true }
     ensures waits { (s : CoreState) (l : Lists) → AreAwaited s l → AllByRecursion (λ e. is_waiting e.0 s.waiters ≡ true) l.waiting }
@@ -50,10 +50,11 @@ pub fn waiting_requests_are_awaited()
     ensures deeds { (n : ℕ) (s : CoreState) (l : Lists) (ds : List Deed) (e : ℕ × Waiting) → IsGood s → AreFit n s ds → AreAwaited s l → IsIn e l.waiting → list_any (ends_wait e.0) (all_told_of n s ds) ≡ false → IsAwaited (all_done n s ds) l e }
 {}
 
-/// Each waiter of the core that asks for claims of an SMB open has its row in the front's lists, under its number and of this open:
-/// so who is served, or waits no more, is told (MS-SMB2 3.3.4.2). So it is at a start, where nobody waits, and stays where a
-/// connection opens or ends, whatever a message does, and behind any deeds of the core that are no asks by an SMB open; of who
-/// waits still nothing told that it waits no more, and its row stays where an effect is told that doesn't.
+/// Each waiter of the core that asks for claims of an SMB open has its row in the front's lists, under its number and
+/// of this open: so who is served, or waits no more, is answered (MS-SMB2 3.3.4.2). So it is at a start, as nobody
+/// waits, and stays if a connection opens or ends, whatever a message does, and behind any deeds of the core that are
+/// no asks by an SMB open; of who waits still no effect says that it waits no more, and its row stays behind an effect
+/// that doesn't.
 pub fn waiters_of_opens_are_kept()
     ensures start { (s : CoreState) → s.waiters ≡ [] → AreKept s empty_smb_front.state }
     ensures begins { (f : FrontSmb) (s : CoreState) (conn : ℕ) → AreKept s f.state → AreKept s (smb_begin f conn).state }

@@ -19,9 +19,9 @@ ghost use Rattle.xl_front_smb.specs.Laws.{IsRequest};
 ghost use Rattle.xl_front_smb.specs.Locks.{came_by, request_named};
 ghost use Rattle.xl_front_smb.specs.State.{FrontSmb};
 
-/// What is sent for a CANCEL of a client that names a request which waits is that one's final reply with STATUS_CANCELLED,
-/// alone, and the request waits no more; where it names none, or one that doesn't wait any more, nothing is sent, and nothing
-/// changes (MS-SMB2 3.3.5.16). What is named came by the connection.
+/// What is sent for a CANCEL of a client that names a request which waits is that one's final reply with
+/// STATUS_CANCELLED, alone, and the request waits no more; if it names none, or one that doesn't wait any more, nothing
+/// is sent, and nothing changes (MS-SMB2 3.3.5.16). What is named came by the connection.
 pub fn a_cancel_sends_one_final_reply()
     ensures sent { (n : ℕ) (exports : Exports) (others : ℕ) (f : FrontSmb) (s : CoreState) (conn : ℕ) (bytes : List ℕ) (h : SmbHead) (client : List ℕ) (id : ℕ) (row : Waiting) → IsRequest bytes h CallItem.Cancel → client_of conn f.state ≡ Some client → IsDistinct nat_eq (keys_of f.state.waiting) → request_named conn f.state h.message_id h.route ≡ Some id → waiting_of id f.state ≡ Some row → is_waiting id s.waiters ≡ true → smb_step n exports others f s conn bytes ≡ (failed_outs id row SmbStatus.Cancelled, Effect.Cancelled id ∷ [], record { state = waiting_dropped id f.state }, (cancel s id).1) }
     ensures over { (n : ℕ) (exports : Exports) (others : ℕ) (f : FrontSmb) (s : CoreState) (conn : ℕ) (bytes : List ℕ) (h : SmbHead) (client : List ℕ) (id : ℕ) → IsRequest bytes h CallItem.Cancel → client_of conn f.state ≡ Some client → request_named conn f.state h.message_id h.route ≡ Some id → is_waiting id s.waiters ≡ false → smb_step n exports others f s conn bytes ≡ ([], [], f, s) }

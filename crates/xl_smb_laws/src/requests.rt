@@ -70,10 +70,10 @@ pub fn deeds_are_taken()
     ensures ends { (n : ℕ) (f : FrontSmb) (s : CoreState) (conn : ℕ) → AreFit n s (smb_end_deeds f s conn) }
 {}
 
-/// Each deed of a message draws a number, closes an open under the connection that the message came by, or one that a request
-/// under it waits to make, cancels a request that came by it, answers the break of an oplock of an open under it or of a lease
-/// of its client, or is an ask of an open under it or of a new one: no other open's claims are reached, and no other client's
-/// leases. The end of a connection does nothing but close such opens.
+/// Each deed of a message draws a number, closes an open under the connection that the message came by, or one that a
+/// request under it waits to make, cancels a request that came by it, answers the break of an oplock of an open under
+/// it or of a lease of its client, or is an ask of an open under it or of a new one: no other open's claims are
+/// reached, and no other client's leases. The end of a connection does nothing except close such opens.
 #[tactic(auto, using(crate::proofs::RequestOwn::step_own, crate::proofs::RequestOwn::end_own, crate::proofs::RequestOwn::ends_alone))]
 pub fn deeds_are_the_connections()
     ensures messages { (n : ℕ) (exports : Exports) (others : ℕ) (f : FrontSmb) (s : CoreState) (conn : ℕ) (bytes : List ℕ) → AreOwn f s conn (smb_deeds n exports others f s conn bytes) }
@@ -110,10 +110,11 @@ pub fn requests_come_to_their_outcomes()
     ensures { (n : ℕ) (exports : Exports) (others : ℕ) (f : FrontSmb) (s : CoreState) (conn : ℕ) (bytes : List ℕ) (h : SmbHead) (call : CallItem) → IsRequest bytes h call → smb_step n exports others f s conn bytes ≡ answered conn h (outcome_of n s exports.files others f.state conn h call) }
 {}
 
-/// LOGOFF in a session that is there leaves nothing of it, and all else (MS-SMB2 3.3.5.6): of claims and waiters just those of
-/// no open under it, and of none that a request under it waits to make, of the lists just the opens that are not under it, the
-/// tree connects that are not of it, and the other sessions; each other open stays under its lease; and once who waits no more is
-/// told, of the requests that wait just those that wait for none of these opens. In no session it is refused, and changes nothing.
+/// LOGOFF in a session that is there leaves nothing of it, and all else (MS-SMB2 3.3.5.6): of claims and waiters just
+/// those of no open under it, and of none that a request under it waits to make, of the lists just the opens that are
+/// not under it, the tree connects that are not of it, and the other sessions; each other open stays under its lease;
+/// and once who waits no more is answered, of the requests that wait just those that wait for none of these opens. In
+/// no session it is refused, and changes nothing.
 pub fn a_logoff_leaves_nothing()
     ensures told { (n : ℕ) (s : CoreState) (files : List (List ℕ)) (others : ℕ) (l : Lists) (conn : ℕ) (h : SmbHead) (client : List ℕ) (session : ℕ) → IsInSession s l conn h client session → (outcome_of n s files others l conn h CallItem.Logoff).0 ≡ Told.LoggedOff }
     ensures core { (n : ℕ) (s : CoreState) (files : List (List ℕ)) (others : ℕ) (l : Lists) (conn : ℕ) (h : SmbHead) (client : List ℕ) (session : ℕ) → IsInSession s l conn h client session → Without (leavers_under s.names (Scope.Session session) l) s (outcome_of n s files others l conn h CallItem.Logoff).3 }
@@ -127,9 +128,10 @@ pub fn a_logoff_leaves_nothing()
 {}
 
 /// TREE_DISCONNECT on a tree connect that is there leaves nothing of it, and all else (MS-SMB2 3.3.5.8): of claims and
-/// waiters just those of no open under it, and of none that a request under it waits to make, of the lists just the opens that
-/// are not under it, and the other tree connects; each other open stays under its lease; and once who waits no more is told, of the
-/// requests that wait just those that wait for none of these opens. In no session, or where the tree connect isn't one of it, it is refused, and changes nothing.
+/// waiters just those of no open under it, and of none that a request under it waits to make, of the lists just the
+/// opens that are not under it, and the other tree connects; each other open stays under its lease; and once who waits
+/// no more is answered, of the requests that wait just those that wait for none of these opens. In no session, or if
+/// the tree connect isn't one of it, it is refused, and changes nothing.
 pub fn a_tree_disconnect_leaves_nothing()
     ensures told { (n : ℕ) (s : CoreState) (files : List (List ℕ)) (others : ℕ) (l : Lists) (conn : ℕ) (h : SmbHead) (client : List ℕ) (session : ℕ) (place : Place) → IsOnTree s l conn h client session place → (outcome_of n s files others l conn h CallItem.TreeDisconnect).0 ≡ Told.Disconnected }
     ensures core { (n : ℕ) (s : CoreState) (files : List (List ℕ)) (others : ℕ) (l : Lists) (conn : ℕ) (h : SmbHead) (client : List ℕ) (session : ℕ) (place : Place) → IsOnTree s l conn h client session place → Without (leavers_under s.names (Scope.Tree place.tree) l) s (outcome_of n s files others l conn h CallItem.TreeDisconnect).3 }
@@ -143,10 +145,10 @@ pub fn a_tree_disconnect_leaves_nothing()
     ensures refused { (n : ℕ) (s : CoreState) (files : List (List ℕ)) (others : ℕ) (l : Lists) (conn : ℕ) (h : SmbHead) (client : List ℕ) (session : ℕ) → IsInSession s l conn h client session → tree_named l conn client h session ≡ None → outcome_of n s files others l conn h CallItem.TreeDisconnect ≡ (Told.Failed SmbStatus.NetworkNameDeleted, [], l, s) }
 {}
 
-/// CLOSE of an open under the connection leaves nothing of it, and all else (MS-SMB2 3.3.5.10): of claims and waiters just
-/// those that are not the open's, of the lists the other opens, and each session and tree connect; and once who waits no more is
-/// told, of the requests that wait just those that don't wait for it. In no session, on no tree connect of it, or of no open under
-/// the connection it is refused, and changes nothing.
+/// CLOSE of an open under the connection leaves nothing of it, and all else (MS-SMB2 3.3.5.10): of claims and waiters
+/// just those that are not the open's, of the lists the other opens, and each session and tree connect; and once who
+/// waits no more is answered, of the requests that wait just those that don't wait for it. In no session, on no tree
+/// connect of it, or of no open under the connection it is refused, and changes nothing.
 pub fn a_close_leaves_nothing()
     ensures told { (n : ℕ) (s : CoreState) (files : List (List ℕ)) (others : ℕ) (l : Lists) (conn : ℕ) (h : SmbHead) (client : List ℕ) (c : CloseCall) (session : ℕ) (place : Place) (number : ℕ) → IsOnTree s l conn h client session place → open_named s l conn c.file_id ≡ Some number → (outcome_of n s files others l conn h (CallItem.Close c)).0 ≡ Told.Closed }
     ensures core { (n : ℕ) (s : CoreState) (files : List (List ℕ)) (others : ℕ) (l : Lists) (conn : ℕ) (h : SmbHead) (client : List ℕ) (c : CloseCall) (session : ℕ) (place : Place) (number : ℕ) → IsOnTree s l conn h client session place → open_named s l conn c.file_id ≡ Some number → Without ((number, party_going s.names l number) ∷ []) s (outcome_of n s files others l conn h (CallItem.Close c)).3 }
@@ -160,19 +162,20 @@ pub fn a_close_leaves_nothing()
     ensures refused { (n : ℕ) (s : CoreState) (files : List (List ℕ)) (others : ℕ) (l : Lists) (conn : ℕ) (h : SmbHead) (client : List ℕ) (c : CloseCall) (session : ℕ) (place : Place) → IsOnTree s l conn h client session place → open_named s l conn c.file_id ≡ None → outcome_of n s files others l conn h (CallItem.Close c) ≡ (Told.Failed SmbStatus.FileClosed, [], l, s) }
 {}
 
-/// CREATE is told its status exactly where that has its cause, in the order of its checks (MS-SMB2 3.3.5.9): INVALID_PARAMETER
-/// where the key of the lease that it asks for is in use on another file (3.3.5.9.8); once the breaks began that it begins it is
-/// open where the core is due to grant the share, and is told of the oplock or the lease that it has then; it is pending where the
-/// core is due to let it wait, for answers to breaks; SHARING_VIOLATION where something held stands against it for good,
-/// INSUFFICIENT_RESOURCES where it passes a limit.
+/// CREATE is answered with its status exactly if that has its cause, in the order of its checks (MS-SMB2 3.3.5.9):
+/// INVALID_PARAMETER if the key of the lease that it asks for is in use on another file (3.3.5.9.8); once its breaks
+/// began it is open if the core is due to grant the share, and is given the oplock or the lease that it has then; it is
+/// pending if the core is due to let it wait, for answers to breaks; SHARING_VIOLATION if something held stands against
+/// it for good, INSUFFICIENT_RESOURCES if it passes a limit.
 pub fn creates_have_causes()
     ensures { (n : ℕ) (s : CoreState) (files : List (List ℕ)) (others : ℕ) (l : Lists) (conn : ℕ) (h : SmbHead) (c : CreateCallItem) (told : Told) → ((outcome_of n s files others l conn h (CallItem.Create c)).0 ≡ told) ↔ IsCreateDue s (outcome_of n s files others l conn h (CallItem.Create c)).3 files others l conn h c told }
 {}
 
-/// What CREATE tells to be open is held (MS-SMB2 3.3.5.9): it has the next number, and is told of the oplock or the lease that it has; the
-/// open stands under the number, of this file and client, on this tree connect, and under the lease that it asks for, if it does;
-/// and its share of the file has just the access that was asked, and denies what isn't shared. A CREATE that is refused changes neither the lists nor, of what is held, any
-/// share or range: only breaks of caches begin.
+/// What CREATE answers as open is held (MS-SMB2 3.3.5.9): it has the next number, and is given the oplock or the lease
+/// that it has; the open is under the number, of this file and client, on this tree connect, and under the lease that
+/// it asks for, if it does; and its share of the file has just the access that was asked, and denies what isn't shared.
+/// A CREATE that is refused changes neither the lists nor, of what is held, any share or range: only breaks of caches
+/// begin.
 pub fn opened_files_are_held()
     ensures number { (n : ℕ) (s : CoreState) (files : List (List ℕ)) (others : ℕ) (l : Lists) (conn : ℕ) (h : SmbHead) (client : List ℕ) (c : CreateCallItem) (session file id : ℕ) (cache : Caching) (place : Place) → IsOnTree s l conn h client session place → file_spelled files c.name ≡ Some file → (outcome_of n s files others l conn h (CallItem.Create c)).0 ≡ Told.Opened id cache → id ≡ id_of s (s.counter + 1) }
     ensures cache { (n : ℕ) (s : CoreState) (files : List (List ℕ)) (others : ℕ) (l : Lists) (conn : ℕ) (h : SmbHead) (client : List ℕ) (c : CreateCallItem) (session file id : ℕ) (cache : Caching) (place : Place) → IsOnTree s l conn h client session place → file_spelled files c.name ≡ Some file → (outcome_of n s files others l conn h (CallItem.Create c)).0 ≡ Told.Opened id cache → cache ≡ caching (outcome_of n s files others l conn h (CallItem.Create c)).3 (s.counter + 1) (open_row file client place c) }
@@ -182,11 +185,12 @@ pub fn opened_files_are_held()
     ensures refused { (n : ℕ) (s : CoreState) (files : List (List ℕ)) (others : ℕ) (l : Lists) (conn : ℕ) (h : SmbHead) (c : CreateCallItem) (status : SmbStatus) → IsGood s → (outcome_of n s files others l conn h (CallItem.Create c)).0 ≡ Told.Failed status → ((outcome_of n s files others l conn h (CallItem.Create c)).2 ≡ l) × (others_of (outcome_of n s files others l conn h (CallItem.Create c)).3.claims ≡ others_of s.claims) }
 {}
 
-/// OPLOCK_BREAK of an oplock is told its status exactly where that has its cause, in the order of its checks (MS-SMB2
-/// 3.3.5.22.1): FILE_CLOSED where there is no such open under the connection, INVALID_PARAMETER at a lease's level; where no
-/// break runs INVALID_OPLOCK_PROTOCOL at a level above II, or at II where the oplock is no more than that, and else
-/// INVALID_DEVICE_STATE; where one runs INVALID_OPLOCK_PROTOCOL too, and nothing is left of the oplock, where the level is more
-/// than the break leaves, and else the break is answered: the open has an oplock of the level that it is told then.
+/// OPLOCK_BREAK of an oplock is answered with its status exactly if that has its cause, in the order of its checks
+/// (MS-SMB2 3.3.5.22.1): FILE_CLOSED if there is no such open under the connection, INVALID_PARAMETER at a lease's
+/// level; if no break runs INVALID_OPLOCK_PROTOCOL at a level above II, or at II if the oplock is no more than that,
+/// and else INVALID_DEVICE_STATE; if one runs INVALID_OPLOCK_PROTOCOL too, and nothing is left of the oplock, if the
+/// level is more than the break leaves, and else the break is answered: the open has an oplock of the level that it is
+/// answered with then.
 pub fn acknowledgements_have_causes()
     ensures closed { (n : ℕ) (s : CoreState) (files : List (List ℕ)) (others : ℕ) (l : Lists) (conn : ℕ) (h : SmbHead) (client : List ℕ) (session : ℕ) (level : ℕ) (id : FileId) → IsInSession s l conn h client session → open_named s l conn id ≡ None → outcome_of n s files others l conn h (CallItem.OplockBreak (Acknowledgement.Oplock level id)) ≡ (Told.Failed SmbStatus.FileClosed, [], l, s) }
     ensures leased { (n : ℕ) (s : CoreState) (files : List (List ℕ)) (others : ℕ) (l : Lists) (conn : ℕ) (h : SmbHead) (client : List ℕ) (session : ℕ) (level : ℕ) (id : FileId) (number : ℕ) → IsInSession s l conn h client session → open_named s l conn id ≡ Some number → (level == 0xFF) ≡ true → outcome_of n s files others l conn h (CallItem.OplockBreak (Acknowledgement.Oplock level id)) ≡ (Told.Failed SmbStatus.InvalidParameter, [], l, s) }
@@ -197,10 +201,10 @@ pub fn acknowledgements_have_causes()
     ensures left { (n : ℕ) (s : CoreState) (files : List (List ℕ)) (others : ℕ) (l : Lists) (conn : ℕ) (h : SmbHead) (client : List ℕ) (session : ℕ) (level : ℕ) (id : FileId) (number : ℕ) (row : Open) → IsAckOf s l conn h client id level session number row → (cache : Claim) (kind : CacheKind) → oplock_of row.file number s.claims ≡ Some cache → (running : Break) → cache.what ≡ What.Cache kind (Some running) → is_refused level kind (Some running) ≡ false → IsGood s → level_held (outcome_of n s files others l conn h (CallItem.OplockBreak (Acknowledgement.Oplock level id))).3 row.file number ≡ level }
 {}
 
-/// OPLOCK_BREAK of a lease is told its status exactly where that has its cause, in the order of its checks (MS-SMB2
-/// 3.3.5.22.2): OBJECT_NAME_NOT_FOUND where the client has no lease of this key; UNSUCCESSFUL where no break of its cache runs;
-/// REQUEST_NOT_ACCEPTED where the state is none that the break leaves, which runs on then; and else the break is answered: the
-/// lease holds the state that it is told then.
+/// OPLOCK_BREAK of a lease is answered with its status exactly if that has its cause, in the order of its checks
+/// (MS-SMB2 3.3.5.22.2): OBJECT_NAME_NOT_FOUND if the client has no lease of this key; UNSUCCESSFUL if no break of its
+/// cache runs; REQUEST_NOT_ACCEPTED if the state is none that the break leaves, which runs on then; and else the break
+/// is answered: the lease holds the state that it is answered with then.
 pub fn lease_acknowledgements_have_causes()
     ensures unknown { (n : ℕ) (s : CoreState) (files : List (List ℕ)) (others : ℕ) (l : Lists) (conn : ℕ) (h : SmbHead) (client : List ℕ) (session : ℕ) (lease : Lease) → IsInSession s l conn h client session → lease_of (record { client = client; key = lease.key }) l ≡ None → outcome_of n s files others l conn h (CallItem.OplockBreak (Acknowledgement.Lease lease)) ≡ (Told.Failed SmbStatus.ObjectNameNotFound, [], l, s) }
     ensures bare { (n : ℕ) (s : CoreState) (files : List (List ℕ)) (others : ℕ) (l : Lists) (conn : ℕ) (h : SmbHead) (client : List ℕ) (session : ℕ) (lease : Lease) → IsInSession s l conn h client session → (row : LeaseRow) → lease_of (record { client = client; key = lease.key }) l ≡ Some row → cache_of row.file (lease_party s.names client lease.key) s.claims ≡ None → outcome_of n s files others l conn h (CallItem.OplockBreak (Acknowledgement.Lease lease)) ≡ (Told.Failed SmbStatus.Unsuccessful, [], l, s) }
@@ -226,19 +230,19 @@ pub fn a_lease_outlives_its_other_opens()
     ensures { (s : CoreState) (at : ℕ) (key : LeaseKey) (cache : Claim) → IsGood s → is_cache cache.what ≡ true → cache.party ≡ Holding.Name Smb at → slice_get s.names at ≡ Some (SmbLease key.client key.key) → (number : ℕ) (made : Open) → key_of (Some made) ≡ Some key → (l : Lists) (under : Scope) → IsLeased l number made → list_any (nat_eq number) (opens_under under l) ≡ false → goes_among (leavers_under s.names under l) cache ≡ false }
 {}
 
-/// LOCK of locks of an open that is found (MS-SMB2 3.3.5.14.2): where it is told that they are locked each range is held once
-/// more, in order behind those that the open had on its file, and the lists stand; where it is told to fail nothing changed but
-/// that breaks of caches began.
-/// What others hold stands, as the core's laws of one ask say.
+/// LOCK of locks of an open that is found (MS-SMB2 3.3.5.14.2): if it is answered that they are locked each range is
+/// held once more, in order behind those that the open had on its file, and the lists stay; if it fails nothing changed
+/// except that breaks of caches began. What others hold stays, as the core's laws of one ask say.
 pub fn locked_ranges_are_held()
     ensures held { (n : ℕ) (s : CoreState) (files : List (List ℕ)) (others : ℕ) (l : Lists) (conn : ℕ) (h : SmbHead) (client : List ℕ) (c : LockItem) (session : ℕ) (place : Place) (number : ℕ) (row : Open) → IsOfOpen s l conn h client c.file_id session place number row → unlocks_first (elements_of c.elements) ≡ false → IsGood s → (outcome_of n s files others l conn h (CallItem.Lock c)).0 ≡ Told.Locked → (held_at (outcome_of n s files others l conn h (CallItem.Lock c)).3 (RangesOf row.file number) ≡ held_at s (RangesOf row.file number) ++ map held_as (elements_of c.elements)) × ((outcome_of n s files others l conn h (CallItem.Lock c)).2 ≡ l) }
     ensures refused { (n : ℕ) (s : CoreState) (files : List (List ℕ)) (others : ℕ) (l : Lists) (conn : ℕ) (h : SmbHead) (client : List ℕ) (c : LockItem) (session : ℕ) (place : Place) (number : ℕ) (row : Open) → IsOfOpen s l conn h client c.file_id session place number row → unlocks_first (elements_of c.elements) ≡ false → IsGood s → (status : SmbStatus) → (outcome_of n s files others l conn h (CallItem.Lock c)).0 ≡ Told.Failed status → ((outcome_of n s files others l conn h (CallItem.Lock c)).2 ≡ l) × OnlyBreaks s (outcome_of n s files others l conn h (CallItem.Lock c)).3 }
 {}
 
-/// LOCK of unlocks of an open that is found (MS-SMB2 3.3.5.14.1): where it is told that they are done each has taken out one
-/// range that is equal, an exclusive one before a shared one, and the lists stand. They are done in order: where one can't be,
-/// as its flags or its range are not in order, or no range that is held is equal, it says why they fail; those before it stay
-/// unlocked, and what it and those behind it name stands. None, or more than 64, are refused, and change nothing.
+/// LOCK of unlocks of an open that is found (MS-SMB2 3.3.5.14.1): if it is answered that they are done each has taken
+/// out one range that is equal, an exclusive one before a shared one, and the lists stay. They are done in order: if
+/// one can't be, as its flags or its range are not in order, or no range that is held is equal, it says why they fail;
+/// those before it stay unlocked, and what it and those behind it name stays. None, or more than 64, are refused, and
+/// change nothing.
 pub fn unlocked_ranges_are_given_up()
     ensures done { (n : ℕ) (s : CoreState) (files : List (List ℕ)) (others : ℕ) (l : Lists) (conn : ℕ) (h : SmbHead) (client : List ℕ) (c : LockItem) (session : ℕ) (place : Place) (number : ℕ) (row : Open) → IsOfOpen s l conn h client c.file_id session place number row → unlocks_first (elements_of c.elements) ≡ true → IsGood s → (outcome_of n s files others l conn h (CallItem.Lock c)).0 ≡ Told.Locked → (held_at (outcome_of n s files others l conn h (CallItem.Lock c)).3 (RangesOf row.file number) ≡ all_unlocked (elements_of c.elements) (held_at s (RangesOf row.file number))) × ((outcome_of n s files others l conn h (CallItem.Lock c)).2 ≡ l) }
     ensures left { (n : ℕ) (s : CoreState) (files : List (List ℕ)) (others : ℕ) (l : Lists) (conn : ℕ) (h : SmbHead) (client : List ℕ) (c : LockItem) (session : ℕ) (place : Place) (number : ℕ) (row : Open) → IsOfOpen s l conn h client c.file_id session place number row → unlocks_first (elements_of c.elements) ≡ true → is_count (length (elements_of c.elements)) ≡ true → IsGood s → (held_at (outcome_of n s files others l conn h (CallItem.Lock c)).3 (RangesOf row.file number) ≡ all_unlocked (before_fault (elements_of c.elements) (held_at s (RangesOf row.file number))) (held_at s (RangesOf row.file number))) × ((outcome_of n s files others l conn h (CallItem.Lock c)).2 ≡ l) }
@@ -246,8 +250,8 @@ pub fn unlocked_ranges_are_given_up()
     ensures uncounted { (n : ℕ) (s : CoreState) (files : List (List ℕ)) (others : ℕ) (l : Lists) (conn : ℕ) (h : SmbHead) (client : List ℕ) (c : LockItem) (session : ℕ) (place : Place) (number : ℕ) (row : Open) → IsOfOpen s l conn h client c.file_id session place number row → is_count (length (elements_of c.elements)) ≡ false → outcome_of n s files others l conn h (CallItem.Lock c) ≡ (Told.Failed SmbStatus.InvalidParameter, [], l, s) }
 {}
 
-/// CANCEL of a client takes out one at most who waits by its connection, tells of it, and has no reply of its own; all else
-/// stands (MS-SMB2 3.3.5.16).
+/// CANCEL of a client takes out one at most who waits by its connection, tells of it, and has no reply of its own; all
+/// else stays (MS-SMB2 3.3.5.16).
 pub fn a_cancel_takes_one()
     ensures { (n : ℕ) (s : CoreState) (files : List (List ℕ)) (others : ℕ) (l : Lists) (conn : ℕ) (h : SmbHead) (client : List ℕ) → client_of conn l ≡ Some client → (outcome_of n s files others l conn h CallItem.Cancel ≡ (Told.Nothing, [], l, s)) ⊎ ((id : ℕ) × IsIn id (waiting_under (Scope.Connection conn) l) × (is_waiting id s.waiters ≡ true) × (outcome_of n s files others l conn h CallItem.Cancel ≡ (Told.Nothing, Effect.Cancelled id ∷ [], l, (cancel s id).1))) }
 {}

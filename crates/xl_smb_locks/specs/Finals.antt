@@ -61,7 +61,7 @@ failed_reply id row status = spelling (Reply (final_head id (command_by row.requ
 abbrev pub locked_reply : ℕ → Waiting → List ℕ
 locked_reply id row = spelling (Reply (final_head id 10 row.header 0) Lock)
 
--- the file is open under this id, with this told of its cache
+-- the file is open under this id, with this said of its cache
 abbrev pub opened_reply : ℕ → Waiting → ℕ → Caching → List ℕ
 opened_reply id row handle told = spelling (Reply (final_head id 5 row.header 0) (Create (opened handle told)))
 
@@ -105,8 +105,8 @@ abbrev pub holder_stands : Holder → List ℕ → Lists → Bool
 holder_stands (holder.Tree place) client l = has_place place client l
 holder_stands (holder.Nobody until) client l = false
 
--- the open may stand under its number: as its tree connect does until the request ends, and as the core grants it only where
--- there is room, it may (SMB-17)
+-- the open may stand under its number: as its tree connect does until the request ends, and as the core grants it only
+-- if there is room, it may (SMB-17)
 abbrev pub may_stand : ℕ → Open → Lists → Bool
 may_stand number made l = nat_lt (length l.opens) most_opens && (not (is_some (open_of number l)) && holder_stands made.holder made.client l)
 
@@ -167,7 +167,7 @@ abbrev pub final_lock : ℕ → Waiting → Option SmbStatus → List ℕ
 final_lock id row None = locked_reply id row
 final_lock id row (Some status) = failed_reply id row status
 
--- the final reply to a CREATE, which failed so if it did: an open that may stand is told under its id, with what
+-- the final reply to a CREATE, which failed so if it did: an open that may stand is answered under its id, with what
 -- it has of caches then
 abbrev pub final_open : CoreState → Lists → ℕ → Waiting → Open → Option SmbStatus → List ℕ
 final_open s l id row made None = if may_stand row.opened made l then opened_reply id row (id_of s row.opened) (caching s row.opened made) else failed_reply id row InsufficientResources

@@ -1,5 +1,5 @@
--- Oplocks and leases: what an open holds of one, what it is told of it, and how a break is told (MS-SMB2 2.2.13, 2.2.13.2.8,
--- 2.2.14, 2.2.23, 3.3.4.6, 3.3.4.7).
+-- Oplocks and leases: what an open holds of one, what it is sent of it, and how a break is sent (MS-SMB2 2.2.13,
+-- 2.2.13.2.8, 2.2.14, 2.2.23, 3.3.4.6, 3.3.4.7).
 use Rattle.std.specs.Prelude.{ℕ, if◌then◌else◌, List, [], ◌∷◌, slice_get, Option, Some, None}
 use Rattle.std.specs.List.{find}
 use Rattle.std.specs.Option.{option_and_then}
@@ -46,7 +46,7 @@ party_by client number (Some key) = who.Named (SmbLease client key)
 abbrev pub party_for : ℕ → Open → Who
 party_for number row = party_by row.client number row.lease
 
--- the same as a party, where these names are kept
+-- the same as a party, if these names are kept
 abbrev pub lease_party : List Name → List ℕ → List ℕ → Party
 lease_party names client key = known_party (who.Named (SmbLease client key)) names
 
@@ -92,7 +92,7 @@ abbrev pub flags_found : Option Claim → ℕ
 flags_found None = 0
 flags_found (Some c) = flags_by c.what
 
--- the lease of this key, where this is its cache on the file
+-- the lease of this key, if this is its cache on the file
 abbrev pub lease_found : List ℕ → Option Claim → Lease
 lease_found key found = record { key = key; state = state_of (kind_found found); flags = flags_found found; duration = 0 }
 
@@ -100,8 +100,8 @@ lease_found key found = record { key = key; state = state_of (kind_found found);
 abbrev pub lease_holding : List ℕ → List What → Lease
 lease_holding key held = record { key = key; state = state_of (first_kind held); flags = first_flags held; duration = 0 }
 
--- what the open of this number is told of its cache: the level of its oplock, or the lease that it is under, as it stands
--- (SMB-18, SMB-19)
+-- what the open of this number is sent of its cache: the level of its oplock, or the lease that it is under, as it is
+-- then (SMB-18, SMB-19)
 unfoldable pub cache_told : CoreState → ℕ → Open → Option (List ℕ) → Caching
 cache_told s number row None = Level (level_held s row.file number)
 cache_told s number row (Some key) = Leased (lease_holding key (held_at s (CacheOf row.file (party_of s.names number row))))
@@ -114,7 +114,7 @@ caching s number row = cache_told s number row row.lease
 abbrev pub file_id : ℕ → FileId
 file_id id = record { persistent = id; volatile = id }
 
--- a file with these attributes, of which nothing else is told
+-- a file with these attributes, of which nothing else is said
 abbrev pub file_of : ℕ → FileStatus
 file_of attributes = record { created = 0; accessed = 0; written = 0; changed = 0; allocated = 0; end_of_file = 0; attributes = attributes }
 
@@ -127,17 +127,17 @@ abbrev pub contexts_told : Caching → List ℕ
 contexts_told (Level level) = []
 contexts_told (Leased lease) = lease_context lease
 
--- a file that was there is open under this id, with this told of its cache
+-- a file that was there is open under this id, with this sent of its cache
 abbrev pub opened : ℕ → Caching → CreateReplyItem
 opened id told = record { oplock_level = level_told told; action = 1; status = file_of 0x80; file_id = file_id id; contexts = contexts_told told }
 
--- ---- a break that began is told to who holds the open, that of a lease to who holds the lowest of its opens
+-- ---- a break that began is sent to who holds the open, that of a lease to who holds the lowest of its opens
 
 -- the level that it leaves (SMB-20)
 abbrev pub notice_of : ℕ → Option CacheKind → List ℕ
 notice_of id to = spelling (Told (notice.Oplock (level_of to) (file_id id)))
 
--- what the lease of this key held, and what it may keep; 1 where the break takes effect only once it is answered (SMB-21)
+-- what the lease of this key held, and what it may keep; 1 if the break takes effect only once it is answered (SMB-21)
 abbrev pub lease_notice_of : List ℕ → What → Option CacheKind → List ℕ
 lease_notice_of key held to = spelling (Told (notice.Lease (record { flags = if needs_answer_by held to then 1 else 0; key = key; current = state_of (kind_by held); new = state_of to })))
 

@@ -10,7 +10,8 @@ pub use Rattle.xl_plan.specs.Budgets.{IsReady}
 abbrev pub IsLease : Name → Type 0
 IsLease name = is_lease name ≡ true
 
--- the state is good, the stores of the step go on, numbers may go so many further at most, and no names come but those of leases
+-- the state is good, the stores of the step go on, numbers may go so many further at most, and no names come except
+-- those of leases
 abbrev pub Leaves : ℕ → CoreState → CoreState → Type 0
 Leaves most old new = budgets.Leaves IsLease most old new
 

@@ -74,7 +74,7 @@ pub(crate) fn is_exclusive(element: &LockElement) -> bool
     element.flags & 2 != 0
 }
 
-/// Whether a lock waits where it can't be had immediately.
+/// Whether a lock waits if it can't be had immediately.
 fn may_wait(element: &LockElement) -> bool
     ensures { result ≡ may_wait element.now }
 {
@@ -105,7 +105,7 @@ fn any_other(elements: &[LockElement]) -> bool
     elements.iter().any(|element| !is_lock(element))
 }
 
-/// Whether any of these locks waits where it can't be had immediately.
+/// Whether any of these locks waits if it can't be had immediately.
 pub(crate) fn any_waits(elements: &[LockElement]) -> bool
     ensures { result ≡ any_waits elements.now }
 {
@@ -119,7 +119,7 @@ fn any_wraps(elements: &[LockElement]) -> bool
     elements.iter().any(wraps)
 }
 
-/// Why an unlock is refused before it is asked for; None where it isn't. INVALID_PARAMETER comes for one that locks too,
+/// Why an unlock is refused before it is asked for; None if it isn't. INVALID_PARAMETER comes for one that locks too,
 /// then INVALID_LOCK_RANGE for a range that reaches past the last byte (MS-SMB2 3.3.5.14.1).
 #[tactic(auto, unfolding(crate::specs::Elements::unlock_fault))]
 pub(crate) fn unlock_fault(element: &LockElement) -> Option<SmbStatus>
@@ -134,8 +134,8 @@ pub(crate) fn unlock_fault(element: &LockElement) -> Option<SmbStatus>
     None
 }
 
-/// Why locks are refused before they are asked for; None where they aren't. INVALID_PARAMETER comes where one isn't just a
-/// lock, or several may wait, then INVALID_LOCK_RANGE where a range reaches past the last byte (MS-SMB2 3.3.5.14.2).
+/// Why locks are refused before they are asked for; None if they aren't. INVALID_PARAMETER comes if one isn't just a
+/// lock, or several may wait, then INVALID_LOCK_RANGE if a range reaches past the last byte (MS-SMB2 3.3.5.14.2).
 #[tactic(auto, unfolding(crate::specs::Elements::lock_fault))]
 pub fn lock_fault(elements: &[LockElement]) -> Option<SmbStatus>
     ensures { result ≡ lock_fault elements.now }

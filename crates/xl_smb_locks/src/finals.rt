@@ -73,7 +73,7 @@ fn locked_reply(alloc: Global, id: u32, row: &Waiting) -> Result<Vec<u8>, AllocE
     Ok(write(alloc, &message)?)
 }
 
-/// The final reply to a CREATE whose open stands under this id, with this told of its cache.
+/// The final reply to a CREATE whose open is under this id, with this said of its cache.
 #[tactic(auto, using(crate::proofs::FinalLaws::opened_stands, crate::proofs::FinalLaws::opened_little))]
 fn opened_reply(
     alloc: Global,
@@ -340,8 +340,8 @@ pub fn push_all(outs: &mut Sequence<Out>, more: Sequence<Out>) -> Result<(), All
     Ok(())
 }
 
-/// Tells each of these requests, in order, of which these effects tell that it waits no more: STATUS_CANCELLED (MS-SMB2
-/// 3.3.5.16). They are forgotten then.
+/// Answers each of these requests, in order, of which these effects tell that it waits no more: STATUS_CANCELLED
+/// (MS-SMB2 3.3.5.16). They are forgotten then.
 #[tactic(auto, using(crate::proofs::FinalLaws::told_next, crate::proofs::FinalLaws::passed_next, crate::proofs::FinalLaws::fit_both))]
 pub fn dismiss(
     alloc: Global,

@@ -37,17 +37,19 @@ ghost use Rattle.xl_smb_locks.specs.declared.locking.Locking.TheVariants as Lock
 ghost use Rattle.xl_table.specs.Elements.{unlocked_elements};
 ghost use Rattle.xl_wait.specs.Waiting.{no_rows};
 
-/// What is held of an open's ranges is one list of elements, as `xl_exact` keeps it: where locks are told to be done the core
-/// holds the list with theirs behind the others, and what an unlock leaves is what its list leaves (MS-FSA 2.1.5.8, 2.1.5.9).
+/// What is held of an open's ranges is one list of elements, as `xl_exact` keeps it: if locks are answered as done the
+/// core holds the list with theirs behind the others, and what an unlock leaves is what its list leaves (MS-FSA
+/// 2.1.5.8, 2.1.5.9).
 pub fn ranges_are_a_list_of_elements()
     ensures locked { (n : ℕ) (s : CoreState) (conn number : ℕ) (row : Open) (locks : List LockElement) (es : List Element) → IsGood s → lock_fault locks ≡ None → 1 ≤ length locks → held_at s (RangesOf row.file number) ≡ map what_of es → (lock_done (ask n no_rows s (lock_ask conn number row locks))).0 ≡ Locking.Done → held_at (lock_done (ask n no_rows s (lock_ask conn number row locks))).2 (RangesOf row.file number) ≡ map what_of (es ++ map element_of locks) }
     ensures range { (e : LockElement) → what_of (element_of e) ≡ Range (extent_of e) (is_exclusive e) }
     ensures unlocked { (e : LockElement) (es : List Element) → unlocked_elements (extent_of e) (map what_of es) ≡ map what_of (unlocked e.offset e.length es) }
 {}
 
-/// A break of an open's oplock is told to the connection that the open is held on, with the level that is to be left of it, and
-/// to nobody else; where there is no such open nobody is told (MS-SMB2 3.3.4.6). A break of a lease is told to the connection of
-/// the lowest of its opens that is held, with what the lease held and what it may keep (MS-SMB2 3.3.4.7).
+/// A break of an open's oplock is sent to the connection that the open is held on, with the level that is to be left of
+/// it, and to nobody else; if there is no such open it is sent to nobody (MS-SMB2 3.3.4.6). A break of a lease is sent
+/// to the connection of the lowest of its opens that is held, with what the lease held and what it may keep (MS-SMB2
+/// 3.3.4.7).
 #[tactic(auto, using(crate::proofs::NoticeLaws::holder_told, crate::proofs::NoticeLaws::nobody_told, crate::proofs::NoticeLaws::lease_told))]
 pub fn breaks_are_told_to_holders()
     ensures holder { (s : CoreState) (l : Lists) (cache : Claim) (to : Option CacheKind) (call : Option ℕ) (number : ℕ) (row : Open) (place : Place) → cache.party ≡ Party.Open number → open_of number l ≡ Some row → row.holder ≡ Holder.Tree place → told_of s (Effect.Begun cache to call) l ≡ (sent_to place.connection (notice_of (id_of s number) to), l) }
@@ -55,25 +57,26 @@ pub fn breaks_are_told_to_holders()
     ensures nobody { (s : CoreState) (l : Lists) (cache : Claim) (to : Option CacheKind) (call : Option ℕ) (number : ℕ) → cache.party ≡ Party.Open number → open_of number l ≡ None → told_of s (Effect.Begun cache to call) l ≡ ([], l) }
 {}
 
-/// The opens under a lease have one cache on its file, the lease's: each is told of what that holds, whichever is asked (MS-SMB2
-/// 3.3.1.12, 3.3.5.9.8). So a break of it is one of all of them. An open under no lease has a cache of its own.
+/// The opens under a lease have one cache on its file, the lease's: each is sent what that holds, whichever is asked
+/// (MS-SMB2 3.3.1.12, 3.3.5.9.8). So a break of it is one of all of them. An open under no lease has a cache of its
+/// own.
 pub fn opens_of_a_lease_share_its_cache()
     ensures party { (names : List Name) (number : ℕ) (row : Open) (key : LeaseKey) → key_of (Some row) ≡ Some key → party_of names number row ≡ lease_party names key.client key.key }
     ensures told { (s : CoreState) (number other : ℕ) (row more : Open) (key : LeaseKey) → key_of (Some row) ≡ Some key → key_of (Some more) ≡ Some key → row.file ≡ more.file → caching s number row ≡ caching s other more }
     ensures alone { (names : List Name) (number : ℕ) (row : Open) → row.lease ≡ None → party_of names number row ≡ Party.Open number }
 {}
 
-/// A request that waited and was served has one final reply, to the connection that it came by, and waits no more (MS-SMB2
-/// 3.3.4.2, 3.3.4.4): STATUS_SUCCESS where a LOCK is granted, and where a CREATE is whose open may stand, with its id and what
-/// it has of caches; LOCK_NOT_GRANTED or SHARING_VIOLATION where something held is against it, and else INSUFFICIENT_RESOURCES. One
-/// that waits no more has CANCELLED.
+/// A request that waited and was served has one final reply, to the connection that it came by, and waits no more
+/// (MS-SMB2 3.3.4.2, 3.3.4.4): STATUS_SUCCESS for a LOCK that is granted, and for a CREATE that is and whose open may
+/// stand, with its id and what it has of caches; LOCK_NOT_GRANTED or SHARING_VIOLATION if something held is against it,
+/// and else INSUFFICIENT_RESOURCES. One that waits no more has CANCELLED.
 pub fn requests_have_one_final_reply()
     ensures served { (s : CoreState) (l : Lists) (id : ℕ) (answer : Answer) (row : Waiting) → waiting_of id l ≡ Some row → IsFinal id row (final_reply s l id row answer row.request) l (told_of s (Effect.Served id answer) l) }
     ensures cancelled { (s : CoreState) (l : Lists) (id : ℕ) (row : Waiting) → waiting_of id l ≡ Some row → IsFinal id row (failed_reply id row SmbStatus.Cancelled) l (told_of s (Effect.Cancelled id) l) }
 {}
 
-/// A CREATE that waited and is granted has its open, where that may stand: the open stands under its number, and its final reply
-/// is STATUS_SUCCESS, with what the open has of caches then (MS-SMB2 3.3.4.4, 2.2.14).
+/// A CREATE that waited and is granted has its open, if that may stand: the open is under its number, and its final
+/// reply is STATUS_SUCCESS, with what the open has of caches then (MS-SMB2 3.3.4.4, 2.2.14).
 pub fn granted_opens_stand()
     ensures told { (s : CoreState) (l : Lists) (id : ℕ) (claim : Claim) (row : Waiting) (made : Open) → waiting_of id l ≡ Some row → row.request ≡ Request.Create made → may_stand row.opened made l ≡ true → told_of s (Effect.Served id (Answer.Granted claim)) l ≡ (final_outs row (opened_reply id row (id_of s row.opened) (caching s row.opened made)), with_open row.opened made (waiting_dropped id l)) }
     ensures stands { (s : CoreState) (l : Lists) (id : ℕ) (claim : Claim) (row : Waiting) (made : Open) → waiting_of id l ≡ Some row → row.request ≡ Request.Create made → may_stand row.opened made l ≡ true → open_of row.opened (told_of s (Effect.Served id (Answer.Granted claim)) l).1 ≡ Some made }

@@ -1,4 +1,4 @@
-//! Oplocks and leases: what an open holds of one, what it is told of it, and how a break is told.
+//! Oplocks and leases: what an open holds of one, what it is sent of it, and how a break is sent.
 ghost use Rattle.std.specs.Prelude.{◌≡◌, ◌≤◌, true, find, length, IfOk, IfSome, option_copied};
 ghost use Rattle.std.specs.List.{AllByRecursion};
 ghost use Rattle.xl_base.specs.Limits.{most_message_bytes};
@@ -36,12 +36,12 @@ fn find_of(claims: &[Claim], party: Party) -> Option<Claim>
     None
 }
 
-/// What a CREATE is told of its open's cache (MS-SMB2 2.2.14).
+/// What a CREATE is sent of its open's cache (MS-SMB2 2.2.14).
 #[derive(Clone, Copy)]
 pub enum Caching {
     /// An oplock of this level: 0 none, 1 level II, 8 exclusive, 9 batch.
     Level(u8),
-    /// The lease that it is under, as it stands.
+    /// The lease that it is under, as it is then.
     Leased(Lease),
 }
 
@@ -158,7 +158,7 @@ fn flags_found(found: Option<Claim>) -> u32
     }
 }
 
-/// The lease of this key, where this is its cache on the file.
+/// The lease of this key, if this is its cache on the file.
 fn lease_found(key: &[u8; 16], found: Option<Claim>) -> Lease
     ensures { result ≡ lease_found key.now found }
 {
@@ -170,7 +170,7 @@ fn lease_found(key: &[u8; 16], found: Option<Claim>) -> Lease
     }
 }
 
-/// What an open is told of its cache: the level of its oplock, or the lease that it is under, as it stands.
+/// What an open is sent of its cache: the level of its oplock, or the lease that it is under, as it is then.
 #[tactic(auto, unfolding(crate::specs::Levels::cache_told))]
 pub fn caching_of(
     alloc: Global,
@@ -203,7 +203,7 @@ pub fn file_id(id: u64) -> FileId
     }
 }
 
-/// A file with these attributes, of which nothing else is told.
+/// A file with these attributes, of which nothing else is said.
 pub fn file_of(attributes: u32) -> FileStatus
     ensures { result ≡ file_of attributes }
 {
@@ -251,7 +251,8 @@ pub fn contexts_told(alloc: Global, told: Caching) -> Result<Vec<u8>, AllocError
     }
 }
 
-/// The body of a reply to CREATE: a file that was there is open under this id, with this told of its cache, in these contexts.
+/// The body of a reply to CREATE: a file that was there is open under this id, with this said of its cache, in these
+/// contexts.
 pub fn opened(id: u64, told: Caching, contexts: &[u8]) -> CreateReply<'_>
     requires { contexts.now ≡ contexts_told told }
     ensures { shown_create_reply result ≡ opened id told }
@@ -317,7 +318,7 @@ fn noticed_by(alloc: Global, notice: Vec<u8>, by: Holder) -> Result<Sequence<Out
     }
 }
 
-/// A notice, to the connection of an open, where it is there.
+/// A notice, to the connection of an open, if it is there.
 fn noticed_to(
     alloc: Global,
     notice: Vec<u8>,
@@ -341,7 +342,7 @@ fn hearer_of<'a>(state: &'a SmbState, key: &LeaseKey) -> Option<&'a Open>
     state.find_open(number)
 }
 
-/// What is sent of a break of the cache of the party of this name: where that is a lease, its notice (MS-SMB2 3.3.4.7).
+/// What is sent of a break of the cache of the party of this name: if that is a lease, its notice (MS-SMB2 3.3.4.7).
 fn noticed_under(
     alloc: Global,
     state: &SmbState,

@@ -45,8 +45,8 @@ fn lock_told(answer: &Answer) -> Locking
     }
 }
 
-/// Asks the core for an open, where so much room is left in the tables of the fronts. At least 65,536 numbers must be left to
-/// give out.
+/// Asks the core for an open, if so much room is left in the tables of the fronts. At least 65,536 numbers must be left
+/// to give out.
 pub fn asked<K: Keeper>(
     alloc: Global,
     core: &mut Core,
@@ -64,11 +64,11 @@ pub fn asked<K: Keeper>(
     Ok((answer, effects))
 }
 
-/// Locks all of these ranges of an open of a file, or none (MS-SMB2 3.3.5.14.2, MS-FSA 2.1.5.8). Where something held
-/// stands against one for good, it waits if it may, and is told by this connection; else it is LOCK_NOT_GRANTED. Where a cache
-/// keeps the first off all of them wait for the answer to its break. Where a limit is passed it is INSUFFICIENT_RESOURCES. The
-/// breaks that begin for it come first, and are told of. One that waits does so under a number that is given out to it behind
-/// those of their calls.
+/// Locks all of these ranges of an open of a file, or none (MS-SMB2 3.3.5.14.2, MS-FSA 2.1.5.8). If something held
+/// stands against one for good, it waits if it may, and is answered by this connection; else it is LOCK_NOT_GRANTED. If
+/// a cache keeps the first off all of them wait for the answer to its break. If a limit is passed it is
+/// INSUFFICIENT_RESOURCES. The breaks that begin for it come first, and are told of. One that waits does so under a
+/// number that is given out to it behind those of their calls.
 pub fn lock<K: Keeper>(
     alloc: Global,
     core: &mut Core,

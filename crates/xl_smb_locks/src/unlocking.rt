@@ -47,7 +47,7 @@ fn is_granted(answer: &Answer) -> bool
 }
 
 /// Unlocks these ranges of an open of a file, in order, up to the first that fails; those before it stay unlocked
-/// (MS-SMB2 3.3.5.14.1). It fails where `unlock_fault` says so, and with RANGE_NOT_LOCKED exactly where the open has no
+/// (MS-SMB2 3.3.5.14.1). It fails if `unlock_fault` says so, and with RANGE_NOT_LOCKED exactly if the open has no
 /// lock of just this range. At least 65,536 numbers must be left to give out.
 #[tactic(auto, using(xl_plan::proofs::BudgetLaws::leaves_self, crate::proofs::LeaveLaws::leaves_on, crate::proofs::LeaveLaws::ready_on, crate::proofs::FitLaws::unlock_within, crate::proofs::UnlockLaws::come_self, crate::proofs::UnlockLaws::one_more, crate::proofs::UnlockLaws::refused_at, crate::proofs::UnlockLaws::missed_at))]
 pub fn unlock<K: Keeper>(

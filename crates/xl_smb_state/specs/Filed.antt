@@ -3,7 +3,7 @@ use Rattle.std.specs.Prelude.{◌≡◌, ℕ, nat_eq, Bool, true, false, List, [
 use Rattle.std.specs.List.{AllByRecursion, list_any}
 use Rattle.std.specs.Map.{values_of}
 
--- the row with its key, where there is one, in front of others
+-- the row with its key, if there is one, in front of others
 abbrev pub in_front : {A : Type 0} → ℕ → Option A → List (ℕ × A) → List (ℕ × A)
 in_front key None rows = rows
 in_front key (Some row) rows = (key, row) ∷ rows

@@ -71,7 +71,7 @@ IsLeaseLinked s key row = (is_empty row.opens ≡ false) × AllByRecursion (λ n
 abbrev pub only_opens : List (ℕ × Open) → Lists
 only_opens opens = record nothing { opens = opens }
 
--- no lease but that of the key lists the open, and each has one
+-- no lease except that of the key lists the open, and each has one
 abbrev pub ListsOnly : LeaseKey → ℕ → LeaseKey × Lease → Type 0
 ListsOnly key number e = (same_lease key e.0 ≡ false → list_any (nat_eq number) e.1.opens ≡ false) × (is_empty e.1.opens ≡ false)
 

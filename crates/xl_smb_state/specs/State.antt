@@ -162,7 +162,7 @@ without number opens = filter (λ n. not (n == number)) opens
 abbrev pub left_row : ℕ → Lease → Lease
 left_row number row = record { file = row.file; opens = without number row.opens }
 
--- the lease without the open, where it has another
+-- the lease without the open, if it has another
 abbrev pub kept_lease : ℕ → LeaseKey × Lease → Option (LeaseKey × Lease)
 kept_lease number e = if is_empty (without number e.1.opens) then None else Some (e.0, left_row number e.1)
 
@@ -201,7 +201,7 @@ abbrev pub key_of : Option Open → Option LeaseKey
 key_of None = None
 key_of (Some row) = option_map (λ key. record { client = row.client; key = key }) row.lease
 
--- the lowest of the opens of a lease that somebody holds, which breaks of the lease are told to (STATE-12)
+-- the lowest of the opens of a lease that somebody holds, which breaks of the lease are sent to (STATE-12)
 abbrev pub lowest_open : LeaseKey → Lists → Option ℕ
 lowest_open key s = option_and_then (λ r. lowest (filter (λ n. is_held (open_of n s)) r.opens)) (lease_of key s)
 
@@ -223,8 +223,8 @@ abbrev pub is_of_file : ℕ → Option Lease → Bool
 is_of_file file None = true
 is_of_file file (Some row) = row.file == file
 
--- The open comes under the lease of this key, which it begins where there is none. Where that is on another file it comes under
--- none: a CREATE is refused there.
+-- The open comes under the lease of this key, which it begins if there is none. If that is on another file it comes
+-- under none: a CREATE is refused there.
 abbrev pub lease_begun : ℕ → ℕ → LeaseKey → Option Lease → Lists → Lists
 lease_begun number file key None s = lease_added key (record { file = file; opens = number ∷ [] }) s
 lease_begun number file key (Some row) s = if row.file == file then lease_joined key number s else s

@@ -17,7 +17,7 @@ pub fn same_keys_are_equal()
     ensures { (a b : LeaseKey) → same_lease a b ≡ true → a ≡ b }
 {}
 
-/// Where a tree connect is there, so is its session, on the same connection, whose client has negotiated.
+/// If a tree connect is there, so is its session, on the same connection, whose client has negotiated.
 #[tactic(auto, using(crate::proofs::LinkLaws::place_session, crate::proofs::LinkLaws::place_client))]
 pub fn places_are_whole()
     ensures session { (s : Lists) (place : Place) → IsSound s → IsPlace s place → session_of place.session s ≡ Some (record { connection = place.connection }) }
@@ -41,7 +41,7 @@ pub fn the_first_goes_and_the_others_stay()
     ensures waiting { (under : Scope) (s : Lists) (n : ℕ) (ns : List ℕ) → AreDistinct s → waiting_under under s ≡ n ∷ ns → waiting_under under (waiting_dropped n s) ≡ ns }
 {}
 
-/// Where no open is under a session, none is under a tree connect of it; and where none is on a connection, none is under
+/// If no open is under a session, none is under a tree connect of it; and if none is on a connection, none is under
 /// a tree connect on it.
 #[tactic(auto, using(crate::proofs::WalkLaws::free_by_session, crate::proofs::WalkLaws::free_by_connection))]
 pub fn free_sessions_have_free_trees()

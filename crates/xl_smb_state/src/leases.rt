@@ -25,7 +25,7 @@ fn take_open(alloc: Global, lease: &mut Lease, number: u32) -> bool
     lease.opens.is_empty()
 }
 
-/// The numbers but for this one.
+/// The numbers except this one.
 fn others(mut numbers: Vec<u32>, number: u32) -> Vec<u32>
     ensures { result.items ≡ without number numbers.items }
 {
@@ -50,7 +50,7 @@ fn shrink(
     }
 }
 
-/// Takes an open out of the lease of this key, which goes where none is left.
+/// Takes an open out of the lease of this key, which goes if none is left.
 fn leave(alloc: Global, leases: &mut IndexMap<LeaseKey, Lease>, key: &LeaseKey, number: u32)
     requires { AllByRecursion (ListsOnly key.now number) leases.old.entries }
     ensures { leases.new.entries ≡ filter_map (kept_lease number) leases.old.entries }
@@ -60,7 +60,7 @@ fn leave(alloc: Global, leases: &mut IndexMap<LeaseKey, Lease>, key: &LeaseKey, 
     }
 }
 
-/// Takes an open out of the lease that lists it, which goes where none is left.
+/// Takes an open out of the lease that lists it, which goes if none is left.
 fn leave_any(alloc: Global, opens: &Opens, leases: &mut IndexMap<LeaseKey, Lease>, number: u32)
     requires { AllByRecursion (λ e. IsLeaseLinked (only_opens opens.now) e.0 e.1) leases.old.entries }
     ensures { leases.new.entries ≡ filter_map (kept_lease number) leases.old.entries }
@@ -140,7 +140,7 @@ fn key_in(row: &Open) -> Option<LeaseKey>
 }
 
 impl SmbState {
-    /// The lease of this key; None exactly where there is none. A key that only a waiting CREATE has is of no lease.
+    /// The lease of this key; None exactly if there is none. A key that only a waiting CREATE has is of no lease.
     pub fn find_lease(&self, key: &LeaseKey) -> Option<&Lease>
         ensures { option_copied result ≡ lease_of key.now self.now }
     {
@@ -177,8 +177,8 @@ impl SmbState {
         change(&mut self.leases, key, row);
     }
 
-    /// Puts an open that is there, under the key and on the lease's file, behind the others of the lease of this key. Where
-    /// there is no such lease nothing changes. Want of memory changes nothing.
+    /// Puts an open that is there, under the key and on the lease's file, behind the others of the lease of this key.
+    /// If there is no such lease nothing changes. Want of memory changes nothing.
     pub fn join_lease(&mut self, key: &LeaseKey, number: u32) -> Result<(), AllocError>
         requires { IfSome (lease_of key.now self.old) (λ row. is_under key.now row.file (open_of number self.old) ≡ true) }
         ensures ok { OnOk result (self.new ≡ lease_joined key.now number self.old) }
@@ -207,8 +207,8 @@ impl SmbState {
         }
     }
 
-    /// Puts an open that is there under the lease of this key, which it begins where there is none. Where that is on another file
-    /// it comes under none.
+    /// Puts an open that is there under the lease of this key, which it begins if there is none. If that is on another
+    /// file it comes under none.
     #[tactic(auto, using(crate::proofs::LeaseLaws::under_lease, crate::proofs::LeaseLaws::first_linked, crate::proofs::LeaseLaws::lease_elsewhere, crate::proofs::LeaseLaws::lease_joins, crate::proofs::LeaseLaws::lease_begins))]
     fn begin_lease(
         &mut self,
@@ -233,8 +233,9 @@ impl SmbState {
         Ok(())
     }
 
-    /// Adds an open as `add_open` does, and puts it under the lease that it asks for, if it does; it begins the lease where
-    /// there is none, and comes under none where that is on another file. Where there is no memory nothing is known of the lists.
+    /// Adds an open as `add_open` does, and puts it under the lease that it asks for, if it does; it begins the lease
+    /// if there is none, and comes under none if that is on another file. If there is no memory nothing is known of the
+    /// lists.
     #[tactic(auto, using(crate::proofs::LeaseLaws::comes_under))]
     pub fn open(&mut self, alloc: Global, number: u32, row: Open) -> Result<(), AllocError>
         requires new { open_of number self.old ≡ None }
@@ -266,8 +267,8 @@ impl SmbState {
         remove(&mut self.leases, key);
     }
 
-    /// The lowest number of the lease's opens that somebody holds, to whose connection breaks of the lease are told
-    /// (MS-SMB2 3.3.4.7); None where there is none.
+    /// The lowest number of the lease's opens that somebody holds, to whose connection breaks of the lease are sent
+    /// (MS-SMB2 3.3.4.7); None if there is none.
     pub fn lowest_open(&self, key: &LeaseKey) -> Option<u32>
         ensures { result ≡ lowest_open key.now self.now }
     {
@@ -275,8 +276,8 @@ impl SmbState {
         lowest_held(&self.opens, lease.opens.as_slice())
     }
 
-    /// The file on which a lease key is in use: that of its lease, or else that of the first open which waits to be made
-    /// under it. None exactly where no lease and no waiting CREATE has the key.
+    /// The file on which a lease key is in use: that of its lease, or else that of the first open which waits to be
+    /// made under it. None exactly if no lease and no waiting CREATE has the key.
     pub fn key_file(&self, key: &LeaseKey) -> Option<u32>
         ensures { result ≡ key_file key.now self.now }
     {

@@ -15,7 +15,7 @@ impl SmbState {
         self.opens.len()
     }
 
-    /// The open of this number, on whatever connection; None exactly where there is none.
+    /// The open of this number, on whatever connection; None exactly if there is none.
     pub fn find_open(&self, number: u32) -> Option<&Open>
         ensures { option_copied result ≡ open_of number self.now }
     {

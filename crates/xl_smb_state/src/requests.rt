@@ -11,7 +11,7 @@ use crate::state::SmbState;
 use std::alloc::{AllocError, Global};
 
 impl SmbState {
-    /// The request that waits under this number, which is its AsyncId too; None exactly where there is none.
+    /// The request that waits under this number, which is its AsyncId too; None exactly if there is none.
     pub fn find_waiting(&self, number: u32) -> Option<&Waiting>
         ensures { option_copied result ≡ waiting_of number self.now }
     {
@@ -44,7 +44,7 @@ impl SmbState {
         remove(&mut self.waiting, &number);
     }
 
-    /// Takes out the request that waits under this number, and gives it; None exactly where there is none.
+    /// Takes out the request that waits under this number, and gives it; None exactly if there is none.
     #[tactic(auto, using(crate::proofs::RowLaws::none_out))]
     pub fn take_waiting(&mut self, number: u32) -> Option<Waiting>
         ensures row { result ≡ waiting_of number self.old }

@@ -2,7 +2,7 @@
 
 use xl_base::{Moment, Sequence};
 
-/// Where an open or a request stands: on a tree connect of a session of a connection.
+/// Where an open or a request is: on a tree connect of a session of a connection.
 #[derive(Clone, Copy)]
 pub struct Place {
     /// The connection's number.
@@ -53,7 +53,7 @@ pub struct Open {
     pub file: u32,
     /// The guid of the client that made it.
     pub client: [u8; 16],
-    /// The key of the lease that it is under, where it asked for one.
+    /// The key of the lease that it is under, if it asked for one.
     pub lease: Option<[u8; 16]>,
     /// Whether it outlives its connection for a time.
     pub durable: bool,
@@ -103,19 +103,19 @@ pub enum Request {
     Lock,
 }
 
-/// A request that waits, told to its client by STATUS_PENDING (MS-SMB2 3.3.4.2). Its key is the waiter's number, which is
-/// its AsyncId too.
+/// A request that waits, which its client knows by STATUS_PENDING (MS-SMB2 3.3.4.2). Its key is the waiter's number,
+/// which is its AsyncId too.
 #[derive(Drop)]
 pub struct Waiting {
     /// What its final reply repeats.
     pub header: Header,
-    /// Where the open stands that it makes or locks.
+    /// Where the open is that it makes or locks.
     pub place: Place,
     /// The number of the open that it makes or locks.
     pub opened: u32,
     /// What it waits to do.
     pub request: Request,
-    /// The parts of its frame that stand behind it, with their headers, to be done after it; empty where there is none.
+    /// The parts of its frame that stand behind it, with their headers, to be done after it; empty if there is none.
     pub behind: Sequence<u8>,
 }
 

@@ -38,7 +38,7 @@ pub(crate) fn remove<K: Eq + Hash + Drop, V: Drop>(rows: &mut IndexMap<K, V>, ke
     let _ = rows.shift_remove(key);
 }
 
-/// Takes out the row under a key, and gives it; the others stay in their order. None exactly where there is none, and then
+/// Takes out the row under a key, and gives it; the others stay in their order. None exactly if there is none, and then
 /// all stay.
 #[tactic(auto, using(crate::proofs::RowLaws::none_out))]
 pub(crate) fn take<K: Eq + Hash + Drop, V: Drop>(rows: &mut IndexMap<K, V>, key: &K) -> Option<V>

@@ -12,7 +12,7 @@ use crate::state::{SESSIONS, SmbState, TREES};
 use std::alloc::{AllocError, Global};
 
 impl SmbState {
-    /// The connection of this number; None exactly where there is none.
+    /// The connection of this number; None exactly if there is none.
     pub fn find_connection(&self, number: u64) -> Option<&Connection>
         ensures { option_copied result ≡ connection_of number self.now }
     {
@@ -47,7 +47,7 @@ impl SmbState {
         remove(&mut self.connections, &number);
     }
 
-    /// The session of this number, on whatever connection; None exactly where there is none.
+    /// The session of this number, on whatever connection; None exactly if there is none.
     pub fn find_session(&self, number: u32) -> Option<&Session>
         ensures { option_copied result ≡ session_of number self.now }
     {
@@ -100,7 +100,7 @@ impl SmbState {
         Ok(self.sessions_on(alloc, connection)?.len() < SESSIONS)
     }
 
-    /// The tree connect of this number, of whatever session; None exactly where there is none.
+    /// The tree connect of this number, of whatever session; None exactly if there is none.
     pub fn find_tree(&self, number: u32) -> Option<&Tree>
         ensures { option_copied result ≡ tree_of number self.now }
     {

@@ -25,9 +25,9 @@ pub const OPENS: usize = MOST_OPENS;
 /// How many requests wait at most.
 pub const WAITING: usize = MOST_WAITERS;
 
-/// The lists that an SMB server keeps (MS-SMB2 3.3.1): connections, sessions, tree connects, opens, leases, and requests
-/// that wait. Each row stands under its key; a list is in the order in which its rows came. What a row names is there, no
-/// two rows of a list have one key, and no list outgrows its limit.
+/// The lists that an SMB server keeps (MS-SMB2 3.3.1): connections, sessions, tree connects, opens, leases, and
+/// requests that wait. Each row is under its key; a list is in the order in which its rows came. What a row names is
+/// there, no two rows of a list have one key, and no list outgrows its limit.
 #[derive(Drop)]
 pub struct SmbState {
     pub(crate) connections: IndexMap<u64, Connection>,
@@ -64,8 +64,8 @@ impl Model for SmbState {
 }
 
 impl SmbState {
-    /// Does nothing: what holds of the lists at all times stands in its clauses. What a row names is there, no list outgrows
-    /// its limit, and no two rows of a list have one key.
+    /// Does nothing: what holds of the lists at all times is in its clauses. What a row names is there, no list
+    /// outgrows its limit, and no two rows of a list have one key.
     pub fn links(&self)
         ensures sound { IsSound self.now }
         ensures distinct { AreDistinct self.now }

@@ -57,7 +57,7 @@ abbrev pub asked : ℕ → ℕ → Option Mode → List Span
 asked first last None = []
 asked first last (Some mode) = record { first = first; last = last; mode = mode } ∷ []
 
--- a before these runs: one run with the first of them, where they join
+-- a before these runs: one run with the first of them, if they join
 abbrev pub joined : Span → List Span → List Span
 joined a [] = a ∷ []
 joined a (b ∷ bs) = if joins a b then record { first = a.first; last = b.last; mode = a.mode } ∷ bs else a ∷ b ∷ bs
@@ -112,7 +112,7 @@ abbrev pub joined_behind : Option Span → List Span → List Span
 joined_behind None ss = ss
 joined_behind (Some s) ss = joined s ss
 
--- the mode of byte x, where this is the first span that does not end before it
+-- the mode of byte x, if this is the first span that does not end before it
 abbrev pub mode_in : ℕ → Option Span → Option Mode
 mode_in x None = None
 mode_in x (Some s) = if nat_le s.first x then Some s.mode else None
@@ -122,7 +122,8 @@ abbrev pub leaves_free : Mode → Option Mode → Bool
 leaves_free mode None = true
 leaves_free mode (Some held) = not (excludes mode held)
 
--- the span has a byte in the range, or right beside it; a lock or unlock of the range leaves all other spans as they stand
+-- the span has a byte in the range, or right beside it; a lock or unlock of the range leaves all other spans as they
+-- are
 abbrev pub touches : ℕ → ℕ → Span → Bool
 touches first last s = nat_le first (s.last + 1) && nat_le s.first (last + 1)
 

@@ -27,7 +27,7 @@ fn middle_of(many: usize) -> usize
     many / 2
 }
 
-/// The spans before the one at this place, where that begins past the byte.
+/// The spans before the one at this place, if that begins past the byte.
 #[tactic(auto, using(crate::proofs::Looks::mode_below, crate::proofs::Looks::canonical_before))]
 fn before(spans: &[Span], place: usize, span: Span, byte: u64) -> &[Span]
     requires canonical { IsCanonical spans.now }
@@ -41,7 +41,7 @@ fn before(spans: &[Span], place: usize, span: Span, byte: u64) -> &[Span]
     &spans[..place]
 }
 
-/// The spans behind the one at this place, where that ends before the byte.
+/// The spans behind the one at this place, if that ends before the byte.
 #[tactic(auto, using(crate::proofs::Looks::mode_above, crate::proofs::Looks::canonical_behind))]
 fn behind(spans: &[Span], place: usize, span: Span, byte: u64) -> &[Span]
     requires canonical { IsCanonical spans.now }

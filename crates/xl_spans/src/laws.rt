@@ -5,14 +5,14 @@ ghost use Rattle.xl_spans.specs.declared.span.Mode.{Mode};
 ghost use Rattle.xl_spans.specs.declared.span.Span.{Span};
 ghost use Rattle.xl_spans.specs.Spans.{mode_at, IsCanonical, EndsBelow, relocked, touches};
 
-/// Two lists of maximal runs, of which none reaches byte n, are equal exactly where each byte below n has the same mode
+/// Two lists of maximal runs, of which none reaches byte n, are equal exactly if each byte below n has the same mode
 /// in both.
 #[tactic(auto, using(crate::proofs::SameBytes::runs_bytes))]
 pub fn spans_are_their_bytes()
     ensures { (n : ℕ) (xs ys : List Span) → IsCanonical xs → IsCanonical ys → EndsBelow n xs → EndsBelow n ys → ((x : ℕ) → x < n → mode_at xs x ≡ mode_at ys x) ↔ (xs ≡ ys) }
 {}
 
-/// Where a range is locked or unlocked again, nothing is left of the first time.
+/// If a range is locked or unlocked again, nothing is left of the first time.
 #[tactic(auto, using(crate::proofs::SameBytes::relocked_again))]
 pub fn last_relock_counts()
     ensures { (ss : List Span) (first last : ℕ) (old new : Option Mode) → first ≤ last → IsCanonical ss → relocked (relocked ss first last old) first last new ≡ relocked ss first last new }

@@ -31,7 +31,7 @@ fn asked_span(first: u64, last: u64, mode: Option<Mode>) -> Option<Span>
     Some(Span { first, last, mode })
 }
 
-/// The span grown to the end of the one behind it, where the two are one run.
+/// The span grown to the end of the one behind it, if the two are one run.
 fn join_right(middle: Span, right: Option<Span>) -> (Span, Option<Span>)
     ensures { result.0 ∷ option_to_list result.1 ≡ joined middle (option_to_list right) }
 {
@@ -48,7 +48,7 @@ fn join_right(middle: Span, right: Option<Span>) -> (Span, Option<Span>)
     }
 }
 
-/// The span grown to the beginning of the one before it, where the two are one run.
+/// The span grown to the beginning of the one before it, if the two are one run.
 fn join_left(left: Option<Span>, middle: Span) -> (Option<Span>, Span)
     ensures { (rest : List Span) → option_to_list result.0 ++ result.1 ∷ rest ≡ joined_behind left (middle ∷ rest) }
 {

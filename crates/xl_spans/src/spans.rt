@@ -133,7 +133,7 @@ impl Spans {
     }
 
     /// The least span that another owner's lock of the bytes from `first` to `last` in this mode conflicts with: it has
-    /// one of these bytes, and one of the two modes is exclusive. None exactly where there is none.
+    /// one of these bytes, and one of the two modes is exclusive. None exactly if there is none.
     pub fn first_conflict(&self, first: u64, last: u64, mode: Mode) -> Option<Span>
         requires { first ≤ last }
         ensures value { result ≡ first_conflict first last mode self.now.spans }

@@ -4,8 +4,8 @@ ghost use Rattle.std.specs.Prelude.{◌≡◌, ◌+◌, ◌<◌};
 use std::marker::Model;
 use std::sync::ledger::{Blank, Book, Ledger, Share};
 
-/// How many steps were taken so far, whatever the caller means by a step. A contract sees the number, which nothing but
-/// `tick` changes.
+/// How many steps were taken so far, whatever the caller means by a step. A contract sees the number, which nothing
+/// except `tick` changes.
 #[derive(Drop)]
 pub struct Steps<L: Ledger> {
     book: Book<L>,

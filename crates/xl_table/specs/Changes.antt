@@ -15,7 +15,7 @@ spliced change on = take change.start on ++ (change.entered.items ++ drop change
 unfoldable pub written : Change → List Claim → List Claim
 written change held = alone change.file (spliced change) held
 
--- the change is one of this file's claims, where so many are held on all files
+-- the change is one of this file's claims, if so many are held on all files
 pub record IsOn (at held_now : ℕ) (on : List Claim) (change : Change) : Type 0 where
   pub file : change.file ≡ at
   pub order : change.start ≤ change.end
@@ -23,7 +23,7 @@ pub record IsOn (at held_now : ℕ) (on : List Claim) (change : Change) : Type 0
   pub own : AreOn at change.entered.items
   pub count : change.held + (change.end - change.start) ≡ held_now + length change.entered.items
 
--- the change is one of these claims, and a table may hold what it leaves, where there is room
+-- the change is one of these claims, and a table may hold what it leaves, if there is room
 pub record MayBeWritten (change : Change) (held : List Claim) : Type 0 where
   pub order : change.start ≤ change.end
   pub within : change.end ≤ length (here change.file held)

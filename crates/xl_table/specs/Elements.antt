@@ -27,7 +27,7 @@ abbrev pub without : What → List What → List What
 without what [] = []
 without what (w ∷ ws) = if same_what w what then ws else w ∷ without what ws
 
--- the elements after an unlock of the range: without the first exclusive one that is equal to it, or where there is none,
+-- the elements after an unlock of the range: without the first exclusive one that is equal to it, or if there is none,
 -- without the first shared one
 unfoldable pub unlocked_elements : Extent → List What → List What
 unlocked_elements extent es = if is_among (Range extent true) es then without (Range extent true) es else without (Range extent false) es
@@ -46,7 +46,7 @@ is_element ask what c = is_range_of ask.file ask.owner c && same_what c.what wha
 unfoldable pub element_held : Claim → Extent → List Claim → Option Claim
 element_held ask extent cs = option_or (find (is_element ask (Range extent true)) cs) (find (is_element ask (Range extent false)) cs)
 
--- the claims without it, where there is one
+-- the claims without it, if there is one
 abbrev pub taken_out : Option Claim → List Claim → List Claim
 taken_out None cs = cs
 taken_out (Some c) cs = removed c cs

@@ -21,7 +21,7 @@ element_of (Range (Empty offset) exclusive) = Some (record { first = offset; len
 element_of (Share access deny) = None
 element_of (Cache kind running) = None
 
--- the element before these, where there is one
+-- the element before these, if there is one
 abbrev pub with_element : Option Element → List Element → List Element
 with_element None es = es
 with_element (Some e) es = e ∷ es

@@ -33,7 +33,7 @@ IsShareOrLock (Range (Bytes first last) exclusive) = first ≤ last
 IsShareOrLock (Range (Empty offset) exclusive) = Unit {0}
 IsShareOrLock (Cache kind running) = ⊥
 
--- a share is anyone's; a range with bytes is a POSIX owner's, or an SMB open's where it hasn't all of them; an empty one
+-- a share is anyone's; a range with bytes is a POSIX owner's, or an SMB open's if it hasn't all of them; an empty one
 -- is an SMB open's
 abbrev pub may_own : Owner → What → Bool
 may_own owner (Range (Bytes first last) exclusive) = posix owner || not ((first == 0) && (last == 2 ^ 64 - 1))
@@ -54,7 +54,7 @@ abbrev pub mode_of : Bool → Mode
 mode_of true = Exclusive
 mode_of false = Shared
 
--- the span of what is claimed, where that is a range with bytes, before these
+-- the span of what is claimed, if that is a range with bytes, before these
 abbrev pub with_span : What → List Span → List Span
 with_span (Range (Bytes first last) exclusive) spans = record { first = first; last = last; mode = mode_of exclusive } ∷ spans
 with_span _ spans = spans

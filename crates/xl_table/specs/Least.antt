@@ -19,7 +19,7 @@ abbrev pub before_by : ℕ × ℕ × ℕ × ℕ → ℕ × ℕ × ℕ × ℕ →
 before_by a b text =
     if a.0 == b.0 then (if a.1 == b.1 then (if a.2 == b.2 then (if a.3 == b.3 then text else nat_lt a.3 b.3) else nat_lt a.2 b.2) else nat_lt a.1 b.1) else nat_lt a.0 b.0
 
--- the first range comes before the second; where nothing else parts them, by the text of their owners
+-- the first range comes before the second; if nothing else parts them, by the text of their owners
 abbrev pub range_before : List Name → Claim → Claim → Bool
 range_before names a b = before_by (range_key a.what) (range_key b.what) (is_lt (slice_cmp nat_cmp (owner_text names a.owner) (owner_text names b.owner)))
 
@@ -32,6 +32,6 @@ abbrev pub least_from : List Name → Option Claim → List Claim → Option Cla
 least_from names least [] = least
 least_from names least (c ∷ cs) = least_from names (lesser names least c) cs
 
--- the least of these, which a refusal tells (CORE-2)
+-- the least of these, which a refusal names (CORE-2)
 unfoldable pub least : List Name → List Claim → Option Claim
 least names cs = least_from names None cs

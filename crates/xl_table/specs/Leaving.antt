@@ -10,7 +10,7 @@ use Rattle.xl_matrix.specs.declared.claim.Claim.{Claim}
 use Rattle.xl_table.specs.declared.leaver.Leaver.{Leaver}
 use Rattle.xl_table.specs.declared.leaver.Leaver.TheVariants as leavers
 
--- it is this party, where there is one
+-- it is this party, if there is one
 abbrev pub is_some_party : Option Party → Party → Bool
 is_some_party None holder = false
 is_some_party (Some party) holder = same_parties holder party
@@ -28,8 +28,8 @@ goes (leavers.Open number party) c = if is_cache c.what then is_of_some party c 
 abbrev pub goes_on : Leaver → ℕ → Claim → Bool
 goes_on who file c = goes who c && (c.file == file)
 
--- The claim is that of who leaves: of the party, or of the SMB open or the party that goes with it. All that goes is, but not
--- all of it goes: an SMB open's claims by another party stay where that one leaves alone.
+-- The claim is that of who leaves: of the party, or of the SMB open or the party that goes with it. All that goes is,
+-- but not all of it goes: an SMB open's claims by another party stay if that one leaves alone.
 abbrev pub is_leavers : Leaver → Claim → Bool
 is_leavers (leavers.Party party) c = is_by (who_of party) c
 is_leavers (leavers.Open number None) c = is_by (who_opens number) c

@@ -70,14 +70,14 @@ IsThere at left [] = ⊥
 IsThere zero left (p ∷ ps) = left ≤ length p
 IsThere (suc at) left (p ∷ ps) = IsThere at left ps
 
--- no page but this one is without claims
+-- no page except this one is without claims
 abbrev pub IsFullBut : ℕ → List (List Claim) → Type 0
 IsFullBut at [] = Unit {0}
 IsFullBut zero (p ∷ ps) = AreFull ps
 IsFullBut (suc at) (p ∷ ps) = (0 < length p) × IsFullBut at ps
 
--- claims were moved one by one, each over its neighbour: but for the one at a place, which is told twice or lost, they are
--- those that there were but for one
+-- claims were moved one by one, each over its neighbour: except for the one at a place, which is counted twice or lost,
+-- they are those that there were except for one
 pub record IsShifting (from at : ℕ) (old now : List (List Claim)) : Type 0 where
   pub same : remove (paged now) at ≡ remove (paged old) from
   pub many : length (paged now) ≡ length (paged old)

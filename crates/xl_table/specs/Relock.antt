@@ -40,7 +40,7 @@ range_claim file owner party s = record { file = file; owner = owner; party = pa
 abbrev pub is_range_of : ℕ → Owner → Claim → Bool
 is_range_of file owner c = is_of file owner c && is_range c.what
 
--- all but the owner's ranges on the file
+-- all except the owner's ranges on the file
 unfoldable pub unranged : ℕ → Owner → List Claim → List Claim
 unranged file owner cs = filter (λ c. not (is_range_of file owner c)) cs
 
@@ -72,7 +72,7 @@ is_cut first last s = nat_lt s.first first && nat_lt last s.last
 abbrev pub is_share_of : ℕ → Owner → Claim → Bool
 is_share_of file owner c = is_of file owner c && is_share c.what
 
--- the access and the deny of what is claimed, where that is a share, before these
+-- the access and the deny of what is claimed, if that is a share, before these
 abbrev pub with_share : What → List (Rwd × Rwd) → List (Rwd × Rwd)
 with_share (Share access deny) shares = (access, deny) ∷ shares
 with_share _ shares = shares
@@ -112,7 +112,7 @@ unites (owners.Name Nfs number) = true
 unites (owners.Name Smb number) = false
 unites (owners.Open number) = false
 
--- what is asked, joined with what the owner had where its shares unite
+-- what is asked, joined with what the owner had if its shares unite
 unfoldable pub united_by : Owner → What → List Claim → What
 united_by owner what old = if unites owner then united_with what old else what
 

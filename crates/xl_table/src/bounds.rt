@@ -6,8 +6,8 @@ ghost use Rattle.xl_table.specs.Bounds.{unbounded, widened, bounds_from, bounds_
 use crate::due::due_with;
 use xl_matrix::{Claim, Extent, What};
 
-/// No range of a page has a byte before the low one or behind the high one, it has other claims than ranges with bytes only
-/// where it is mixed, and no answer is due to one of its caches before the moment.
+/// No range of a page has a byte before the low one or behind the high one, it has other claims than ranges with bytes
+/// only if it is mixed, and no answer is due to one of its caches before the moment.
 #[derive(Clone, Copy)]
 pub struct Bounds {
     pub(crate) low: u64,

@@ -35,7 +35,7 @@ pub struct Change {
     pub held: usize,
 }
 
-/// A file's claims from one place to before another give way to these, where `count` claims are held on all files.
+/// A file's claims from one place to before another give way to these, if `count` claims are held on all files.
 fn make_change(file: u32, count: usize, start: usize, end: usize, entered: Vec<Claim>) -> Change
     requires order { start ≤ end }
     requires within { end ≤ count }

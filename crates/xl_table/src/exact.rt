@@ -23,7 +23,7 @@ fn is_counted(first: u64, last: u64) -> bool
     first <= last && !(first == 0 && last == u64::MAX)
 }
 
-/// The element of these bytes, where it is one.
+/// The element of these bytes, if it is one.
 fn element_at(first: u64, last: u64, exclusive: bool) -> Option<Element>
     ensures value { result ≡ element_of (Range (Bytes first last) exclusive) }
     ensures range { IfSome result (λ e. IsRange e.first e.len) }
@@ -38,7 +38,7 @@ fn element_at(first: u64, last: u64, exclusive: bool) -> Option<Element>
     })
 }
 
-/// What is claimed as an element, where it is one: a range that an SMB open may have.
+/// What is claimed as an element, if it is one: a range that an SMB open may have.
 fn element_of(what: What) -> Option<Element>
     ensures value { result ≡ element_of what }
     ensures range { IfSome result (λ e. IsRange e.first e.len) }
@@ -54,7 +54,7 @@ fn element_of(what: What) -> Option<Element>
     }
 }
 
-/// Adds what is claimed, where it is an element.
+/// Adds what is claimed, if it is an element.
 fn push_element(elements: &mut Vec<Element>, what: What) -> Result<(), AllocError>
     requires ranges { AreRanges elements.old.items }
     ensures elements { OnOk result (elements.new.items ≡ elements.old.items ++ with_element (element_of what) []) }

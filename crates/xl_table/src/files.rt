@@ -30,7 +30,7 @@ fn is_at(lists: &[OnFile], file: u32, at: usize) -> bool
     at < lists.len() && lists[at].file == file
 }
 
-/// The place of the file's list, where there is one.
+/// The place of the file's list, if there is one.
 #[tactic(auto, using(crate::proofs::FileLaws::at_within, crate::proofs::FileLaws::none_here))]
 pub(crate) fn find_file(lists: &[OnFile], file: u32) -> Option<usize>
     requires { IsFiled lists.now }
@@ -57,7 +57,7 @@ pub(crate) fn on_file(lists: &[OnFile], file: u32) -> &[Page]
     }
 }
 
-/// The place of the file's list, which is put there where there is none. After an error the claims are as they were.
+/// The place of the file's list, which is put there if there is none. After an error the claims are as they were.
 pub(crate) fn open_file(
     alloc: Global,
     lists: &mut Vec<OnFile>,

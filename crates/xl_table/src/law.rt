@@ -18,7 +18,7 @@ ghost use Rattle.xl_table.specs.Held.{is_range, is_real, is_share, has_one_party
 ghost use Rattle.xl_table.specs.Relock.{is_share_of, is_range_of, united, relocked_in, is_cut};
 
 /// Claims stay pairwise compatible: when one that goes with each of them is entered, and so when one is that nothing
-/// blocks, where what it replaces is gone; when one is taken out; when one is made weaker, as a cache by its break; and
+/// blocks, if what it replaces is gone; when one is taken out; when one is made weaker, as a cache by its break; and
 /// when one becomes what goes with each of the others, as a cache that is raised.
 pub fn stays_compatible()
     ensures fitting { (claim : Claim) (held : List Claim) → Pairwise compat held → AllByRecursion (λ d. compat claim d ≡ true) held → Pairwise compat (inserted claim held) }
@@ -28,8 +28,8 @@ pub fn stays_compatible()
     ensures raised { (claim : Claim) (to : What) (held : List Claim) → Pairwise compat held → AllByRecursion (λ d. compat (with_what claim to) d ≡ true) (removed claim held) → Pairwise compat (changed claim to held) }
 {}
 
-/// When a claim may be entered. A share or a cache always may, and a claim may always become one. A range may where it
-/// is real, its owner's ranges on the file have its party, and the owner's group, where it is of NLM or NFSv4, is
+/// When a claim may be entered. A share or a cache always may, and a claim may always become one. A range may if it
+/// is real, its owner's ranges on the file have its party, and the owner's group, if it is of NLM or NFSv4, is
 /// canonical then; in that group it stands by its first byte.
 pub fn stays_sound()
     ensures entered { (claim : Claim) (held : List Claim) → IsSound held → is_real claim ≡ true → AllByRecursion (λ c. has_one_party claim c ≡ true) held → (posix claim.owner ≡ true → IsCanonical (spans_of claim.file claim.owner (inserted claim held))) → IsSound (inserted claim held) }
@@ -46,15 +46,15 @@ pub fn united_shares_stay_compatible()
     ensures { (asked third : Claim) (held : List Claim) → is_share asked.what ≡ true → compat asked third ≡ true → AllByRecursion (λ d. is_share_of asked.file asked.owner d ≡ true → (d.party ≡ asked.party) × (compat d third ≡ true)) held → compat (united asked held) third ≡ true }
 {}
 
-/// An unlock leaves more claims than there were, so that room may be missing, only where it cuts a range in two.
+/// An unlock leaves more claims than there were, so that room may be missing, only if it cuts a range in two.
 #[tactic(auto, using(crate::proofs::RoomLaws::unlock_grows))]
 pub fn unlocks_grow_only_by_a_cut()
     ensures { (file : ℕ) (owner : Owner) (party : Party) (first last : ℕ) (held : List Claim) → IsSound held → posix owner ≡ true → length held < length (relocked_in file owner party first last None held) → list_any (is_cut first last) (spans_of file owner held) ≡ true }
 {}
 
-/// An SMB open's ranges on a file are a list of elements in the order of locking (MS-FSA 2.1.5.8). One that is granted comes
-/// behind the others, and what any other claim does leaves them. An unlock takes out one that is equal to its range, an
-/// exclusive one before a shared one (MS-FSA 2.1.5.9); where there is none it takes out none.
+/// An SMB open's ranges on a file are a list of elements in the order of locking (MS-FSA 2.1.5.8). One that is granted
+/// comes behind the others, and what any other claim does leaves them. An unlock takes out one that is equal to its
+/// range, an exclusive one before a shared one (MS-FSA 2.1.5.9); if there is none it takes out none.
 #[tactic(auto, using(crate::proofs::ElementLaws::elements_entered, crate::proofs::ElementLaws::elements_apart, crate::proofs::ElementLaws::elements_unlocked, crate::proofs::ElementLaws::elements_removed_apart))]
 pub fn opens_hold_elements()
     ensures entered { (file : ℕ) (owner : Owner) (claim : Claim) (held : List Claim) → is_range_of file owner claim ≡ true → posix owner ≡ false → Pairwise goes_first held → elements_of file owner (inserted claim held) ≡ elements_of file owner held ++ claim.what ∷ [] }

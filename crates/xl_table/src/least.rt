@@ -10,7 +10,7 @@ use xl_base::Owner;
 use xl_matrix::{Claim, Extent, What};
 use xl_names::{Names, owner_text};
 
-/// What orders ranges: the first byte, whether there are bytes, the last, and 0 where it is exclusive.
+/// What orders ranges: the first byte, whether there are bytes, the last, and 0 if it is exclusive.
 fn range_key(claim: &Claim) -> (u64, u8, u64, u8)
     ensures { (result.0, result.1, result.2, result.3) ≡ range_key claim.now.what }
 {

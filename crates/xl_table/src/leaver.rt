@@ -10,8 +10,8 @@ use xl_matrix::{Claim, is_a_cache, same_owner, same_party};
 pub enum Leaver {
     /// A party, with all that it has.
     Party(Party),
-    /// The SMB open of this number, with its share and its ranges, and with it the caches of this party, where one goes with it
-    /// (MS-SMB2 3.3.4.17).
+    /// The SMB open of this number, with its share and its ranges, and with it the caches of this party, if one goes
+    /// with it (MS-SMB2 3.3.4.17).
     Open(u32, Option<Party>),
 }
 

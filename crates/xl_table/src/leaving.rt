@@ -21,7 +21,7 @@ use xl_base::Party;
 use xl_index::{Index, who_of, who_opens};
 use xl_matrix::Claim;
 
-/// Takes a claim out of the index, where it goes.
+/// Takes a claim out of the index, if it goes.
 #[tactic(auto, using(crate::proofs::LeavingLaws::one_goes, crate::proofs::LeavingLaws::one_stays, crate::proofs::LeavingLaws::one_has))]
 fn leave_one(index: &mut Index, claim: &Claim, leaver: Leaver)
     requires { Has index.old (filter (goes leaver) (claim.now ∷ [])) }

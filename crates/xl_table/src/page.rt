@@ -222,7 +222,7 @@ impl Page {
         Ok(())
     }
 
-    /// Takes out the claims from `start` to before `end`. The bounds are worked out anew where these bore them.
+    /// Takes out the claims from `start` to before `end`. The bounds are worked out anew if these bore them.
     #[tactic(auto, using(crate::proofs::WithinLaws::within_of, crate::proofs::WithinLaws::within_out))]
     pub(crate) fn take_out(&mut self, start: usize, end: usize)
         requires order { start ≤ end }
@@ -244,7 +244,7 @@ impl Page {
         Ok(Page::of(tail_from(&self.claims, place)?))
     }
 
-    /// Puts a claim in the place of another. The bounds are worked out anew where that bore them.
+    /// Puts a claim in the place of another. The bounds are worked out anew if that bore them.
     #[tactic(auto, using(crate::proofs::WithinLaws::within_of, crate::proofs::WithinLaws::within_set))]
     pub(crate) fn set(&mut self, place: usize, claim: Claim)
         requires { place < length self.old }

@@ -73,8 +73,8 @@ pub(crate) fn count_passing(pages: &[Page], mark: Mark, front: &[u64]) -> usize
     count_front(pages, at) + count_at(pages, at, mark, front)
 }
 
-/// How many claims pass the mark, where those are known to that stand before the place in this page: the others of the page
-/// are looked at one by one, and the pages behind it by bisection, where all of these pass.
+/// How many claims pass the mark, if those are known to that stand before the place in this page: the others of the
+/// page are looked at one by one, and the pages behind it by bisection, if all of these pass.
 #[tactic(auto, using(crate::proofs::AlongLaws::there_fits))]
 fn count_on(
     pages: &[Page],
@@ -253,7 +253,7 @@ fn locate(pages: &[Page], place: usize) -> (usize, usize)
     (at, left)
 }
 
-/// Where a place lies in a page: in the last one where it is behind all claims.
+/// Where a place lies in a page: in the last one if it is behind all claims.
 #[tactic(auto, using(crate::proofs::PageLaws::inside_there, crate::proofs::PageLaws::last_there, crate::proofs::PageLaws::last_sum))]
 fn find_seat(pages: &[Page], place: usize) -> (usize, usize)
     requires some { 0 < length pages.now }
@@ -313,7 +313,7 @@ fn is_full(pages: &[Page], at: usize) -> bool
     FULL <= pages[at].len()
 }
 
-/// Makes two pages of the one in which a place lies, where it is full. After an error the claims are as they were.
+/// Makes two pages of the one in which a place lies, if it is full. After an error the claims are as they were.
 #[tactic(auto, using(crate::proofs::PageLaws::some_still))]
 fn make_room(pages: &mut Vec<Page>, place: usize) -> Result<(), AllocError>
     requires some { 0 < length pages.old.items }
@@ -345,7 +345,7 @@ fn put_halved(pages: &mut Vec<Page>, place: usize, entered: &[Claim]) -> Result<
     Ok(())
 }
 
-/// Puts claims in at a place, where there are some already. After an error the claims are as they were.
+/// Puts claims in at a place, if there are some already. After an error the claims are as they were.
 fn put_among(pages: &mut Vec<Page>, place: usize, entered: &[Claim]) -> Result<(), AllocError>
     requires some { 0 < length pages.old.items }
     requires within { place ≤ length (paged pages.old.items) }

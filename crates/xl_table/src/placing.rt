@@ -121,7 +121,7 @@ fn put_in(pages: &mut Vec<Page>, claim: Claim) -> Result<(), AllocError>
     Ok(())
 }
 
-/// Puts a claim at its place, where `at` is the place of its file's list. After an error the claims are as they were.
+/// Puts a claim at its place, if `at` is the place of its file's list. After an error the claims are as they were.
 pub(crate) fn put(lists: &mut Vec<OnFile>, at: usize, claim: Claim) -> Result<(), AllocError>
     requires filed { IsFiled lists.old.items }
     requires at { IsAt claim.file at lists.old.items }

@@ -24,7 +24,7 @@ pub(crate) fn mode_of(exclusive: bool) -> Mode
     }
 }
 
-/// Adds the span that is claimed, where it is a range with bytes.
+/// Adds the span that is claimed, if it is a range with bytes.
 fn push_span(spans: &mut Vec<Span>, what: What) -> Result<(), AllocError>
     ensures { OnOk result (spans.new.items ≡ spans.old.items ++ with_span what []) }
 {
@@ -184,7 +184,7 @@ fn unites(owner: Owner) -> bool
     }
 }
 
-/// The share that its owner has once this one is granted, where these are the owner's.
+/// The share that its owner has once this one is granted, if these are the owner's.
 #[tactic(auto, unfolding(crate::specs::Relock::united_by))]
 pub(crate) fn united(claim: &Claim, old: &[Claim]) -> Claim
     ensures { result ≡ with_what claim.now (united_by claim.now.owner claim.now.what old.now) }

@@ -181,7 +181,7 @@ impl Table {
         Ok(least_of(alloc, names, &blockers)?)
     }
 
-    /// The least of the held ranges that block the ask, which a test is told of.
+    /// The least of the held ranges that block the ask, which a test is answered with.
     pub fn least_range(
         &self,
         alloc: Global,
@@ -219,7 +219,7 @@ impl Table {
         has_range(&self.lists, owner)
     }
 
-    /// The owner's share on the file, of which it has one at most; the first where there are more. It takes no memory.
+    /// The owner's share on the file, of which it has one at most; the first if there are more. It takes no memory.
     pub fn share_of(&self, file: u32, owner: Owner) -> Option<Claim>
         ensures share { result ≡ find (is_share_of file owner) self.now }
         ensures held { IfSome result (λ c. IsIn c self.now) }
@@ -248,9 +248,9 @@ impl Table {
         has_cache(&self.lists, file)
     }
 
-    /// The held claim that the unlock of a range by an SMB open takes out: one of just this range, an exclusive one before
-    /// a shared one (MS-FSA 2.1.5.9), by the list of all that the open has on the file. None where it holds none; a part of a
-    /// range, or what covers several, is none. `ask` names the open and the file.
+    /// The held claim that the unlock of a range by an SMB open takes out: one of just this range, an exclusive one
+    /// before a shared one (MS-FSA 2.1.5.9), by the list of all that the open has on the file. None if it holds none; a
+    /// part of a range, or what covers several, is none. `ask` names the open and the file.
     pub fn element_held(
         &self,
         alloc: Global,
@@ -294,7 +294,7 @@ impl Table {
         Ok(unlock(alloc, &self.lists, self.index.len(), ask, first, last)?)
     }
 
-    /// Writes a change that was worked out on these claims, where there is room for what it leaves. After an error the
+    /// Writes a change that was worked out on these claims, if there is room for what it leaves. After an error the
     /// table is as it was.
     #[tactic(auto, using(crate::proofs::IndexedLaws::has_none, crate::proofs::IndexedLaws::few_written, crate::proofs::IndexedLaws::has_come, crate::proofs::IndexedLaws::back_again, crate::proofs::IndexedLaws::still, crate::proofs::IndexedLaws::has_gone))]
     pub fn write(&mut self, change: &Change) -> Result<(), AllocError>
@@ -330,7 +330,7 @@ impl Table {
         next_left(&self.index, leaver, past)
     }
 
-    /// Enters a claim at its place: behind all that stand no later. Full comes exactly where the table holds 16,384.
+    /// Enters a claim at its place: behind all that stand no later. Full comes exactly if the table holds 16,384.
     /// After an error the table is as it was.
     ///
     /// Afterwards each range with bytes must have a first byte no later than its last, and an owner's ranges on a file
@@ -368,7 +368,7 @@ impl Table {
         self.index.recast(claim, to);
     }
 
-    /// Takes out the first claim equal to this one; the table is as it was where none is. It takes no memory.
+    /// Takes out the first claim equal to this one; the table is as it was if none is. It takes no memory.
     #[tactic(auto, using(crate::proofs::KeptLaws::kept_removed, crate::proofs::FlatLaws::removed_none, crate::proofs::IndexedLaws::has_equal, crate::proofs::IndexedLaws::index_removed, crate::proofs::IndexedLaws::index_none))]
     pub fn remove(&mut self, claim: &Claim)
         ensures { self.new ≡ removed claim.now self.old }
@@ -435,7 +435,7 @@ impl Table {
     }
 
     /// The range on the file that has the byte: the least by first byte, then by last, then exclusive before shared; of
-    /// equal ones the first in the table's order. None comes exactly where no range has it. It takes no memory.
+    /// equal ones the first in the table's order. None comes exactly if no range has it. It takes no memory.
     pub fn holder_of(&self, file: u32, byte: u64) -> Option<Claim>
         ensures value { result ≡ holder file byte self.now }
         ensures none { (result ≡ None) ↔ AllByRecursion (λ c. locks file byte c ≡ false) self.now }

@@ -16,7 +16,7 @@ mod spans;
 mod table;
 mod wait;
 
-/// The next word of a row; it is empty where none is left.
+/// The next word of a row; it is empty if none is left.
 fn next<'a>(words: &mut Split<'a, char>) -> &'a str {
     words.next().unwrap_or("")
 }

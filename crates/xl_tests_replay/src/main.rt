@@ -1,9 +1,10 @@
 //! Replays scenarios: standard input holds cases, one behind the other, and standard output tells what each comes to.
 //!
-//! A case is a line `== NAME READS WRITES WORD ..` and, behind it, the text that the program of these words reads. The READSth
-//! read and the WRITESth write fail; none does where the number is 0. The text ends before the line feed that the next case's
-//! line follows. What is told is a line `== NAME`, a line of the status, the number of the bad line and how many entries the
-//! journal has, and what the program writes. `tools/join_scenarios.py` makes the cases of what stands in `scenarios/`.
+//! A case is a line `== NAME READS WRITES WORD ..` and, behind it, the text that the program of these words reads. The
+//! READSth read and the WRITESth write fail; none does if the number is 0. The text ends before the line feed that the
+//! next case's line follows. What is told is a line `== NAME`, a line of the status, the number of the bad line and how
+//! many entries the journal has, and what the program writes. `tools/join_scenarios.py` makes the cases of what stands
+//! in `scenarios/`.
 #![tactic(auto)]
 
 use std::alloc::{AllocError, Global};

@@ -100,7 +100,7 @@ fn is_answered(alloc: Global, case: &str) -> Result<bool, AllocError> {
     Ok(replayed(alloc, &mut source)?.as_slice() == wanted.as_bytes())
 }
 
-/// The first case that is answered otherwise than it says; nothing where there is none.
+/// The first case that is answered otherwise than it says; nothing if there is none.
 fn wrong_case<'a>(alloc: Global, cases: &'a str) -> Result<&'a str, AllocError> {
     for case in cases.split("--\n") {
         if !is_answered(alloc, case)? {

@@ -34,8 +34,8 @@ fn message(alloc: Global, conn: u64, text: &[u8]) -> Result<Event, AllocError> {
     Ok(Event::Message(conn, Sequence::from_slice(alloc, text)?))
 }
 
-/// The place of a call, or what it was refused with: a machine full with 4 entries is 104 where the call halted it, and 204
-/// where it was found halted.
+/// The place of a call, or what it was refused with: a machine full with 4 entries is 104 if the call halted it, and
+/// 204 if it was found halted.
 fn told(called: Result<Receipt, DeskErr>) -> u64 {
     match called {
         Ok(Receipt { place }) => place,
@@ -181,7 +181,7 @@ fn a_halt_is_final(rt: HostRuntime) -> Result<(), Fail> {
     Ok(())
 }
 
-/// Each caller is told the calls of its share, in order, and then none.
+/// Each caller is given the calls of its share, in order, and then none.
 #[test]
 fn calls_are_found_by_share(rt: HostRuntime) -> Result<(), Fail> {
     let alloc = rt.alloc();

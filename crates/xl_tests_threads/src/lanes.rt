@@ -277,7 +277,7 @@ fn call_over(machine: &Echo, record: &[u8]) -> u64 {
     }
 }
 
-/// A call that a link's message asks for is made once, and entered with its answer, or without one where there is nobody.
+/// A call that a link's message asks for is made once, and entered with its answer, or without one if there is nobody.
 #[test]
 fn a_call_of_a_lane_is_made(rt: HostRuntime) -> Result<(), Fail> {
     let alloc = rt.alloc();

@@ -15,9 +15,9 @@ const PARTS: [(usize, &[u8]); 3] = [(0, b"abcd"), (0, b""), (4, b"ef")];
 /// The calls of a lane: `n` waits for the next link, `r` for up to three bytes, `s` sends `wxyz`, and `x` shuts the link.
 const CALLS: &[u8] = b"nrrrrrsrrrxnrn";
 
-/// The number of the call that fails, 0 for none; what each call comes to; how many failed, and how many of these were for a
-/// link. Then what was taken from the first link and sent to it, how many of its calls failed, and `e` where it ended and `s`
-/// where it was shut, or a dash.
+/// The number of the call that fails, 0 for none; what each call comes to; how many failed, and how many of these were
+/// for a link. Then what was taken from the first link and sent to it, how many of its calls failed, and `e` if it
+/// ended and `s` if it was shut, or a dash.
 ///
 /// A link is `R` for RPC and `S` for SMB, and `E` none. A number is how many bytes came, `q` none yet, and `e` none any more;
 /// `w` is written, and `f` failed.

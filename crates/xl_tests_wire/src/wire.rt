@@ -49,7 +49,7 @@ fn put_words(alloc: Global, bytes: &mut Vec<u8>, row: &str) -> Result<(), AllocE
     Ok(())
 }
 
-/// The bytes of a row of a table. Blanks are skipped, and all from a word `#` on; an error too where a word is not in hex.
+/// The bytes of a row of a table. Blanks are skipped, and all from a word `#` on; an error too if a word is not in hex.
 pub(crate) fn bytes_of(alloc: Global, row: &str) -> Result<Vec<u8>, AllocError> {
     let mut bytes = Vec::new(alloc);
     put_words(alloc, &mut bytes, row)?;

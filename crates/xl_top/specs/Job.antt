@@ -83,7 +83,7 @@ abbrev pub IsReplayed : Result Capture ℕ → Journal → Type 0
 IsReplayed (Ok c) journal = journal ≡ journal_of c
 IsReplayed (Err line) journal = ⊥
 
--- the journal is a beginning of that one; where nothing was stepped its head may be that of an empty capture
+-- the journal is a beginning of that one; if nothing was stepped its head may be that of an empty capture
 pub record BeginsAs (c : Capture) (journal : Journal) : Type 0 where
   pub entries : take (length journal.entries) (journal_of c).entries ≡ journal.entries
   pub head : 0 < length journal.entries → journal.head ≡ head_of c

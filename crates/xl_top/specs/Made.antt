@@ -84,7 +84,7 @@ made_entries seed count = entries_of (begin made_head) (made seed count)
 abbrev pub made_journal : ℕ → ℕ → Journal
 made_journal seed count = record { head = made_head; entries = made_entries seed count }
 
--- the journal is a beginning of that one; where nothing was stepped its head may be that of an empty capture
+-- the journal is a beginning of that one; if nothing was stepped its head may be that of an empty capture
 pub record IsMadePart (seed count : ℕ) (journal : Journal) : Type 0 where
   pub entries : take (length journal.entries) (made_entries seed count) ≡ journal.entries
   pub head : 0 < length journal.entries → journal.head ≡ made_head

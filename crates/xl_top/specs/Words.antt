@@ -22,7 +22,7 @@ bare = record { top = record (new_app (codes "xlockd")).top { subcommand_require
 unfoldable pub program : App
 program = with_subcommand (with_subcommand (with_subcommand bare (new_app (codes "replay")).top) (new_app (codes "show")).top) make_command.top
 
--- where nothing is wrong with the words
+-- if nothing is wrong with the words
 abbrev pub unless_faulty : {X : Type 0} → Kinds → Option X → Option X
 unless_faulty [] x = x
 unless_faulty (k ∷ ks) x = None

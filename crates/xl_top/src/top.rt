@@ -530,8 +530,8 @@ pub fn run<I: Source, O: Sink>(alloc: Global, words: &[String], input: &mut I, o
     // lawful: an event changes an owner's bytes and shares only by what the owner did in it, was granted after a wait, or lost
     // with its lease or its connection; it changes a lease only by a renewal or the client's expiry.
     // waiting: those who waited go on to wait in their order, except those whom the event served, cancelled or ended.
-    // kept_until_answered: while the break of a cache runs, the cache stands at its full kind, and nothing is granted that it
-    // guards against, until its party answers, gives it back, ends or expires, or the deadline passes.
+    // kept_until_answered: while the break of a cache runs, the cache is held at its full kind, and nothing is granted
+    // that it guards against, until its party answers, gives it back, ends or expires, or the deadline passes.
     // complete: a lock or a share is granted if nothing held stands against it and no limit is passed; if something does, it is
     // refused or waits. A reading of the clock ends each break and lets each client expire that is due by then.
     // caused: an event does only what such an event may do, and only for the clients that it names.

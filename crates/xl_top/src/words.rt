@@ -51,7 +51,7 @@ fn matches<'a>(alloc: Global, words: &'a [String]) -> Result<ArgMatches<'a>, Err
     program.try_get_matches_from(words)
 }
 
-/// The job of `make` with these numbers, where they are in their ranges.
+/// The job of `make` with these numbers, if they are in their ranges.
 fn make_of(seed: u64, count: u64) -> Option<Job>
     ensures is { result ≡ make_of seed count }
     ensures fit { IfSome result HasFit }

@@ -77,6 +77,6 @@ NoneEmpty queues = (file : ℕ) → get nat_cmp queues file ≢ Some []
 abbrev pub AreQueued : BTreeMap ℕ (List ℕ) → List (Option ℕ) → Type 0
 AreQueued queues fs = ((file : ℕ) → places_in queues file ≡ places_on file fs) × NoneEmpty queues
 
--- one more stands at this place in the queue of its file, where it has one
+-- one more stands at this place in the queue of its file, if it has one
 abbrev pub one_more : ℕ → Option ℕ → ℕ → List ℕ
 one_more file own place = if is_file file own then place ∷ [] else []

@@ -42,7 +42,7 @@ fn leave(waiters: &mut Vec<Waiter>, queues: &mut Queues, place: usize)
     leave_place(alloc, queues, first_file(waiter.asked.as_slice()), place);
 }
 
-/// Takes out the first waiter of this number; false where none has it.
+/// Takes out the first waiter of this number; false if none has it.
 pub(crate) fn take_out(waiters: &mut Vec<Waiter>, queues: &mut Queues, id: u32) -> bool
     requires queues { AreQueued queues.old (files_of waiters.old.items) }
     ensures waiting { result ≡ is_waiting id waiters.old.items }

@@ -75,7 +75,7 @@ pub(crate) fn enter_place(
     }
 }
 
-/// A place, which is one nearer where it is behind the other.
+/// A place, which is one nearer if it is behind the other.
 fn nearer(at: usize, place: usize) -> usize
     ensures { result ≡ nearer at place }
 {
@@ -93,7 +93,7 @@ fn bring_nearer(at: usize, places: &mut Vec<usize>)
     }
 }
 
-/// The places but this one, those behind it one nearer.
+/// The places except this one, those behind it one nearer.
 fn close_up(places: Sequence<usize>, at: usize) -> Sequence<usize>
     ensures { result ≡ closed_up at places }
 {
@@ -115,7 +115,7 @@ fn close_all(alloc: Global, queues: &mut Queues, at: usize)
     });
 }
 
-/// Takes the queue of this file out of the map, where nobody stands in it.
+/// Takes the queue of this file out of the map, if nobody stands in it.
 fn drop_empty(queues: &mut Queues, file: Option<u32>)
     ensures places { (f : ℕ) → places_in queues.new f ≡ places_in queues.old f }
     ensures empty { (f : ℕ) → get nat_cmp queues.new f ≡ Some [] → (is_file f file ≡ false) × (get nat_cmp queues.old f ≡ Some []) }

@@ -96,7 +96,7 @@ impl Queue {
         self.waiters.is_empty()
     }
 
-    /// Enters a waiter behind the others. Full comes exactly where 1,024 wait. After an error the queue is as it was.
+    /// Enters a waiter behind the others. Full comes exactly if 1,024 wait. After an error the queue is as it was.
     pub fn push(&mut self, waiter: Waiter) -> Result<(), QueueErr>
         ensures ok { OnOk result (self.new ≡ self.old ++ waiter ∷ []) }
         ensures full { (n : ℕ) → (result ≡ Err (QueueErr.Full n)) ↔ ((n ≡ most_waiters) × (length self.old ≡ most_waiters)) }
@@ -109,7 +109,7 @@ impl Queue {
         Ok(())
     }
 
-    /// Takes out the first waiter of this number, and nobody else. False comes exactly where none has it; then the
+    /// Takes out the first waiter of this number, and nobody else. False comes exactly if none has it; then the
     /// queue is as it was. It takes no memory.
     pub fn cancel(&mut self, id: u32) -> bool
         ensures waiting { result ≡ is_waiting id self.old }
@@ -133,7 +133,7 @@ impl Queue {
         places_on(&self.queues, file)
     }
 
-    /// The waiter at this place, counted from 0; None exactly where fewer wait.
+    /// The waiter at this place, counted from 0; None exactly if fewer wait.
     pub fn at(&self, place: usize) -> Option<&Waiter>
         ensures { option_copied result ≡ slice_get self.now place }
     {

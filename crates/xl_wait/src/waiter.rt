@@ -37,13 +37,13 @@ impl Default for Rooms {
 pub struct Waiter {
     /// Its number.
     pub id: u32,
-    /// The connection that its answer goes to; None where it is told by a call of its own.
+    /// The connection that its answer goes to; None if a call of its own carries it.
     pub conn: Option<u64>,
     /// The claims that it asks for, in order.
     pub asked: Sequence<Claim>,
     /// The caches that it wishes for once it is served, the first choice first.
     pub wish: Sequence<CacheKind>,
-    /// Whether it asked to wait where something stands in its way; a request that waits for grace may not have.
+    /// Whether it asked to wait if something stands in its way; a request that waits for grace may not have.
     pub blocking: bool,
     /// Whether its party's name is to be recorded before it is granted.
     pub monitored: bool,

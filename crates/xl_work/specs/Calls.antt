@@ -89,8 +89,8 @@ IsLast log [] = Unit {0}
 IsLast log (Call to bytes outcome ∷ []) = (call : ℕ) × HasAsked log call to bytes
 IsLast log _ = ⊥
 
--- What a caller with this post made of its turns: its calls are the ends of calls, and, in order, the first of its share, where
--- their numbers rise.
+-- What a caller with this post made of its turns: its calls are the ends of calls, and, in order, the first of its
+-- share, if their numbers rise.
 pub record AreMade {O : Type 0} (post : CallerPost) (told : Option (List Asked)) (before : View O) (told' : Option (List Asked)) (after : View O) : Type 0 where
   pub goes : Goes before after
   pub shares : after.shares ≡ before.shares
@@ -111,7 +111,7 @@ last_or k (x ∷ xs) = last_or x xs
 abbrev pub AllLow : ℕ → List Out → Type 0
 AllLow k os = AllByRecursion (λ o. number o ≤ k) os
 
--- Where the numbers rise: the calls made are all of the share before a place, and some behind it, up to the last one made.
+-- If the numbers rise: the calls made are all of the share before a place, and some behind it, up to the last one made.
 pub record IsOnWay (post : CallerPost) (first from after : ℕ) (log : List Entry) (made : List ℕ) : Type 0 where
   pub low : first ≤ from
   pub high : from ≤ first + length log
@@ -129,7 +129,7 @@ pub record IsGoing {O : Type 0} (post : CallerPost) (told : Option (List Asked))
   pub way : IsOnWay post after.first from last after.seen (numbers calls)
   pub asked : Follows told told' (λ old new. (asked : List Asked) × (new ≡ old ++ asked) × Answers post after.first (before.first + length before.seen) after.seen [] asked calls)
 
--- a count rose by so many, or stands at its last value
+-- a count rose by so many, or is at its last value
 abbrev pub RoseBy : ℕ → ℕ → ℕ → Type 0
 RoseBy n before now = now < 2 ^ 64 - 1 → now ≡ before + n
 
@@ -142,7 +142,7 @@ IsCut may_halt v (lane_end.Turns n) = ⊥
 IsCut may_halt v lane_end.End = ⊥
 IsCut may_halt v (lane_end.Failed count) = ⊥
 
--- why the calls ended: they were cut off, or all turns are done, in each of which the caller was asked something where the
+-- why the calls ended: they were cut off, or all turns are done, in each of which the caller was asked something if the
 -- gate is open
 abbrev pub IsEnd : {O : Type 0} → (List Entry → Halt → Type 0) → Bool → ℕ → View O → ℕ → ℕ → LaneEnd → Type 0
 IsEnd may_halt open_gate turns v asked asked' (lane_end.Turns n) = (n ≡ turns) × (open_gate ≡ true → RoseBy turns asked asked')

@@ -148,9 +148,10 @@ pub record IsServing {O : Type 0} (told : Option (List Link)) (before : View O) 
 
 -- ---- what a lane comes to
 
--- A link at the end, with its connection and its calls: its messages are the first frames of what was taken, its end has a cause,
--- and it was sent a beginning of what the journal sends to it. It is shut only behind its end. In a whole lane the messages
--- are all frames, the end is there exactly where it has a cause, and then the link is shut. Where memory didn't run out it was sent all, if none of its calls failed.
+-- A link at the end, with its connection and its calls: its messages are the first frames of what was taken, its end
+-- has a cause, and it was sent a beginning of what the journal sends to it. It is shut only behind its end. In a whole
+-- lane the messages are all frames, the end is there exactly if it has a cause, and then the link is shut. If memory
+-- didn't run out it was sent all, if none of its calls failed.
 pub record IsTold (whole fine : Bool) (first : ℕ) (log : List Entry) (l : Link) (c : Conn) (mine : List (ℕ × Event)) : Type 0 where
   pub kind : l.kind ≡ c.kind
   pub cut : IsPrefix (messages_in mine) (frames l.kind l.taken).frames
@@ -307,8 +308,8 @@ IsTurnEnd may_halt open_gate turns v before after lane_end.End = IsOwnEnd before
 IsTurnEnd may_halt open_gate turns v before after (lane_end.Failed count) = IsOwnEnd before after (lane_end.Failed count)
 IsTurnEnd may_halt open_gate turns v before after end = IsBroken may_halt open_gate turns v end
 
--- Why a lane ended: it said its end, lost a link, or was cut off; or all turns are done, in each of which a link or its bytes
--- were waited for where the gate is open.
+-- Why a lane ended: it said its end, lost a link, or was cut off; or all turns are done, in each of which a link or its
+-- bytes were waited for if the gate is open.
 abbrev pub IsLaneEnd : {O : Type 0} → (List Entry → Halt → Type 0) → Bool → ℕ → View O → Tally → Tally → LaneEnd → Type 0
 IsLaneEnd may_halt open_gate turns v before after (lane_end.Turns n) = (n ≡ turns) × (open_gate ≡ true → RoseBy turns before.asked after.asked)
 IsLaneEnd may_halt open_gate turns v before after lane_end.End = IsOwnEnd before after lane_end.End

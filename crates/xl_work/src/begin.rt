@@ -133,7 +133,7 @@ fn next_link<H: Serial, G: Gate, L: Lane, R: Wait>(
     }
 }
 
-/// One wait: for bytes of the link that is served or, where there is none, for the next link.
+/// One wait: for bytes of the link that is served or, if there is none, for the next link.
 pub(crate) fn begin<H: Serial, G: Gate, L: Lane, R: Wait>(
     rt: &R,
     alloc: Global,

@@ -51,7 +51,7 @@ fn number_of(dest: Dest) -> u64
     }
 }
 
-/// What is entered as a call's answer; None where there was no memory for it.
+/// What is entered as a call's answer; None if there was no memory for it.
 fn answered(outcome: CallOutcome) -> Option<Option<Sequence<u8>>>
     ensures { IfSome result (λ answer. answer ≡ answer_of outcome) }
 {
@@ -63,7 +63,7 @@ fn answered(outcome: CallOutcome) -> Option<Option<Sequence<u8>>>
     }
 }
 
-/// One turn that the gate lets pass: the next call, or an idle where none is due. Whether a call was entered.
+/// One turn that the gate lets pass: the next call, or an idle if none is due. Whether a call was entered.
 fn turn<H: Serial, C: Caller, R: Wait>(
     rt: &R,
     alloc: Global,

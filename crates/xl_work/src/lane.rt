@@ -22,8 +22,8 @@ fn is_failed(outcome: WriteOutcome) -> bool
     matches!(outcome, WriteOutcome::Failed)
 }
 
-/// Sends the link that is served what the machine sends to it, up to the journal's end; where there is none, the journal is
-/// looked at alone.
+/// Sends the link that is served what the machine sends to it, up to the journal's end; if there is none, the journal
+/// is looked at alone.
 #[tactic(auto, using(crate::proofs::LifeLaws::in_time_of))]
 pub(crate) fn catch_up<H: Serial, L: Lane, R: Wait>(
     rt: &R,
@@ -65,7 +65,7 @@ pub(crate) fn catch_up<H: Serial, L: Lane, R: Wait>(
     Ok(())
 }
 
-/// Calls the machine. Where it is halted, the link that is served is caught up before the lane ends.
+/// Calls the machine. If it is halted, the link that is served is caught up before the lane ends.
 pub(crate) fn enter<H: Serial, L: Lane, R: Wait>(
     rt: &R,
     alloc: Global,

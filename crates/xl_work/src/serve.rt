@@ -130,13 +130,13 @@ fn all_conns(mut conns: Vec<Conn>, live: Option<Live>) -> Vec<Conn>
     conns
 }
 
-/// Serves a lane's links one after another, in so many turns. A turn is one wait for a link, or for bytes of the link that is
-/// served; a turn in which the gate holds a call of the machine back is a look at the journal. Each link has a connection of
-/// its own: the messages of the frames that it gives are entered in order, and what the machine sends to it is sent, at the
-/// end of each turn all that the journal has. A connection ends where its link says its end, gives a bad frame, or has a call
-/// that fails; then the link is shut, and the next one is waited for. End says that the lane gives no link any more, Failed
-/// that the wait for one failed, Turns that all turns are done, Stopped that the machine is halted, and NoMemory that memory
-/// ran out.
+/// Serves a lane's links one after another, in so many turns. A turn is one wait for a link, or for bytes of the link
+/// that is served; a turn in which the gate holds a call of the machine back is a look at the journal. Each link has a
+/// connection of its own: the messages of the frames that it gives are entered in order, and what the machine sends to
+/// it is sent, at the end of each turn all that the journal has. A connection ends if its link says its end, gives a
+/// bad frame, or has a call that fails; then the link is shut, and the next one is waited for. End says that the lane
+/// gives no link any more, Failed that the wait for one failed, Turns that all turns are done, Stopped that the machine
+/// is halted, and NoMemory that memory ran out.
 pub fn serve_lane<H: Serial, G: Gate, L: Lane, R: Wait>(
     rt: &R,
     alloc: Global,

@@ -28,21 +28,21 @@ impl NfsState {
         self.clients.len()
     }
 
-    /// The record of this number, confirmed or not; None exactly where there is none.
+    /// The record of this number, confirmed or not; None exactly if there is none.
     pub fn find_client(&self, number: u32, confirmed: bool) -> Option<&ClientRow>
         ensures { option_copied result ≡ find (is_client number confirmed) self.now.clients }
     {
         self.clients.find_number(&ClientKey { number, confirmed })
     }
 
-    /// The record of this id string, confirmed or not; None exactly where there is none.
+    /// The record of this id string, confirmed or not; None exactly if there is none.
     pub fn find_client_named(&self, id: &[u8], confirmed: bool) -> Option<&ClientRow>
         ensures { option_copied result ≡ find (is_client_named id.now confirmed) self.now.clients }
     {
         self.clients.find_name(ClientNamed { id, confirmed })
     }
 
-    /// Adds a record behind the others, where there are fewer than 256 and none has its number, or its id string, and is
+    /// Adds a record behind the others, if there are fewer than 256 and none has its number, or its id string, and is
     /// of its kind. Want of memory changes nothing.
     pub fn add_client(&mut self, alloc: Global, row: ClientRow) -> Result<(), NfsStateErr>
         requires room { length self.old.clients < most_clients }
@@ -55,7 +55,7 @@ impl NfsState {
         Ok(())
     }
 
-    /// Changes all but the keys of the record of this number, which is there, confirmed or not.
+    /// Changes all except the keys of the record of this number, which is there, confirmed or not.
     pub fn change_client(&mut self, number: u32, confirmed: bool, details: ClientDetails)
         requires { IsSome (find (is_client number confirmed) self.old.clients) }
         ensures { self.new ≡ with_clients self.old (changed (is_client number confirmed) (with_details details) self.old.clients) }

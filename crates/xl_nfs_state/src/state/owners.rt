@@ -28,21 +28,21 @@ impl NfsState {
         self.owners.len()
     }
 
-    /// The owner of this number; None exactly where there is none.
+    /// The owner of this number; None exactly if there is none.
     pub fn find_owner(&self, number: u64) -> Option<&OwnerRow>
         ensures { option_copied result ≡ find (is_owner number) self.now.owners }
     {
         self.owners.find_number(&number)
     }
 
-    /// The client's owner of this kind and these bytes; None exactly where there is none.
+    /// The client's owner of this kind and these bytes; None exactly if there is none.
     pub fn find_owner_named(&self, name: OwnerNamed<'_>) -> Option<&OwnerRow>
         ensures { option_copied result ≡ find (is_owner_named name.entry.client name.entry.kind name.entry.owner.now) self.now.owners }
     {
         self.owners.find_name(name)
     }
 
-    /// The number that a new owner takes: the one after the last owner's. None where 8,192 owners are there, or where no
+    /// The number that a new owner takes: the one after the last owner's. None if 8,192 owners are there, or if no
     /// number is left below 2^64.
     pub fn next_owner(&self) -> Option<u64>
         ensures { result ≡ next_owner self.now.owners }

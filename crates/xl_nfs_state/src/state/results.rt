@@ -20,7 +20,7 @@ impl NfsState {
         self.kept.len()
     }
 
-    /// The bytes of the result that is kept for the owner; None exactly where none is.
+    /// The bytes of the result that is kept for the owner; None exactly if none is.
     pub fn find_kept(&self, owner: u64) -> Option<&ResultBytes>
         ensures { option_copied result ≡ option_map (λ k. k.result) (find (is_kept owner) self.now.kept) }
     {

@@ -16,7 +16,7 @@ use std::alloc::{AllocError, Global};
 
 impl NfsState {
     /// How many stateids there are. No two have one number; an owner has one on a file, and so has a client one
-    /// delegation. The client of each is confirmed; its owner, where it has one, is the client's; and locks hang under an
+    /// delegation. The client of each is confirmed; its owner, if it has one, is the client's; and locks hang under an
     /// open of the client's on their file.
     pub fn stateid_count(&self) -> usize
         ensures count { result ≡ length self.now.stateids }
@@ -27,7 +27,7 @@ impl NfsState {
         self.stateids.len()
     }
 
-    /// How many opens there are, closed ones aside. What holds of the lists at all times is told with it.
+    /// How many opens there are, closed ones aside. What holds of the lists at all times is ensured with it.
     pub fn open_count(&self) -> usize
         ensures count { result ≡ opens self.now.stateids }
         ensures room { result ≤ most_opens }
@@ -36,7 +36,7 @@ impl NfsState {
         self.live
     }
 
-    /// The stateid of this number; None exactly where there is none.
+    /// The stateid of this number; None exactly if there is none.
     pub fn find_stateid(&self, number: u64) -> Option<&StateidRow>
         ensures { option_copied result ≡ find (is_stateid number) self.now.stateids }
     {
@@ -44,14 +44,14 @@ impl NfsState {
     }
 
     /// What the owner has on the file: an open owner its open, closed or not, and a lock owner its locks. None exactly
-    /// where it has nothing there.
+    /// if it has nothing there.
     pub fn find_owned(&self, owner: u64, file: u32) -> Option<&StateidRow>
         ensures { option_copied result ≡ find (owned_on owner file) self.now.stateids }
     {
         self.stateids.find_name(&Place::Owned(owner, file))
     }
 
-    /// The client's delegation on the file; None exactly where it has none.
+    /// The client's delegation on the file; None exactly if it has none.
     pub fn find_delegation(&self, client: u32, file: u32) -> Option<&StateidRow>
         ensures { option_copied result ≡ find (delegated_on client file) self.now.stateids }
     {
@@ -186,7 +186,7 @@ fn enter(
     Ok(())
 }
 
-/// Changes what changes of the stateid of this number, and counts it no more where it closes.
+/// Changes what changes of the stateid of this number, and counts it no more if it closes.
 fn change(stateids: &mut Filed<StateidRow>, live: &mut usize, number: u64, standing: Standing)
     requires there { IsSome (find (is_stateid number) stateids.old) }
     requires closing { (row : StateidRow) → find (is_stateid number) stateids.old ≡ Some row → row.standing.closed ≡ true → standing.closed ≡ true }

@@ -65,11 +65,11 @@ pub(crate) enum Place {
     Before,
 }
 
-/// Who asks for what, of file 1 but where another is named.
+/// Who asks for what, of file 1 unless another is named.
 pub(crate) enum Asked {
     /// A caller of NLM tests ten bytes.
     Test(u8),
-    /// A caller of NLM locks ten bytes of this file, and waits where something stands in its way.
+    /// A caller of NLM locks ten bytes of this file, and waits if something stands in its way.
     Lock(u32, u8),
     /// An SMB open locks one range, shared or exclusively; it doesn't wait.
     Range(u32, Place, bool),
@@ -80,7 +80,7 @@ pub(crate) enum Asked {
     Share(u32, Rwd, Rwd),
     /// An SMB open's share for reading and writing, which denies this much, with a batch oplock.
     Oplock(u32, Rwd),
-    /// The same, which denies nothing, and waits where something stands in its way.
+    /// The same, which denies nothing, and waits if something stands in its way.
     OplockThatWaits(u32),
     /// An SMB open's batch oplock by itself.
     Wish(u32),
@@ -122,7 +122,7 @@ fn test_of(alloc: Global, caller: u8) -> Result<Ask, AllocError>
     Ok(a_test(alloc, name, same))
 }
 
-/// A lock of ten bytes of the file by a caller, whose name is given twice. It waits where something blocks it.
+/// A lock of ten bytes of the file by a caller, whose name is given twice. It waits if something blocks it.
 fn lock_by(
     alloc: Global,
     file: u32,
@@ -392,7 +392,7 @@ fn oplock_of(alloc: Global, number: u32, deny: Rwd) -> Result<Ask, AllocError>
     Ok(share_by(number, deny, kinds))
 }
 
-/// The same, which waits where something stands in its way.
+/// The same, which waits if something stands in its way.
 #[tactic(auto, unfolding(xl_cache::specs::Parties::is_kind_of))]
 fn waiting_share_by(number: u32, kinds: Sequence<CacheKind>) -> Ask
     requires { kinds ≡ RWH ∷ R ∷ [] }

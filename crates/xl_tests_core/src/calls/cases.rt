@@ -16,9 +16,9 @@ const NEW: &[Step] = &[
     Step::Counts(0, 0, 0),
 ];
 
-/// An open locks a range exclusively, then shared, and no longer exclusively. An unlock takes out one range that is equal, the
-/// exclusive one first, and none that isn't. A range without a byte is stopped where it lies between two locked bytes, and at
-/// offset 0 by none.
+/// An open locks a range exclusively, then shared, and no longer exclusively. An unlock takes out one range that is
+/// equal, the exclusive one first, and none that isn't. A range without a byte is stopped if it lies between two locked
+/// bytes, and at offset 0 by none.
 const ONE_OPEN: &[Step] = &[
     Step::Ask(Asked::Range(3, Place::Whole, true), Told::Granted, 0),
     Step::Ask(Asked::Range(3, Place::Whole, false), Told::Granted, 0),
@@ -117,7 +117,8 @@ const ANSWERED: &[Step] = &[
     Step::Has(Party::Open(2), "R"),
 ];
 
-/// Two that don't wait are told of the cache, whose break the first of them begins; it is over at its deadline, not before.
+/// Two that don't wait are answered with the cache, whose break the first of them begins; it is over at its deadline,
+/// not before.
 const OVER: &[Step] = &[
     Step::Ask(Asked::Oplock(1, NONE), Told::Granted, 0),
     Step::Ask(Asked::Oplock(2, NONE), Told::Recall, 1),
@@ -153,8 +154,8 @@ const STANDS_BACK: &[Step] = &[
     Step::Has(Party::Open(1), "RWH"),
 ];
 
-/// A caller is told of the least limit that its wait would pass, and no break begins; where the limit has room it waits, and the
-/// break begins.
+/// A caller is answered with the least limit that its wait would pass, and no break begins; if the limit has room it
+/// waits, and the break begins.
 const LIMITS: &[Step] = &[
     Step::Ask(Asked::Oplock(1, NONE), Told::Granted, 0),
     Step::AskInVain(Asked::HostShare(b'a'), Told::Full, 0),
@@ -163,8 +164,8 @@ const LIMITS: &[Step] = &[
     Step::Has(Party::Open(1), "RWH breaks"),
 ];
 
-/// A client gets its delegation, which another's open recalls; it expires at the deadline, not before, where it doesn't return it
-/// (RFC 7530 10.4).
+/// A client gets its delegation, which another's open recalls; it expires at the deadline, not before, if it doesn't
+/// return it (RFC 7530 10.4).
 const RECALLED: &[Step] = &[
     Step::Ask(Asked::Delegation(b'c'), Told::Granted, 0),
     Step::Has(Party::Name(Protocol::Nfs, 1), "write"),

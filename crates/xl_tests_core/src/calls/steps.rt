@@ -50,17 +50,17 @@ pub(crate) enum Told {
 }
 
 pub(crate) enum Step {
-    /// An ask is answered so, and so many effects are told besides.
+    /// An ask is answered so, and there are so many effects besides.
     Ask(Asked, Told, usize),
-    /// The same where no NLM host may come.
+    /// The same if no NLM host may come.
     AskInVain(Asked, Told, usize),
     /// A turn is had by the one who waits under this number, which is granted; by nobody for 0.
     Turn(u32),
-    /// A party leaves, and so many effects are told.
+    /// A party leaves, and there are so many effects.
     Leaves(Party, usize),
     /// An open's answer to the break of its cache, by which this much is left, is taken or isn't.
     Answers(u32, Option<CacheKind>, bool),
-    /// The clock reads this moment, and so many effects are told.
+    /// The clock reads this moment, and there are so many effects.
     Reads(u64, usize),
     /// The clock reads this moment, and just these two clients expire, in this order.
     Expire(u64, u8, u8),
@@ -97,7 +97,7 @@ fn is_answer(answer: &Answer, wanted: &Told) -> bool {
     }
 }
 
-/// Whether the ask is answered so, where so many rows are left, and so many effects are told.
+/// Whether the ask is answered so, if so many rows are left, and there are so many effects.
 fn is_told(
     alloc: Global,
     core: &mut Core,
@@ -182,7 +182,7 @@ fn ack(alloc: Global, core: &mut Core, cache: &Claim, to: Option<CacheKind>)
     let _told = core.ack(alloc, cache, to);
 }
 
-/// Answers the break of the open's cache, of which this much is to be left; false where none runs that leaves it.
+/// Answers the break of the open's cache, of which this much is to be left; false if none runs that leaves it.
 fn answers(
     alloc: Global,
     core: &mut Core,

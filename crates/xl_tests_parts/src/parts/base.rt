@@ -8,7 +8,7 @@ use xl_base::{
     handle_of,
 };
 
-/// Bytes, and the number of the file whose handle they are; a dash where they are none.
+/// Bytes, and the number of the file whose handle they are; a dash if they are none.
 pub(super) const HANDLES: &str = "\
 XLK1\0\0\0\x01 1
 XLK1\x01\x02\x03\x04 16909060
@@ -84,7 +84,7 @@ twice nfs c
 smb smb d
 added nlm ";
 
-/// Whether the row's name is recorded as it says; all but SMB names are held then.
+/// Whether the row's name is recorded as it says; all except SMB names are held then.
 fn is_added(alloc: Global, record: &mut Record, row: &str) -> bool {
     let mut words = row.split(' ');
     let answer = next(&mut words);
@@ -108,7 +108,7 @@ fn are_recorded(alloc: Global, record: &mut Record) -> bool {
     are_three(record)
 }
 
-/// How many bytes a read gives; 9 where it fails.
+/// How many bytes a read gives; 9 if it fails.
 fn reads(source: &mut MemorySource, buffer: &mut [u8; 3]) -> usize {
     match source.read(buffer) {
         ReadOutcome::Got(count) => count,

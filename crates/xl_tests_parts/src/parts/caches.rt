@@ -111,7 +111,7 @@ fn place_in(word: &str) -> usize {
     word.parse().unwrap_or(99)
 }
 
-/// Whether the claim is the one at this place of the list, and none where the word is `-`.
+/// Whether the claim is the one at this place of the list, and none if the word is `-`.
 fn is_at(claims: &[Claim], claim: Option<Claim>, place: &str) -> bool {
     match claim {
         None => place == "-",
@@ -196,7 +196,7 @@ fn has_words(share: &Claim, cache: &Claim) -> bool {
         && !is_oplock_party(share.party)
 }
 
-/// Who wishes, the choices, what is held, and the kind that the party gets, `-` where nothing changes.
+/// Who wishes, the choices, what is held, and the kind that the party gets, `-` if nothing changes.
 pub(super) const WISHES: &str = "\
 open|RWH RH R||RWH
 open|RWH RH R|open share rw -|RWH

@@ -6,7 +6,7 @@ use std::str::Split;
 use xl_exact::{Element, Exact};
 
 /// What is done, one row after the other, and what is answered: `lock` asks for a range of the open itself and locks it
-/// where nothing of its own stands against it; `other` asks for another open; `unlock` and `undo` take out; `held` tells
+/// if nothing of its own stands against it; `other` asks for another open; `unlock` and `undo` take out; `held` gives
 /// the element at a place; `new` begins with no ranges, and `#` begins a remark.
 const ROWS: &str = "\
 # Only the very range is unlocked.

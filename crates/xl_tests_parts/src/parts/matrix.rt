@@ -198,7 +198,7 @@ fn is_held(word: &str, a: &Claim, b: &Claim, want: bool) -> bool {
     holds(word, a, b) == want && (word == "within" || holds(word, b, a) == want)
 }
 
-/// Whether the row's word holds of its claims exactly where it says so; most hold both ways round.
+/// Whether the row's word holds of its claims exactly if it says so; most hold both ways round.
 pub(super) fn is_pair(row: &str) -> bool {
     let mut words = row.split(' ');
     let word = next(&mut words);

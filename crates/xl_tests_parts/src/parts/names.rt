@@ -13,7 +13,7 @@ fn half(bytes: &[u8]) -> [u8; 16] {
     }
 }
 
-/// The bytes of a word in hex; none where it has no bytes.
+/// The bytes of a word in hex; none if it has no bytes.
 fn bytes(alloc: Global, word: &str) -> Sequence<u8> {
     match hex::decode(alloc, word) {
         Ok(bytes) => Sequence::from_vec(bytes),

@@ -90,7 +90,7 @@ enum Step {
     Ended(u64, u32, u32),
     ClientIsIdle(u32),
     ForgetsClient(u32),
-    /// An owner of this kind and name comes, under this number; 0 where none may.
+    /// An owner of this kind and name comes, under this number; 0 if none may.
     OwnerComes(OwnerKind, &'static [u8], u64),
     OwnerNamed(OwnerKind, &'static [u8], u64),
     /// An owner's request of this operation is taken, with its seqid.
@@ -149,7 +149,7 @@ fn details(alloc: Global, number: u32, time: u64) -> Result<ClientDetails, Alloc
     })
 }
 
-/// Adds a record, where there is room and none has its keys.
+/// Adds a record, if there is room and none has its keys.
 fn adds_client(alloc: Global, state: &mut NfsState, row: ClientRow) -> bool {
     let None = state.find_client(row.number, row.confirmed) else {
         return false;
@@ -233,7 +233,7 @@ fn named<'a>(kind: OwnerKind, owner: &'a [u8]) -> OwnerNamed<'a>
     }
 }
 
-/// Adds an owner of client 1 under the next number, and says which; 0 where none is added.
+/// Adds an owner of client 1 under the next number, and says which; 0 if none is added.
 fn adds_owner(alloc: Global, state: &mut NfsState, kind: OwnerKind, bytes: &[u8]) -> u64 {
     let Some(number) = state.next_owner() else {
         return 0;

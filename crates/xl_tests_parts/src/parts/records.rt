@@ -47,7 +47,7 @@ pub(super) const FILES: &str = "\
 584c523200000002 65536 no mark of a record file
 584c523200000002 65537 a record file of 65537 bytes";
 
-/// The bytes of a file; none where the word has no bytes.
+/// The bytes of a file; none if the word has no bytes.
 fn bytes(alloc: Global, word: &str, total: usize) -> Result<Vec<u8>, AllocError> {
     let mut bytes = hex::decode(alloc, word).unwrap_or(Vec::new(alloc));
     if bytes.len() < total {

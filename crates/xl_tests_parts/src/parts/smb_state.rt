@@ -190,7 +190,7 @@ fn open(state: &mut SmbState, number: u32, place: Place, row: Open) -> Result<bo
     Ok(true)
 }
 
-/// Puts the open under the lease of file 1, which is new where it has no open yet.
+/// Puts the open under the lease of file 1, which is new if it has no open yet.
 fn lease(
     state: &mut SmbState,
     alloc: Global,

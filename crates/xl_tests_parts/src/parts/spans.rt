@@ -25,7 +25,7 @@ fn same_spans(a: &[Span], b: &[Span]) -> bool {
     a.len() == b.len()
 }
 
-/// What is shown where no span is found; it has no byte.
+/// What is shown if no span is found; it has no byte.
 const NO_SPAN: Span = Span {
     first: 1,
     last: 0,

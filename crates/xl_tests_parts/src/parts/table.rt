@@ -87,7 +87,7 @@ client read 10 24
 lease lock 40 44
 caller read 20 29";
 
-/// The same claims as they stand.
+/// The same claims as they are.
 const HELD: &str = "\
 client share r -
 lease share r -

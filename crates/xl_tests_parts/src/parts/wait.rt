@@ -31,7 +31,7 @@ fn waiter(alloc: Global, id: u32, conn: Option<u64>, file: u32) -> Result<Waiter
     })
 }
 
-/// 0 where the waiter waits, the limit where that is reached.
+/// 0 if the waiter waits, the limit if that is reached.
 fn limit(pushed: Result<(), QueueErr>) -> u32 {
     match pushed {
         Ok(()) => 0,

@@ -39,7 +39,7 @@ fn start(
     Ok(House::start(alloc, exports, keeper, Moment(5)))
 }
 
-/// What is told of bytes that come by connection 0; nothing where the house halts.
+/// What is sent for bytes that come by connection 0; nothing if the house halts.
 fn told(
     alloc: Global,
     house: &mut House<MemoryKeeper>,
@@ -51,9 +51,9 @@ fn told(
     }
 }
 
-/// Readings of the clock, each with a record that comes behind it and its reply. SETCLIENTID gives a clientid of epoch 8; a
-/// confirmation of one of epoch 1 is stale, and that of its own is OK. The lease runs from the start, at 5: RENEW just
-/// before it ends, just before that ends, and where the last one has ended.
+/// Readings of the clock, each with a record that comes behind it and its reply. SETCLIENTID gives a clientid of epoch
+/// 8; a confirmation of one of epoch 1 is stale, and that of its own is OK. The lease runs from the start, at 5: RENEW
+/// just before it ends, just before that ends, and once the last one has ended.
 const CLIENT: [(u64, &str, &str); 6] = [
     (
         0,
@@ -113,7 +113,7 @@ fn is_served(alloc: Global, mut house: House<MemoryKeeper>) -> Result<bool, Fail
     Ok(told? && is_journal(&journal) && keeper.held().epoch() == 8)
 }
 
-/// The epoch of the one record that was given to a keeper; 0 where none was.
+/// The epoch of the one record that was given to a keeper; 0 if none was.
 fn given_to(keeper: &MemoryKeeper) -> u32 {
     match keeper.given() {
         [] => 0,

@@ -9,7 +9,7 @@ fn is_crossed(access: u32, deny: u32, other_access: u32, other_deny: u32) -> boo
     access & other_deny != 0 || deny & other_access != 0
 }
 
-/// Two SHAREs of one file by the callers a and b, which then go: the second is DENIED where it asks for what is denied, or
+/// Two SHAREs of one file by the callers a and b, which then go: the second is DENIED if it asks for what is denied, or
 /// denies what is used.
 fn share_and_share(
     alloc: Global,
@@ -36,7 +36,7 @@ B 0 80000034000000090000000000000002000186b5000000040000001700000000000000000000
     )
 }
 
-/// What an OPEN of this access is told: INVAL where it has none (RFC 7530 16.16.5), SHARE_DENIED, or the stateid.
+/// What an OPEN of this access is answered: INVAL if it has none (RFC 7530 16.16.5), SHARE_DENIED, or the stateid.
 fn opened(alloc: Global, access: u32, denied: bool, number: u32) -> Result<String, AllocError> {
     if access == 0 {
         return String::from_str(
@@ -108,7 +108,7 @@ fn shares_and_opens(rt: HostRuntime) -> Result<(), Fail> {
     Ok(())
 }
 
-/// What a CREATE is told: SHARING_VIOLATION, or the open.
+/// What a CREATE is answered: SHARING_VIOLATION, or the open.
 fn created(alloc: Global, denied: bool, number: u32) -> Result<String, AllocError> {
     if denied {
         return String::from_str(
@@ -121,8 +121,8 @@ fn created(alloc: Global, denied: bool, number: u32) -> Result<String, AllocErro
     )
 }
 
-/// What a CREATE of this access denies of reading and writing: what it doesn't share, but nothing where it neither reads nor
-/// writes nor deletes.
+/// What a CREATE of this access denies of reading and writing: what it doesn't share, but nothing if it neither reads
+/// nor writes nor deletes.
 fn denied_by(access: u32, shared: u32) -> u32 {
     if access == 0 { 0 } else { !shared & 3 }
 }
@@ -166,7 +166,7 @@ B 1 80000034000000090000000000000002000186b5000000040000001700000000000000000000
     )
 }
 
-/// What they are told. The opens' numbers are 5 to 7, and those behind what the two OPENs took.
+/// What they are answered. The opens' numbers are 5 to 7, and those behind what the two OPENs took.
 fn told_of(alloc: Global, other: u32, denied: bool) -> Result<String, AllocError> {
     let is_open = other != 0;
     let first = opened(alloc, other, denied, 8)?;

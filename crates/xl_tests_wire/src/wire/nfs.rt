@@ -192,7 +192,7 @@ fn is_compound(bytes: &[u8]) -> bool {
     is_head(&mut args) && has_ops(&mut args)
 }
 
-/// The number of the fault of a COMPOUND whose tag has a length, 0 where it has none.
+/// The number of the fault of a COMPOUND whose tag has a length, 0 if it has none.
 fn fault_of_tag(alloc: Global, length: u32) -> Result<u32, AllocError> {
     let mut bytes = Vec::from_slice(alloc, &length.to_be_bytes())?;
     bytes.resize(1036, 0)?;

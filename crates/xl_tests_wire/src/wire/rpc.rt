@@ -106,7 +106,7 @@ fn is_cut(head: &[u8]) -> bool {
     true
 }
 
-/// Whether the head of a call was written as it stands, before the word.
+/// Whether the head of a call was written as it is, before the word.
 fn is_whole(out: &XdrOut, bytes: &[u8]) -> bool {
     match bytes.strip_suffix(WORD) {
         Some(head) => out.as_slice() == head && is_cut(head),
@@ -114,7 +114,7 @@ fn is_whole(out: &XdrOut, bytes: &[u8]) -> bool {
     }
 }
 
-/// Whether the bytes are read as a call with a word behind it, whose head is written as it stands, or refused for this
+/// Whether the bytes are read as a call with a word behind it, whose head is written as it is, or refused for this
 /// fault.
 fn is_call(out: &mut XdrOut, number: u8, bytes: &[u8]) -> Result<bool, AllocError> {
     match read_call(bytes) {

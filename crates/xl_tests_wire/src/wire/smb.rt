@@ -126,7 +126,7 @@ const FRAMES: [&str; 6] = [
     "05 01 0900 0000 00000000",
 ];
 
-/// The header of message 5 in tree 7 and session 9, but for its command and its flags.
+/// The header of message 5 in tree 7 and session 9, except for its command and its flags.
 const HEADER: [u8; 64] = [
     0xFE, b'S', b'M', b'B', 64, 0, 0, 0, 0, 0, 0, 0, 0, 0, 1, 0, //
     0, 0, 0, 0, 0, 0, 0, 0, 5, 0, 0, 0, 0, 0, 0, 0, //
@@ -194,7 +194,7 @@ fn frame_at(alloc: Global, which: u8) -> Result<Vec<u8>, AllocError> {
     }
 }
 
-/// How many bytes the context of another name has, 0 where it is not found.
+/// How many bytes the context of another name has, 0 if it is not found.
 fn size_of_other(contexts: &[u8]) -> usize {
     match Contexts(contexts).find(b"MqLs", 32) {
         Some(content) => content.len(),

@@ -20,7 +20,7 @@ pub(crate) fn is_call(alloc: Global) -> Result<bool, AllocError> {
     )
 }
 
-/// The operation that was done, 0 where it is none, and the number of its status.
+/// The operation that was done, 0 if it is none, and the number of its status.
 fn result_of(reply: &RecallReply) -> (u32, u32) {
     match reply.results {
         Some(RecallResult::Recall(status)) => (4, status.number()),

@@ -20,7 +20,7 @@ fn are_all(bytes: &[u8], wanted: u8) -> bool {
     true
 }
 
-/// Whether a header is as in the vectors, but for its command and its status.
+/// Whether a header is as in the vectors, except for its command and its status.
 pub(crate) fn is_head(head: &SmbHead) -> bool {
     let numbers = (head.flags & 2, head.message_id, head.session_id);
     let is_routed = match head.route {
