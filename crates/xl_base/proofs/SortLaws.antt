@@ -1,5 +1,5 @@
 -- A list in order in which those that tie stand as before is the list sorted by insertion: so std's stable sort gives it.
-use Rattle.std.proofs.Common.{◌≡◌, ℕ, suc, ◌+◌, Bool, true, false, not, ◌&&◌, if◌then◌else◌, inl, inr, List, [], ◌∷◌, refl, sym, ap, ap₂, subst, ◌∙◌, arith}
+use Rattle.std.proofs.Common.{◌≡◌, ℕ, suc, ◌+◌, Bool, true, false, not, ◌&&◌, if◌then◌else◌, inl, inr, ◌⊎◌, List, [], ◌∷◌, map, refl, sym, ap, ap₂, subst, ◌∙◌, arith}
 use Rattle.std.specs.List.{filter, AllByRecursion}
 use denote.Ref.{Bor}
 use denote.Param.Members.{Mut}
@@ -11,7 +11,7 @@ use Rattle.std.specs.List.Sorted.{IsSortedBy, IsStableBy, IsSortedByClosure, IsS
 use Rattle.std.specs.Prelude.{slice_index_or}
 use Rattle.std.specs.Cmp.{IsStrictWeakOrder}
 use Rattle.std.proofs.lemmas.Bool.{cases_Bool, true≢false}
-use Rattle.xl_base.specs.Lists.{placed, sorted}
+use Rattle.xl_base.specs.Lists.{IsIn, placed, sorted}
 
 -- no element is less than an earlier one
 abbrev pub Rises : {A : Type 0} → (A → A → Bool) → List A → Type 0
@@ -176,3 +176,85 @@ pub sorted_from_sort_by : {A : Type 0} {lt : A → A → Bool} (o : IsStrictWeak
     → ((a : Bor A × (Bor A × Unit {0})) (r : Ordering) (f' : F) → Called g f a r f' → (is_lt r ≡ lt a.0.now a.1.0.now) × (f' ≡ f)) → ys ≡ sorted lt xs
 sorted_from_sort_by {A} {lt} o {F} {g} {f} xs ys up stable h =
     let compares : ComparesAs g lt f = always_returns_same g (λ a r. is_lt r ≡ lt a.0.now a.1.0.now) f h in sorted_is o xs ys (up lt o compares) (stable lt o compares)
+
+-- ---- what sorting goes with
+
+-- x stands in the sorted list only where it stood in the list
+in_placed_from : {A : Type 0} (lt : A → A → Bool) (x y : A) (ys : List A) → IsIn x (placed lt y ys) → (y ≡ x) ⊎ IsIn x ys
+in_placed_from lt x y [] (inl e) = inl e
+in_placed_from lt x y [] (inr t) = absurd t
+in_placed_from {A} lt x y (z ∷ zs) h =
+    elim (cases_Bool (lt z y)) [
+      | inr later ↦ rw later at h
+      | inl first ↦ elim (rw first at h) [ inl e ↦ inr (inl e) | inr t ↦ elim (in_placed_from lt x y zs t) [ inl e ↦ inl e | inr t ↦ inr (inr t) ] ]
+    ]
+
+pub in_sorted_from : {A : Type 0} (lt : A → A → Bool) (x : A) (xs : List A) → IsIn x (sorted lt xs) → IsIn x xs
+in_sorted_from lt x [] h = absurd h
+in_sorted_from lt x (y ∷ ys) h = elim (in_placed_from lt x y (sorted lt ys) h) [ inl e ↦ inl e | inr t ↦ inr (in_sorted_from lt x ys t) ]
+
+in_placed : {A : Type 0} (lt : A → A → Bool) (x y : A) (ys : List A) → (y ≡ x) ⊎ IsIn x ys → IsIn x (placed lt y ys)
+in_placed lt x y [] (inl e) = inl e
+in_placed lt x y [] (inr t) = absurd t
+in_placed lt x y (z ∷ zs) h =
+    elim (cases_Bool (lt z y)) [
+      | inr later ↦ rw later h
+      | inl first ↦ rw first (elim h [ inl e ↦ inr (in_placed lt x y zs (inl e)) | inr t ↦ elim t [ inl e ↦ inl e | inr more ↦ inr (in_placed lt x y zs (inr more)) ] ])
+    ]
+
+pub in_sorted : {A : Type 0} (lt : A → A → Bool) (x : A) (xs : List A) → IsIn x xs → IsIn x (sorted lt xs)
+in_sorted lt x [] h = absurd h
+in_sorted lt x (y ∷ ys) h = in_placed lt x y (sorted lt ys) (elim h [ inl e ↦ inl e | inr t ↦ inr (in_sorted lt x ys t) ])
+
+placed_first : {A : Type 0} (lt : A → A → Bool) (x : A) (ys : List A) → AllByRecursion (λ y. lt y x ≡ false) ys → placed lt x ys ≡ x ∷ ys
+placed_first lt x [] all = refl
+placed_first lt x (y ∷ ys) all = rw all.0 refl
+
+kept_all : {A : Type 0} (P : A → Type 0) (p : A → Bool) (xs : List A) → AllByRecursion P xs → AllByRecursion P (filter p xs)
+kept_all P p [] all = tt
+kept_all P p (x ∷ xs) all = elim (cases_Bool (p x)) [ inl e ↦ rw e (all.0, kept_all P p xs all.1) | inr e ↦ rw e (kept_all P p xs all.1) ]
+
+abbrev placed_where : {A : Type 0} → (A → A → Bool) → Bool → A → List A → List A
+placed_where lt b x ys = if b then placed lt x ys else ys
+
+filter_placed : {A : Type 0} {lt : A → A → Bool} (o : IsStrictWeakOrder lt) (p : A → Bool) (x : A) (ys : List A) → Rises lt ys → filter p (placed lt x ys) ≡ placed_where lt (p x) x (filter p ys)
+filter_placed o p x [] up = refl
+filter_placed {A} {lt} o p x (y ∷ ys) up =
+    elim (cases_Bool (lt y x)) [
+      | inr later ↦ elim (cases_Bool (p x)) [
+        | inr out ↦ rw (later, out) refl
+        | inl stays ↦
+            let all : AllByRecursion (λ z. lt z x ≡ false) (filter p (y ∷ ys)) = kept_all (λ z. lt z x ≡ false) p (y ∷ ys) (later, none_less o x y ys later up.0) in
+            rw (later, stays) (sym (placed_first lt x (filter p (y ∷ ys)) all))
+      ]
+      | inl first ↦ elim (cases_Bool (p y)) [
+        | inr out ↦ rw (first, out) (filter_placed o p x ys up.1)
+        | inl stays ↦ rw (first, stays) (ap (λ (zs : List A). y ∷ zs) (filter_placed o p x ys up.1) ∙ behind (p x) first)
+      ]
+    ]
+  where
+    behind : (b : Bool) → lt y x ≡ true → y ∷ placed_where lt b x (filter p ys) ≡ placed_where lt b x (y ∷ filter p ys)
+    behind true first = rw first refl
+    behind false first = refl
+
+-- those that pass a test, sorted, are those that pass it of the sorted list
+pub sorted_filter : {A : Type 0} {lt : A → A → Bool} (o : IsStrictWeakOrder lt) (p : A → Bool) (xs : List A) → sorted lt (filter p xs) ≡ filter p (sorted lt xs)
+sorted_filter o p [] = refl
+sorted_filter {A} {lt} o p (x ∷ xs) =
+    elim (cases_Bool (p x)) [
+      | inl stays ↦ let here = filter_placed o p x (sorted lt xs) (sorted_rises o xs) in rw stays (ap (λ (ys : List A). placed lt x ys) (sorted_filter o p xs) ∙ sym (rw stays at here))
+      | inr out ↦ let here = filter_placed o p x (sorted lt xs) (sorted_rises o xs) in rw out (sorted_filter o p xs ∙ sym (rw out at here))
+    ]
+
+placed_map : {A B : Type 0} (f : A → B) (lt : B → B → Bool) (x : A) (ys : List A) → placed lt (f x) (map f ys) ≡ map f (placed (λ a b. lt (f a) (f b)) x ys)
+placed_map f lt x [] = refl
+placed_map {B = B} f lt x (y ∷ ys) =
+    elim (cases_Bool (lt (f y) (f x))) [
+      | inl first ↦ rw first (ap (λ (zs : List B). f y ∷ zs) (placed_map f lt x ys))
+      | inr later ↦ rw later refl
+    ]
+
+-- what is made of each, sorted, is made of the list that is sorted by that
+pub sorted_map : {A B : Type 0} (f : A → B) (lt : B → B → Bool) (xs : List A) → sorted lt (map f xs) ≡ map f (sorted (λ a b. lt (f a) (f b)) xs)
+sorted_map f lt [] = refl
+sorted_map {B = B} f lt (x ∷ xs) = ap (λ (zs : List B). placed lt (f x) zs) (sorted_map f lt xs) ∙ placed_map f lt x (sorted (λ a b. lt (f a) (f b)) xs)

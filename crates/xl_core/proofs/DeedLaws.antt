@@ -33,7 +33,7 @@ use Rattle.xl_core.specs.State.{CoreState, drawn}
 use Rattle.xl_core.specs.Askers.{asked_what, asked_whats, asked_claim, known_claim, IsFit, IsFitAct, known_owner, range_what, asked_claims, both_entered}
 use Rattle.xl_core.specs.Causes.{IsTurn, held_once}
 use Rattle.xl_core.specs.Askers.{party_named}
-use Rattle.xl_core.specs.BreakAnswers.{may_be_left, ack, first_due, client_of}
+use Rattle.xl_core.specs.BreakAnswers.{may_be_left, ack, due, client_of}
 use Rattle.xl_core.specs.Ticks.{advanced, renew, end_some, unleased, expire, lapsed_by, lapse}
 use Rattle.xl_names.specs.declared.name.Name.TheVariants.{NfsParty}
 use Rattle.xl_base.specs.declared.event.Moment.{Moment}
@@ -660,9 +660,9 @@ lapsed_made : (s : CoreState) (cache : Claim) (client : Option (List ℕ)) (p : 
 lapsed_made s cache None p good there is = rest_of_made cache None s.claims p good.single there is
 lapsed_made s cache (Some client) p good there is = expire_made s client p good
 
-lapse_made : (s : CoreState) (cache : Claim) (p : Place) → IsGood s → first_due s ≡ Some cache → held_at (lapse s cache).1 p ≡ else_was (lapsed_at s cache (client_of s.names cache.party) p) (held_at s p)
+lapse_made : (s : CoreState) (cache : Claim) (p : Place) → IsGood s → IsIn cache (due s) → held_at (lapse s cache).1 p ≡ else_was (lapsed_at s cache (client_of s.names cache.party) p) (held_at s p)
 unfolding lapse
-lapse_made s cache p good first = let is = due_is s cache first in lapsed_made s cache (client_of s.names cache.party) p good is.0 is.1
+lapse_made s cache p good here = let is = due_is s cache here in lapsed_made s cache (client_of s.names cache.party) p good is.0 is.1
 
 -- an ask makes of it what its way does, and then what it is answered
 before_made : (n : ℕ) (left : Rooms) (s : CoreState) (a : Ask) (p : Place) → IsGood s → IsFit a

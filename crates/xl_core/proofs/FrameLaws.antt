@@ -35,12 +35,12 @@ use Rattle.xl_core.specs.declared.ask.Effect.{Effect}
 use Rattle.xl_core.specs.declared.ask.Effect.TheVariants.{Begun, Served, Cancelled, Expired}
 use Rattle.xl_base.specs.declared.event.Moment.{Moment}
 use Rattle.xl_names.specs.declared.name.Name.TheVariants.{NfsParty}
-use Rattle.xl_core.specs.Leases.{Lease, later, without_lease, first_ended}
-use Rattle.xl_core.specs.BreakAnswers.{ack, first_due, client_of}
-use Rattle.xl_core.specs.Ticks.{advanced, renew, end_some, unleased, expire, behind_told, expired_then, expired_for, expire_all, lapsed_by, lapse, lapsed_then, lapsed_for, tick}
+use Rattle.xl_core.specs.Leases.{Lease, later, without_lease, ended}
+use Rattle.xl_core.specs.BreakAnswers.{ack, due, client_of}
+use Rattle.xl_core.specs.Ticks.{advanced, renew, end_some, unleased, expire, behind_told, in_turn, lapsed_by, lapse, is_still_held, is_lease_over, lapse_all, expire_all, tick}
 use Rattle.xl_core.proofs.ChangeLaws.{AskWay, Stays, Tests, Holds, Waits, Frees, Gives, decided_way}
 use Rattle.xl_core.proofs.AskWishLaws.{wish_claims, after_claims}
-use Rattle.xl_core.proofs.GoodLaws.{once_answered, fewer_cancelled, Turned, IsMoved, Answers, Rests, IsFirst, each_turn, asked_way_good, advanced_good, expire_good, lapse_good, lapsed_good}
+use Rattle.xl_core.proofs.GoodLaws.{once_answered, fewer_cancelled, Turned, IsMoved, Answers, Rests, IsFirst, each_turn, asked_way_good, advanced_good, expire_good, lapse_good, lapse_all_good}
 use Rattle.xl_core.proofs.RowLaws.{is_refusal}
 use Rattle.xl_core.proofs.SettleLaws.{apart_ids, all_out}
 
@@ -446,13 +446,14 @@ expire_left s client =
     let is = some_left s (party_named s.names (NfsParty client)) in
     (λ good. lease_goes s r.1 client r.0 (is.0 good), unserved_more r.0 (Expired client ∷ []) is.1 refl)
 
-then_left : (rest : CoreState → List Effect × CoreState) (s : CoreState) (o : Option (List ℕ)) → ((t : CoreState) → IsLeft t (rest t)) → IsLeft s (expired_then rest s o)
-then_left rest s None each = left_so s
-then_left rest s (Some client) each = left_on s (expire s client).1 (expire s client).0 (rest (expire s client).1) (expire_left s client) (expire_good s client) (each (expire s client).1)
-
-expired_left : (fuel : ℕ) (s : CoreState) → IsLeft s (expired_for fuel s)
-expired_left zero s = left_so s
-expired_left (suc fuel) s = then_left (expired_for fuel) s (first_ended s.clock s.leases) (λ t. expired_left fuel t)
+-- what is done in turn leaves the state as each of it does
+in_turn_left : {A : Type 0} (is_left : CoreState → A → Bool) (does : CoreState → A → List Effect × CoreState) → ((s : CoreState) (x : A) → IsLeft s (does s x)) → ((s : CoreState) (x : A) → IsGood s → IsGood (does s x).1) → (xs : List A) (s : CoreState) → IsLeft s (in_turn is_left does xs s)
+in_turn_left is_left does each sound [] s = left_so s
+in_turn_left is_left does each sound (x ∷ xs) s =
+    elim (cases_Bool (is_left s x)) [
+      | inl e ↦ let r = does s x in rw e (left_on s r.1 r.0 (in_turn is_left does xs r.1) (each s x) (sound s x) (in_turn_left is_left does each sound xs r.1))
+      | inr e ↦ rw e (in_turn_left is_left does each sound xs s)
+    ]
 
 without_left : (s : CoreState) (cache : Claim) (client : Option (List ℕ)) → IsLeft s (lapsed_by s cache client)
 unfolding give_back
@@ -463,23 +464,19 @@ pub lapse_left : (s : CoreState) (cache : Claim) → IsLeft s (lapse s cache)
 unfolding lapse
 lapse_left s cache = without_left s cache (client_of s.names cache.party)
 
-lapsed_then_left : (rest : CoreState → List Effect × CoreState) (s : CoreState) (o : Option Claim) → ((t : CoreState) → IsLeft t (rest t)) → IsLeft s (lapsed_then rest s o)
-lapsed_then_left rest s None each = left_so s
-lapsed_then_left rest s (Some cache) each = left_on s (lapse s cache).1 (lapse s cache).0 (rest (lapse s cache).1) (lapse_left s cache) (lapse_good s cache) (each (lapse s cache).1)
+lapse_all_left : (s : CoreState) → IsLeft s (lapse_all s)
+unfolding lapse_all
+lapse_all_left s = in_turn_left is_still_held lapse lapse_left lapse_good (due s) s
 
-lapsed_left : (fuel : ℕ) (s : CoreState) → IsLeft s (lapsed_for fuel s)
-lapsed_left zero s = left_so s
-lapsed_left (suc fuel) s = lapsed_then_left (lapsed_for fuel) s (first_due s) (λ t. lapsed_left fuel t)
-
-all_left : (s : CoreState) → IsLeft s (expire_all s)
+expire_all_left : (s : CoreState) → IsLeft s (expire_all s)
 unfolding expire_all
-all_left s = expired_left (length s.leases) s
+expire_all_left s = in_turn_left is_lease_over expire expire_left expire_good (ended s.clock s.leases) s
 
 ticked_left : (s : CoreState) (now : Moment) → IsLeft (advanced s now) (tick s now)
 unfolding tick
 ticked_left s now =
-    let r = lapsed_for (length s.claims) (advanced s now) in
-    left_on (advanced s now) r.1 r.0 (expire_all r.1) (lapsed_left (length s.claims) (advanced s now)) (lapsed_good (length s.claims) (advanced s now)) (all_left r.1)
+    let r = lapse_all (advanced s now) in
+    left_on (advanced s now) r.1 r.0 (expire_all r.1) (lapse_all_left (advanced s now)) (lapse_all_good (advanced s now)) (expire_all_left r.1)
 
 pub advanced_ticked : (s : CoreState) (now : Moment) → IsTicked s now [] (advanced s now)
 unfolding advanced

@@ -37,9 +37,9 @@ use Rattle.xl_wait.specs.Waiting.{cancelled}
 use Rattle.xl_wait.specs.declared.waiter.Rooms.{Rooms}
 use Rattle.xl_wait.specs.declared.waiter.Waiter.{Waiter}
 use Rattle.xl_core.specs.State.{CoreState, started, step_begun, drawn}
-use Rattle.xl_core.specs.Leases.{Lease, moment_after, later, with_lease, without_lease, first_ended}
-use Rattle.xl_core.specs.BreakAnswers.{first_due, client_of}
-use Rattle.xl_core.specs.Ticks.{advanced, renew, end_some, unleased, expire, expired_then, expired_for, expire_all, lapsed_by, lapse, lapsed_then, lapsed_for, tick}
+use Rattle.xl_core.specs.Leases.{Lease, moment_after, later, with_lease, without_lease, ended}
+use Rattle.xl_core.specs.BreakAnswers.{due, client_of}
+use Rattle.xl_core.specs.Ticks.{advanced, renew, end_some, unleased, expire, lapsed_by, lapse, is_still_held, is_lease_over, lapse_all, expire_all, tick}
 use Rattle.xl_core.specs.Askers.{party_named, who_entered, asking_party, may_have, may_wish_for, IsFitWish, IsOrdered, range_what, known_owner}
 use Rattle.xl_core.specs.declared.lease.Times.{Times}
 use Rattle.xl_names.specs.declared.name.Name.TheVariants.{NfsParty}
@@ -51,6 +51,7 @@ use Rattle.xl_core.specs.Blockers.{is_stopped, all_run}
 use Rattle.xl_core.specs.Ways.{made_way}
 use Rattle.xl_core.specs.Wishes.{wish_for}
 use Rattle.xl_core.specs.declared.ask.Who.{Who}
+use Rattle.xl_core.proofs.InTurnLaws.{in_turn_keeps}
 use Rattle.xl_core.proofs.AskWishLaws.{refused_wish, MayWish, wish_for_good, after_good, same_kinds}
 use Rattle.xl_core.specs.Judge.{Ruled, all_granted, held_with, does_wait, judged, row, row_left}
 use Rattle.xl_core.specs.Limits.{most_waiters, wish_limits, first_passed}
@@ -731,17 +732,6 @@ pub expire_good : (s : CoreState) (client : List ℕ) → IsGood s → IsGood (e
 unfolding expire
 expire_good s client good = ended_good s client (party_named s.names (NfsParty client)) good
 
-pub expired_is_good : (s t : CoreState) (client : List ℕ) (effects : List Effect) → IsGood s → expire s client ≡ (effects, t) → IsGood t
-expired_is_good s t client effects good e = subst (λ (r : List Effect × CoreState). IsGood r.1) e (expire_good s client good)
-
-then_good : (rest : CoreState → List Effect × CoreState) (s : CoreState) (o : Option (List ℕ)) → IsGood s → ((t : CoreState) → IsGood t → IsGood (rest t).1) → IsGood (expired_then rest s o).1
-then_good rest s None good later = good
-then_good rest s (Some client) good later = later (expire s client).1 (expire_good s client good)
-
-expired_good : (fuel : ℕ) (s : CoreState) → IsGood s → IsGood (expired_for fuel s).1
-expired_good zero s good = good
-expired_good (suc fuel) s good = then_good (expired_for fuel) s (first_ended s.clock s.leases) good (λ t h. expired_good fuel t h)
-
 lapsed_by_good : (s : CoreState) (cache : Claim) (client : Option (List ℕ)) → IsGood s → IsGood (lapsed_by s cache client).1
 lapsed_by_good s cache None good = without_good s cache good
 lapsed_by_good s cache (Some client) good = expire_good s client good
@@ -750,25 +740,14 @@ pub lapse_good : (s : CoreState) (cache : Claim) → IsGood s → IsGood (lapse 
 unfolding lapse
 lapse_good s cache good = lapsed_by_good s cache (client_of s.names cache.party) good
 
-pub lapsed_is_good : (s t : CoreState) (cache : Claim) (effects : List Effect) → IsGood s → lapse s cache ≡ (effects, t) → IsGood t
-lapsed_is_good s t cache effects good e = subst (λ (r : List Effect × CoreState). IsGood r.1) e (lapse_good s cache good)
-
-lapsed_then_good : (rest : CoreState → List Effect × CoreState) (s : CoreState) (o : Option Claim) → IsGood s → ((t : CoreState) → IsGood t → IsGood (rest t).1) → IsGood (lapsed_then rest s o).1
-lapsed_then_good rest s None good later = good
-lapsed_then_good rest s (Some cache) good later = later (lapse s cache).1 (lapse_good s cache good)
-
-pub lapsed_good : (fuel : ℕ) (s : CoreState) → IsGood s → IsGood (lapsed_for fuel s).1
-lapsed_good zero s good = good
-lapsed_good (suc fuel) s good = lapsed_then_good (lapsed_for fuel) s (first_due s) good (λ t h. lapsed_good fuel t h)
-
--- the state that so many breaks leave is good
-pub all_lapsed_good : (fuel : ℕ) (s t : CoreState) → IsGood s → (lapsed_for fuel s).1 ≡ t → IsGood t
-all_lapsed_good fuel s t good e = subst IsGood e (lapsed_good fuel s good)
+pub lapse_all_good : (s : CoreState) → IsGood s → IsGood (lapse_all s).1
+unfolding lapse_all
+lapse_all_good s good = in_turn_keeps is_still_held lapse IsGood lapse_good (due s) s good
 
 expire_all_good : (s : CoreState) → IsGood s → IsGood (expire_all s).1
 unfolding expire_all
-expire_all_good s good = expired_good (length s.leases) s good
+expire_all_good s good = in_turn_keeps is_lease_over expire IsGood expire_good (ended s.clock s.leases) s good
 
 pub tick_good : (s : CoreState) (now : Moment) → IsGood s → IsGood (tick s now).1
 unfolding tick
-tick_good s now good = expire_all_good (lapsed_for (length s.claims) (advanced s now)).1 (lapsed_good (length s.claims) (advanced s now) (advanced_good s now good))
+tick_good s now good = expire_all_good (lapse_all (advanced s now)).1 (lapse_all_good (advanced s now) (advanced_good s now good))

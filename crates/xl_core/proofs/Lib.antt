@@ -12,6 +12,7 @@ pub mod LimitLaws
 pub mod CauseLaws
 pub mod RequestLaws
 pub mod ClaimLaws
+pub mod InTurnLaws
 pub mod GoodLaws
 pub mod CacheLaws
 pub mod HeldCaches

@@ -30,21 +30,21 @@ use Rattle.xl_wait.specs.declared.waiter.Waiter.{Waiter}
 use Rattle.xl_core.specs.Askers.{party_named, asked_whats, asked_claims, IsFit}
 use Rattle.xl_core.specs.BreaksBegun.{with_break, once_begun, once_broken, is_recalled, recalls, breaks_begun}
 use Rattle.xl_core.specs.Blockers.{is_stopped}
-use Rattle.xl_core.specs.BreakAnswers.{may_be_left, with_rest, ack, first_due, client_of}
+use Rattle.xl_core.specs.BreakAnswers.{may_be_left, with_rest, ack, due, client_of}
 use Rattle.xl_core.specs.Causes.{may_wait}
 use Rattle.xl_core.specs.Decide.{Answered, plea_of, waiter_of, decided, way, before_wish, does_wish, wish_after, ask}
 use Rattle.xl_core.specs.Wishes.{wished_kind, wish_granted, wish_of, wish_for}
 use Rattle.xl_cache.specs.declared.wish.Wish.{Wish}
 use Rattle.xl_core.specs.Good.{IsWished, caches_of, IsHeldBy, IsHeld, IsGood}
 use Rattle.xl_core.specs.Judge.{held_with}
-use Rattle.xl_core.specs.Leases.{moment_after, first_ended}
+use Rattle.xl_core.specs.Leases.{moment_after, ended}
 use Rattle.xl_core.specs.Frames.{who_left}
 use Rattle.xl_core.specs.Numbers.{may_be_broken, may_be_recalled, delegations_left, numbers_of}
 use Rattle.xl_table.specs.Leaving.{goes}
 use Rattle.xl_table.specs.declared.leaver.Leaver.TheVariants as leavers
 use Rattle.xl_core.specs.Settle.{plea_again, way_again, settle, waits_for, waits_as, cancel, give_back, weaken, end_party, close_open}
 use Rattle.xl_core.specs.State.{CoreState, drawn}
-use Rattle.xl_core.specs.Ticks.{advanced, renew, end_some, expire, expired_then, expired_for, expire_all, lapsed_by, lapse, lapsed_then, lapsed_for, tick}
+use Rattle.xl_core.specs.Ticks.{advanced, renew, end_some, expire, lapsed_by, lapse, is_still_held, is_lease_over, lapse_all, expire_all, tick}
 use Rattle.xl_core.specs.Ways.{made_way}
 use Rattle.xl_core.specs.declared.ask.Answer.{Answer}
 use Rattle.xl_core.specs.declared.ask.Answer.TheVariants as answers
@@ -52,6 +52,7 @@ use Rattle.xl_core.specs.declared.ask.Ask.{Ask}
 use Rattle.xl_core.specs.declared.ask.Effect.{Effect}
 use Rattle.xl_core.specs.declared.ask.Effect.TheVariants.{Served}
 use Rattle.xl_core.specs.declared.judge.Plea.{Plea}
+use Rattle.xl_core.proofs.InTurnLaws.{in_turn_keeps}
 use Rattle.xl_core.proofs.CacheLaws.{all_granted_caches}
 use Rattle.xl_core.proofs.ChangeLaws.{AskWay, Stays, Tests, Holds, Waits, Frees, Gives, decided_way, decided_caches}
 use Rattle.xl_core.proofs.AskWishLaws.{wish_claims, empty_wish, ungranted_wish, ungranted_after, wish_for_left}
@@ -444,25 +445,13 @@ pub lapse_numbers : (s : CoreState) (cache : Claim) → numbers_of (lapse s cach
 unfolding lapse
 lapse_numbers s cache = lapsed_by_numbers s cache (client_of s.names cache.party)
 
-expired_then_numbers : (rest : CoreState → Told) (s : CoreState) (o : Option (List ℕ)) → ((t : CoreState) → numbers_of (rest t).1 ≤ numbers_of t) → numbers_of (expired_then rest s o).1 ≤ numbers_of s
-expired_then_numbers rest s None each = omega arith
-expired_then_numbers rest s (Some client) each = omega (arith, expire_numbers s client, each (expire s client).1)
+lapse_all_numbers : (s : CoreState) → numbers_of (lapse_all s).1 ≤ numbers_of s
+unfolding lapse_all
+lapse_all_numbers s = in_turn_keeps is_still_held lapse (λ t. numbers_of t ≤ numbers_of s) (λ t cache few. omega (arith, lapse_numbers t cache, few)) (due s) s (omega arith)
 
-expired_numbers : (fuel : ℕ) (s : CoreState) → numbers_of (expired_for fuel s).1 ≤ numbers_of s
-expired_numbers zero s = omega arith
-expired_numbers (suc fuel) s = expired_then_numbers (expired_for fuel) s (first_ended s.clock s.leases) (λ t. expired_numbers fuel t)
-
-lapsed_then_numbers : (rest : CoreState → Told) (s : CoreState) (o : Option Claim) → ((t : CoreState) → numbers_of (rest t).1 ≤ numbers_of t) → numbers_of (lapsed_then rest s o).1 ≤ numbers_of s
-lapsed_then_numbers rest s None each = omega arith
-lapsed_then_numbers rest s (Some cache) each = omega (arith, lapse_numbers s cache, each (lapse s cache).1)
-
-lapsed_numbers : (fuel : ℕ) (s : CoreState) → numbers_of (lapsed_for fuel s).1 ≤ numbers_of s
-lapsed_numbers zero s = omega arith
-lapsed_numbers (suc fuel) s = lapsed_then_numbers (lapsed_for fuel) s (first_due s) (λ t. lapsed_numbers fuel t)
-
-all_expired_numbers : (s : CoreState) → numbers_of (expire_all s).1 ≤ numbers_of s
+expire_all_numbers : (s : CoreState) → numbers_of (expire_all s).1 ≤ numbers_of s
 unfolding expire_all
-all_expired_numbers s = expired_numbers (length s.leases) s
+expire_all_numbers s = in_turn_keeps is_lease_over expire (λ t. numbers_of t ≤ numbers_of s) (λ t client few. omega (arith, expire_numbers t client, few)) (ended s.clock s.leases) s (omega arith)
 
 pub advanced_numbers : (s : CoreState) (now : Moment) → numbers_of (advanced s now) ≡ numbers_of s
 unfolding advanced
@@ -471,5 +460,4 @@ advanced_numbers s now = refl
 pub tick_numbers : (s : CoreState) (now : Moment) → numbers_of (tick s now).1 ≤ numbers_of s
 unfolding tick
 tick_numbers s now =
-    let t = (lapsed_for (length s.claims) (advanced s now)).1 in
-    omega (arith, advanced_numbers s now, lapsed_numbers (length s.claims) (advanced s now), all_expired_numbers t)
+    omega (arith, advanced_numbers s now, lapse_all_numbers (advanced s now), expire_all_numbers (lapse_all (advanced s now)).1)

@@ -1,156 +1,112 @@
--- A reading of the clock is the clock's rise and the expiries behind it, after which no lease is left that has ended.
-use Rattle.std.proofs.Common.{◌≡◌, ℕ, zero, suc, ◌+◌, ◌≤◌, inl, inr, ◌⊎◌, List, [], ◌∷◌, ◌++◌, length, Option, Some, None, refl, sym, ap, subst, ◌∙◌, arith}
+-- A reading of the clock is the clock's rise and what is done in turn behind it, after which no lease is left that has ended.
+use Rattle.std.proofs.Common.{◌≡◌, ℕ, Bool, true, false, not, ◌&&◌, ◌||◌, inl, inr, List, [], ◌∷◌, ◌++◌, map, Option, Some, None, refl, sym, ap, subst, ◌∙◌}
 use Rattle.std.specs.Prelude.{bytes_eq}
 use Rattle.std.specs.Cmp.Lexicographic.{bytes_decides}
-use Rattle.std.proofs.lemmas.Bool.{cases_Bool, both_ways}
-use Rattle.std.proofs.lemmas.Option.{same_Some}
+use Rattle.std.specs.List.{AllByRecursion, filter, list_any}
+use Rattle.std.proofs.lemmas.Bool.{cases_Bool, both_ways, and_parts}
+use Rattle.xl_base.specs.Lists.{IsIn, sorted}
+use Rattle.xl_base.proofs.Members.{all_from, in_filter}
+use Rattle.xl_base.proofs.SortLaws.{in_sorted, in_sorted_from, sorted_filter}
 use Rattle.xl_base.specs.declared.event.Moment.{Moment}
 use Rattle.xl_base.specs.declared.name.Party.{Party}
+use Rattle.xl_matrix.specs.Equal.{same_claims}
+use Rattle.xl_matrix.proofs.EqualLaws.{same_claims-true, same_claims-self}
+use Rattle.xl_matrix.specs.declared.claim.Claim.{Claim}
 use Rattle.xl_names.specs.declared.name.Name.TheVariants.{NfsParty}
+use Rattle.xl_table.proofs.FlatLaws.{held_iff}
+use Rattle.xl_table.specs.Elements.{is_held}
+use Rattle.xl_table.specs.Flat.{is_due}
 use Rattle.xl_core.specs.State.{CoreState}
 use Rattle.xl_core.specs.Askers.{party_named}
-use Rattle.xl_matrix.specs.declared.claim.Claim.{Claim}
-use Rattle.xl_core.specs.BreakAnswers.{first_due}
-use Rattle.xl_core.specs.Deeds.{Deed, all_done, all_told_of, expiry_then, expiries, expiries_of, lapse_then, lapses, tick_deeds, AreFit}
-use Rattle.xl_core.proofs.DeedLists.{done_append, told_append, fit_append}
-use Rattle.xl_core.specs.Leases.{Lease, without_lease, has_ended, comes_before, first_of, first_among, first_ended}
+use Rattle.xl_core.specs.BreakAnswers.{due_before, due, client_of}
+use Rattle.xl_core.specs.Deeds.{Deed, Lapses, Expires, done, given, all_done, all_told_of, deeds_in_turn, lapses, expiries, tick_deeds, IsFitDeed, AreFit}
+use Rattle.xl_core.specs.Dues.{ahead, IsInTurn, AreInTurn}
+use Rattle.xl_core.specs.Good.{IsGood}
+use Rattle.xl_core.specs.Leases.{Lease, without_lease, has_ended, comes_before, ended, is_ended}
 use Rattle.xl_core.specs.Settle.{end_party}
-use Rattle.xl_core.specs.Ticks.{advanced, end_some, unleased, expire, expired_then, expired_for, expire_all, lapse, lapsed_then, lapsed_for, tick}
+use Rattle.xl_core.specs.Ticks.{advanced, end_some, unleased, expire, in_turn, is_still_held, is_lease_over, lapsed_by, lapse, lapse_all, expire_all, tick}
 use Rattle.xl_core.specs.declared.ask.Effect.{Effect}
+use Rattle.xl_core.proofs.DeedLists.{done_append, told_append, fit_append}
+use Rattle.xl_core.proofs.DueLaws.{found_due, lapses_take, all_are_held}
+use Rattle.xl_core.proofs.GoodLaws.{advanced_good}
+use Rattle.xl_core.proofs.InTurnLaws.{filter_turned, Takes, AreLeft, one_goes, none_left}
+use Rattle.xl_core.proofs.LeaseLaws.{ids_ranked}
 
--- ---- the deeds
+-- ---- what is done in turn is its deeds
 
-module _ (n : ℕ) (later : CoreState → List Deed) (rest : CoreState → List Effect × CoreState) where
-  then_done : (s : CoreState) (o : Option (List ℕ)) → ((t : CoreState) → all_done n t (later t) ≡ (rest t).1) → all_done n s (expiry_then later s o) ≡ (expired_then rest s o).1
-  then_done s None each = refl
-  then_done s (Some client) each = each (expire s client).1
+module _ {A : Type 0} (n : ℕ) (is_left : CoreState → A → Bool) (does : CoreState → A → List Effect × CoreState) (deed : A → Deed) where
+  turns_done : ((s : CoreState) (x : A) → done n s (deed x) ≡ (does s x).1) → (xs : List A) (s : CoreState) → all_done n s (deeds_in_turn is_left deed n xs s) ≡ (in_turn is_left does xs s).1
+  turns_done same [] s = refl
+  turns_done same (x ∷ xs) s =
+      elim (cases_Bool (is_left s x)) [
+        | inl e ↦ rw e (turns_done same xs (done n s (deed x)) ∙ ap (λ (t : CoreState). (in_turn is_left does xs t).1) (same s x))
+        | inr e ↦ rw e (turns_done same xs s)
+      ]
 
-  then_tells : (s : CoreState) (o : Option (List ℕ)) → ((t : CoreState) → all_told_of n t (later t) ≡ (rest t).0) → all_told_of n s (expiry_then later s o) ≡ (expired_then rest s o).0
-  then_tells s None each = refl
-  then_tells s (Some client) each = ap (λ (told : List Effect). (expire s client).0 ++ told) (each (expire s client).1)
+  turns_tell : ((s : CoreState) (x : A) → done n s (deed x) ≡ (does s x).1) → ((s : CoreState) (x : A) → (given n s (deed x)).1 ≡ (does s x).0) → (xs : List A) (s : CoreState) → all_told_of n s (deeds_in_turn is_left deed n xs s) ≡ (in_turn is_left does xs s).0
+  turns_tell same tells [] s = refl
+  turns_tell same tells (x ∷ xs) s =
+      elim (cases_Bool (is_left s x)) [
+        | inr e ↦ rw e (turns_tell same tells xs s)
+        | inl e ↦ rw e (
+            ap (λ (told : List Effect). told ++ all_told_of n (done n s (deed x)) (deeds_in_turn is_left deed n xs (done n s (deed x)))) (tells s x)
+            ∙ ap (λ (told : List Effect). (does s x).0 ++ told) (turns_tell same tells xs (done n s (deed x)) ∙ ap (λ (t : CoreState). (in_turn is_left does xs t).0) (same s x)))
+      ]
 
-then_fits : (n : ℕ) (later : CoreState → List Deed) (s : CoreState) (o : Option (List ℕ)) → first_ended s.clock s.leases ≡ o → ((t : CoreState) → AreFit n t (later t)) → AreFit n s (expiry_then later s o)
-then_fits n later s None e each = tt
-then_fits n later s (Some client) e each = (e, each (expire s client).1)
+  -- each may be done, and nothing is passed over
+  turns_in_turn : (all_left : CoreState → List A) (Stays : CoreState → Type 0) → Takes is_left does all_left Stays → ((s : CoreState) (x : A) → done n s (deed x) ≡ (does s x).1)
+      → (u : CoreState) → ((s : CoreState) (x : A) (xs : List A) → all_left s ≡ x ∷ xs → IsFitDeed s (deed x) × IsInTurn s u (deed x)) → (xs : List A) (s : CoreState) → Stays s → AreLeft is_left does all_left Stays s xs
+      → (let ds = deeds_in_turn is_left deed n xs s in AreFit n s ds × AreInTurn n s ds u)
+  turns_in_turn all_left Stays takes same u first [] s stays are = (tt, tt)
+  turns_in_turn all_left Stays takes same u first (x ∷ xs) s stays are =
+      elim (cases_Bool (is_left s x)) [
+        | inr e ↦ rw e (turns_in_turn all_left Stays takes same u first xs s stays (rw e at are))
+        | inl e ↦
+            let next = one_goes is_left does all_left Stays takes s x xs stays e are in
+            let one = first s x (filter (is_left s) xs) next.2 in
+            let more = turns_in_turn all_left Stays takes same u first xs (done n s (deed x)) (subst Stays (sym (same s x)) next.1) (subst (λ (t : CoreState). AreLeft is_left does all_left Stays t xs) (sym (same s x)) next.0) in
+            rw e ((one.0, more.0), (one.1, more.1))
+      ]
 
-expiries_done : (n fuel : ℕ) (s : CoreState) → all_done n s (expiries fuel s) ≡ (expired_for fuel s).1
-expiries_done n zero s = refl
-expiries_done n (suc fuel) s = then_done n (expiries fuel) (expired_for fuel) s (first_ended s.clock s.leases) (λ t. expiries_done n fuel t)
+-- ---- leases that have ended
 
-expiries_tell : (n fuel : ℕ) (s : CoreState) → all_told_of n s (expiries fuel s) ≡ (expired_for fuel s).0
-expiries_tell n zero s = refl
-expiries_tell n (suc fuel) s = then_tells n (expiries fuel) (expired_for fuel) s (first_ended s.clock s.leases) (λ t. expiries_tell n fuel t)
+map_where : (q : List ℕ → Bool) (ls : List Lease) → map (λ l. l.0) (filter (λ l. q l.0) ls) ≡ filter q (map (λ l. l.0) ls)
+map_where q [] = refl
+map_where q (l ∷ ls) = elim (cases_Bool (q l.0)) [ inl e ↦ rw e (ap (λ (ids : List (List ℕ)). l.0 ∷ ids) (map_where q ls)) | inr e ↦ rw e (map_where q ls) ]
 
-expiries_fit : (n fuel : ℕ) (s : CoreState) → AreFit n s (expiries fuel s)
-expiries_fit n zero s = tt
-expiries_fit n (suc fuel) s = then_fits n (expiries fuel) s (first_ended s.clock s.leases) refl (λ t. expiries_fit n fuel t)
+-- once the client's lease is taken out the others are left
+ended_without : (now : Moment) (client : List ℕ) (ls : List Lease) → ended now (without_lease client ls) ≡ filter (λ id. not (bytes_eq client id)) (ended now ls)
+unfolding ended without_lease
+ended_without now client ls =
+    ap (λ (xs : List Lease). sorted comes_before (map (λ l. l.0) xs)) (filter_turned (has_ended now) (λ l. not (bytes_eq client l.0)) ls)
+    ∙ ap (λ (ids : List (List ℕ)). sorted comes_before ids) (map_where (λ id. not (bytes_eq client id)) (filter (has_ended now) ls))
+    ∙ sorted_filter ids_ranked (λ id. not (bytes_eq client id)) (map (λ l. l.0) (filter (has_ended now) ls))
 
-module _ (n : ℕ) (later : CoreState → List Deed) (rest : CoreState → List Effect × CoreState) where
-  lapse_done : (s : CoreState) (o : Option Claim) → ((t : CoreState) → all_done n t (later t) ≡ (rest t).1) → all_done n s (lapse_then later s o) ≡ (lapsed_then rest s o).1
-  lapse_done s None each = refl
-  lapse_done s (Some cache) each = each (lapse s cache).1
+and_false : (b : Bool) → (b && false) ≡ false
+and_false true = refl
+and_false false = refl
 
-  lapse_tells : (s : CoreState) (o : Option Claim) → ((t : CoreState) → all_told_of n t (later t) ≡ (rest t).0) → all_told_of n s (lapse_then later s o) ≡ (lapsed_then rest s o).0
-  lapse_tells s None each = refl
-  lapse_tells s (Some cache) each = ap (λ (told : List Effect). (lapse s cache).0 ++ told) (each (lapse s cache).1)
-
-lapse_fits : (n : ℕ) (later : CoreState → List Deed) (s : CoreState) (o : Option Claim) → first_due s ≡ o → ((t : CoreState) → AreFit n t (later t)) → AreFit n s (lapse_then later s o)
-lapse_fits n later s None e each = tt
-lapse_fits n later s (Some cache) e each = (e, each (lapse s cache).1)
-
-lapses_done : (n fuel : ℕ) (s : CoreState) → all_done n s (lapses fuel s) ≡ (lapsed_for fuel s).1
-lapses_done n zero s = refl
-lapses_done n (suc fuel) s = lapse_done n (lapses fuel) (lapsed_for fuel) s (first_due s) (λ t. lapses_done n fuel t)
-
-lapses_tell : (n fuel : ℕ) (s : CoreState) → all_told_of n s (lapses fuel s) ≡ (lapsed_for fuel s).0
-lapses_tell n zero s = refl
-lapses_tell n (suc fuel) s = lapse_tells n (lapses fuel) (lapsed_for fuel) s (first_due s) (λ t. lapses_tell n fuel t)
-
-lapses_fit : (n fuel : ℕ) (s : CoreState) → AreFit n s (lapses fuel s)
-lapses_fit n zero s = tt
-lapses_fit n (suc fuel) s = lapse_fits n (lapses fuel) s (first_due s) refl (λ t. lapses_fit n fuel t)
-
-all_expire : (n : ℕ) (s : CoreState) → (all_done n s (expiries_of s) ≡ (expire_all s).1) × (all_told_of n s (expiries_of s) ≡ (expire_all s).0) × AreFit n s (expiries_of s)
-unfolding expire_all
-all_expire n s = (expiries_done n (length s.leases) s, expiries_tell n (length s.leases) s, expiries_fit n (length s.leases) s)
-
--- the state once the breaks are over whose deadline has come
-abbrev lapsed_at : CoreState → Moment → CoreState
-lapsed_at s now = (lapsed_for (length s.claims) (advanced s now)).1
-
-abbrev first_deeds : CoreState → Moment → List Deed
-first_deeds s now = lapses (length s.claims) (advanced s now)
-
-first_done : (n : ℕ) (s : CoreState) (now : Moment) → all_done n (advanced s now) (first_deeds s now) ≡ lapsed_at s now
-first_done n s now = lapses_done n (length s.claims) (advanced s now)
-
-pub tick_done : (n : ℕ) (s : CoreState) (now : Moment) → all_done n s (tick_deeds s now) ≡ (tick s now).1
-unfolding tick
-tick_done n s now =
-    let u = lapsed_at s now in
-    done_append n (advanced s now) (first_deeds s now) (expiries_of u)
-    ∙ ap (λ (t : CoreState). all_done n t (expiries_of u)) (first_done n s now)
-    ∙ (all_expire n u).0
-
-pub tick_tells : (n : ℕ) (s : CoreState) (now : Moment) → all_told_of n s (tick_deeds s now) ≡ (tick s now).0
-unfolding tick
-tick_tells n s now =
-    let u = lapsed_at s now in
-    told_append n (advanced s now) (first_deeds s now) (expiries_of u)
-    ∙ ap (λ (t : CoreState). all_told_of n (advanced s now) (first_deeds s now) ++ all_told_of n t (expiries_of u)) (first_done n s now)
-    ∙ ap (λ (told : List Effect). told ++ all_told_of n u (expiries_of u)) (lapses_tell n (length s.claims) (advanced s now))
-    ∙ ap (λ (told : List Effect). (lapsed_for (length s.claims) (advanced s now)).0 ++ told) (all_expire n u).1
-
-pub tick_fits : (n : ℕ) (s : CoreState) (now : Moment) → AreFit n s (tick_deeds s now)
-tick_fits n s now =
-    let u = lapsed_at s now in (
-      tt,
-      fit_append n (advanced s now) (first_deeds s now) (expiries_of u) (lapses_fit n (length s.claims) (advanced s now))
-          (subst (λ (t : CoreState). AreFit n t (expiries_of u)) (sym (first_done n s now)) (all_expire n u).2),
-    )
-
--- ---- none is left
-
--- one of these leases is the client's
-abbrev HasLease : List ℕ → List Lease → Type 0
-HasLease client [] = ⊥
-HasLease client (l ∷ ls) = (l.0 ≡ client) ⊎ HasLease client ls
-
-shorter : (client : List ℕ) (ls : List Lease) → HasLease client ls → length (without_lease client ls) + 1 ≡ length ls
-unfolding without_lease
-shorter client [] has = absurd has
-shorter client (l ∷ ls) has =
+is_ended_without : (now : Moment) (client id : List ℕ) (ls : List Lease) → is_ended now (without_lease client ls) id ≡ (is_ended now ls id && not (bytes_eq client id))
+unfolding is_ended without_lease
+is_ended_without now client id [] = refl
+is_ended_without now client id (l ∷ ls) =
+    let rest = is_ended_without now client id ls in
     elim (cases_Bool (bytes_eq client l.0)) [
-      | inl same ↦ rw same (omega arith)
-      | inr other ↦ elim has [
-        | inl e ↦ absurd (both_ways (bytes_eq client l.0) other ((bytes_decides client l.0).1 (sym e)))
-        | inr later ↦ rw other (omega (arith, shorter client ls later))
+      | inl gone ↦ elim (cases_Bool (has_ended now l && bytes_eq id l.0)) [
+        | inr none ↦ rw (gone, none) rest
+        | inl one ↦
+            let same : client ≡ id = (bytes_decides client l.0).0 gone ∙ sym ((bytes_decides id l.0).0 (and_parts (has_ended now l) (bytes_eq id l.0) one).1) in
+            let out : not (bytes_eq client id) ≡ false = ap not ((bytes_decides client id).1 same) in
+            rw (gone, one, out) (rest ∙ ap (λ (b : Bool). is_ended now ls id && b) out ∙ and_false (is_ended now ls id))
+      ]
+      | inr stays ↦ elim (cases_Bool (has_ended now l && bytes_eq id l.0)) [
+        | inr none ↦ rw (stays, none) rest
+        | inl one ↦
+            let same : id ≡ l.0 = (bytes_decides id l.0).0 (and_parts (has_ended now l) (bytes_eq id l.0) one).1 in
+            let on : not (bytes_eq client id) ≡ true = ap not (ap (bytes_eq client) same ∙ stays) in
+            rw (stays, one, on) refl
       ]
     ]
-
--- the one that is found is among those that were looked at, or was found before
-among : (now : Moment) (first : Option (List ℕ)) (ls : List Lease) (client : List ℕ) → first_among now first ls ≡ Some client → (first ≡ Some client) ⊎ HasLease client ls
-among now first [] client e = inl e
-among now first (l ∷ ls) client e =
-    elim (cases_Bool (has_ended now l)) [
-      | inr runs ↦ elim (among now first ls client (rw runs at e)) [ inl before ↦ inl before | inr later ↦ inr (inr later) ]
-      | inl ended ↦ elim (among now (first_of first l.0) ls client (rw ended at e)) [
-        | inl one ↦ by first one
-        | inr later ↦ inr (inr later)
-      ]
-    ]
-  where
-    by : (o : Option (List ℕ)) → first_of o l.0 ≡ Some client → (o ≡ Some client) ⊎ HasLease client (l ∷ ls)
-    by None one = inr (inl (same_Some l.0 client one))
-    by (Some other) one =
-        elim (cases_Bool (comes_before l.0 other)) [
-          | inl before ↦ inr (inl (same_Some l.0 client (rw before at one)))
-          | inr behind ↦ inl (rw behind at one)
-        ]
-
-found_has : (now : Moment) (ls : List Lease) (client : List ℕ) → first_ended now ls ≡ Some client → HasLease client ls
-unfolding first_ended
-found_has now ls client e = elim (among now None ls client e) [ inl none ↦ absurd cc | inr has ↦ has ]
 
 -- an expiry leaves the clock, and of the leases takes the client's
 ends_still : (s : CoreState) (party : Party) → ((end_party s party).1.clock ≡ s.clock) × ((end_party s party).1.leases ≡ s.leases)
@@ -164,32 +120,143 @@ expire_leases s client = by (party_named s.names (NfsParty client)) where
   by None = (refl, refl)
   by (Some party) = ((ends_still s party).0, ap (λ (ls : List Lease). without_lease client ls) (ends_still s party).1)
 
-too_many : (n : ℕ) → suc n ≤ 0 → ⊥
-too_many n few = omega (arith, few)
+-- the clients of a state whose lease has ended
+abbrev all_ended : CoreState → List (List ℕ)
+all_ended s = ended s.clock s.leases
 
-no_leases : (now : Moment) (ls : List Lease) → length ls ≤ 0 → first_ended now ls ≡ None
-unfolding first_ended
-no_leases now [] few = refl
-no_leases now (l ∷ ls) few = absurd (too_many (length ls) few)
+abbrev Any : CoreState → Type 0
+Any s = Unit {0}
 
--- none is left where at most so many leases ran
-abbrev LeavesNone : (CoreState → List Effect × CoreState) → ℕ → Type 0
-LeavesNone rest most = (s : CoreState) → length s.leases ≤ most → first_ended (rest s).1.clock (rest s).1.leases ≡ None
+expiries_take : Takes is_lease_over expire all_ended Any
+expiries_take s client any here =
+    let t = (expire s client).1 in
+    let left = expire_leases s client in (
+      (λ id. not (bytes_eq client id)),
+      ap not ((bytes_decides client client).1 refl),
+      (λ i. ended (left.0 i) (left.1 i)) ∙ ended_without s.clock client s.leases,
+      (λ id. (λ i. is_ended (left.0 i) (left.1 i) id) ∙ is_ended_without s.clock client id s.leases),
+      tt,
+    )
 
-then_none : (rest : CoreState → List Effect × CoreState) (fuel : ℕ) (s : CoreState) (o : Option (List ℕ)) → first_ended s.clock s.leases ≡ o → length s.leases ≤ suc fuel → LeavesNone rest fuel → first_ended (expired_then rest s o).1.clock (expired_then rest s o).1.leases ≡ None
-then_none rest fuel s None e few later = e
-then_none rest fuel s (Some client) e few later =
-    let less = shorter client s.leases (found_has s.clock s.leases client e) in
-    later (expire s client).1 (subst (λ (ls : List Lease). length ls ≤ fuel) (sym (expire_leases s client).1) (omega (arith, few, less)))
+-- whoever is told apart by the test is among them, and the other way round
+id_found : (now : Moment) (ls : List Lease) (id : List ℕ) → IsIn id (map (λ l. l.0) (filter (has_ended now) ls)) → is_ended now ls id ≡ true
+unfolding is_ended
+id_found now [] id here = absurd here
+id_found now (l ∷ ls) id here =
+    elim (cases_Bool (has_ended now l)) [
+      | inr runs ↦ rw runs (id_found now ls id (rw runs at here))
+      | inl over ↦ elim (rw over at here) [
+        | inl e ↦ let same : bytes_eq id l.0 ≡ true = (bytes_decides id l.0).1 (sym e) in rw (over, same) refl
+        | inr later ↦ elim (cases_Bool (bytes_eq id l.0)) [ inl same ↦ rw (over, same) refl | inr other ↦ rw (over, other) (id_found now ls id later) ]
+      ]
+    ]
 
-none_left : (fuel : ℕ) → LeavesNone (expired_for fuel) fuel
-none_left zero s few = no_leases s.clock s.leases few
-none_left (suc fuel) s few = then_none (expired_for fuel) fuel s (first_ended s.clock s.leases) refl few (none_left fuel)
+ended_found : (now : Moment) (ls : List Lease) (id : List ℕ) → IsIn id (ended now ls) → is_ended now ls id ≡ true
+unfolding ended
+ended_found now ls id here = id_found now ls id (in_sorted_from comes_before id (map (λ l. l.0) (filter (has_ended now) ls)) here)
 
-none_of_all : (s : CoreState) → first_ended (expire_all s).1.clock (expire_all s).1.leases ≡ None
+all_over : (s : CoreState) → AreLeft is_lease_over expire all_ended Any s (all_ended s)
+all_over s = all (all_ended s) (ended_found s.clock s.leases) where
+  all : (ids : List (List ℕ)) → ((id : List ℕ) → IsIn id ids → is_ended s.clock s.leases id ≡ true) → ids ≡ filter (is_lease_over s) ids
+  all [] over = refl
+  all (id ∷ ids) over = rw (over id (inl refl)) (ap (λ (rest : List (List ℕ)). id ∷ rest) (all ids (λ other here. over other (inr here))))
+
+none_over : (s : CoreState) → all_ended (expire_all s).1 ≡ []
 unfolding expire_all
-none_of_all s = none_left (length s.leases) s (omega arith)
+none_over s = none_left is_lease_over expire all_ended Any expiries_take (all_ended s) s tt (all_over s)
 
-pub none_ended : (s : CoreState) (now : Moment) → (let t = (tick s now).1 in first_ended t.clock t.leases ≡ None)
+pub none_ended : (s : CoreState) (now : Moment) → (let t = (tick s now).1 in ended t.clock t.leases ≡ [])
 unfolding tick
-none_ended s now = none_of_all (lapsed_at s now)
+none_ended s now = none_over (lapse_all (advanced s now)).1
+
+-- ---- the deeds of a reading
+
+-- a cache that is held and whose deadline has come is one of those that are due
+due_here : (s : CoreState) (c : Claim) → is_held c s.claims ≡ true → is_due s.clock c ≡ true → IsIn c (due s)
+unfolding due
+due_here s c held over = in_sorted (due_before s.names) c (filter (is_due s.clock) s.claims) (in_filter (is_due s.clock) c s.claims ((held_iff true c s.claims (sym held)).0 refl) over)
+
+lapse_clock : (s : CoreState) (c : Claim) → (lapse s c).1.clock ≡ s.clock
+unfolding lapse
+lapse_clock s c = by (client_of s.names c.party) where
+  by : (o : Option (List ℕ)) → (lapsed_by s c o).1.clock ≡ s.clock
+  by None = refl
+  by (Some client) = (expire_leases s client).0
+
+caches_fit : (n : ℕ) (cs : List Claim) (s : CoreState) → AllByRecursion (λ c. is_due s.clock c ≡ true) cs → AreFit n s (deeds_in_turn is_still_held Lapses n cs s)
+caches_fit n [] s over = tt
+caches_fit n (c ∷ cs) s over =
+    elim (cases_Bool (is_still_held s c)) [
+      | inr gone ↦ rw gone (caches_fit n cs s over.1)
+      | inl held ↦ rw held (due_here s c held over.0, caches_fit n cs (lapse s c).1 (subst (λ (now : Moment). AllByRecursion (λ d. is_due now d ≡ true) cs) (sym (lapse_clock s c)) over.1))
+    ]
+
+lapses_fit : (n : ℕ) (s : CoreState) → AreFit n s (lapses n s)
+lapses_fit n s = caches_fit n (due s) s (all_from (λ c. is_due s.clock c ≡ true) (due s) (λ c here. (found_due s c here).1))
+
+lapses_done : (n : ℕ) (s : CoreState) → all_done n s (lapses n s) ≡ (lapse_all s).1
+unfolding lapse_all
+lapses_done n s = turns_done n is_still_held lapse Lapses (λ t c. refl) (due s) s
+
+lapses_tell : (n : ℕ) (s : CoreState) → all_told_of n s (lapses n s) ≡ (lapse_all s).0
+unfolding lapse_all
+lapses_tell n s = turns_tell n is_still_held lapse Lapses (λ t c. refl) (λ t c. refl) (due s) s
+
+lapses_in_turn : (n : ℕ) (s u : CoreState) → IsGood s → AreInTurn n s (lapses n s) u
+lapses_in_turn n s u good = (turns_in_turn n is_still_held lapse Lapses due IsGood lapses_take (λ t c. refl) u first (due s) s good (all_are_held s)).1 where
+  none_ahead : (c : Claim) (cs : List Claim) → AllByRecursion (λ d. IsIn d (due u)) (ahead (same_claims c) (c ∷ cs))
+  none_ahead c cs = rw (same_claims-self c) tt
+
+  first : (t : CoreState) (c : Claim) (cs : List Claim) → due t ≡ c ∷ cs → IsIn c (due t) × AllByRecursion (λ d. IsIn d (due u)) (ahead (same_claims c) (due t))
+  first t c cs is = (subst (λ (ds : List Claim). IsIn c ds) (sym is) (inl refl), subst (λ (ds : List Claim). AllByRecursion (λ d. IsIn d (due u)) (ahead (same_claims c) ds)) (sym is) (none_ahead c cs))
+
+expiries_done : (n : ℕ) (s : CoreState) → all_done n s (expiries n s) ≡ (expire_all s).1
+unfolding expire_all
+expiries_done n s = turns_done n is_lease_over expire Expires (λ t client. refl) (all_ended s) s
+
+expiries_tell : (n : ℕ) (s : CoreState) → all_told_of n s (expiries n s) ≡ (expire_all s).0
+unfolding expire_all
+expiries_tell n s = turns_tell n is_lease_over expire Expires (λ t client. refl) (λ t client. refl) (all_ended s) s
+
+expiries_so : (n : ℕ) (s u : CoreState) → AreFit n s (expiries n s) × AreInTurn n s (expiries n s) u
+expiries_so n s u = turns_in_turn n is_lease_over expire Expires all_ended Any expiries_take (λ t client. refl) u first (all_ended s) s tt (all_over s) where
+  none_ahead : (client : List ℕ) (ids : List (List ℕ)) → AllByRecursion (λ id. IsIn id (all_ended u)) (ahead (bytes_eq client) (client ∷ ids))
+  none_ahead client ids = let same = (bytes_decides client client).1 refl in rw same tt
+
+  first : (t : CoreState) (client : List ℕ) (ids : List (List ℕ)) → all_ended t ≡ client ∷ ids → IsIn client (all_ended t) × AllByRecursion (λ id. IsIn id (all_ended u)) (ahead (bytes_eq client) (all_ended t))
+  first t client ids is = (
+    subst (λ (xs : List (List ℕ)). IsIn client xs) (sym is) (inl refl),
+    subst (λ (xs : List (List ℕ)). AllByRecursion (λ id. IsIn id (all_ended u)) (ahead (bytes_eq client) xs)) (sym is) (none_ahead client ids),
+  )
+
+pub tick_done : (n : ℕ) (s : CoreState) (now : Moment) → all_done n s (tick_deeds n s now) ≡ (tick s now).1
+unfolding tick
+tick_done n s now =
+    let t = advanced s now in
+    done_append n t (lapses n t) (expiries n (all_done n t (lapses n t)))
+    ∙ expiries_done n (all_done n t (lapses n t))
+    ∙ ap (λ (u : CoreState). (expire_all u).1) (lapses_done n t)
+
+pub tick_tells : (n : ℕ) (s : CoreState) (now : Moment) → all_told_of n s (tick_deeds n s now) ≡ (tick s now).0
+unfolding tick
+tick_tells n s now =
+    let t = advanced s now in
+    let u = all_done n t (lapses n t) in
+    told_append n t (lapses n t) (expiries n u)
+    ∙ ap (λ (told : List Effect). told ++ all_told_of n u (expiries n u)) (lapses_tell n t)
+    ∙ ap (λ (told : List Effect). (lapse_all t).0 ++ told) (expiries_tell n u ∙ ap (λ (v : CoreState). (expire_all v).0) (lapses_done n t))
+
+pub tick_fits : (n : ℕ) (s : CoreState) (now : Moment) → AreFit n s (tick_deeds n s now)
+tick_fits n s now =
+    let t = advanced s now in
+    let u = all_done n t (lapses n t) in (tt, fit_append n t (lapses n t) (expiries n u) (lapses_fit n t) (expiries_so n u u).0)
+
+turn_append : (n : ℕ) (s u : CoreState) (ds es : List Deed) → AreInTurn n s ds u → AreInTurn n (all_done n s ds) es u → AreInTurn n s (ds ++ es) u
+turn_append n s u [] es first more = more
+turn_append n s u (d ∷ ds) es first more = (first.0, turn_append n (done n s d) u ds es first.1 more)
+
+-- whatever the state is at the end
+pub tick_in_turn : (n : ℕ) (s u : CoreState) (now : Moment) → IsGood s → AreInTurn n s (tick_deeds n s now) u
+tick_in_turn n s u now good =
+    let t = advanced s now in
+    let v = all_done n t (lapses n t) in (tt, turn_append n t u (lapses n t) (expiries n v) (lapses_in_turn n t u (advanced_good s now good)) (expiries_so n v u).1)

@@ -18,9 +18,8 @@ use Rattle.xl_wait.specs.Waiting.{first_file, is_file, files_of, waits_on, place
 use Rattle.xl_wait.specs.declared.waiter.Waiter.{Waiter}
 use Rattle.xl_core.specs.State.{CoreState}
 use Rattle.xl_core.specs.Good.{IsGood, IsWaiter, IsPled, is_held_up, holds_up}
-use Rattle.xl_core.specs.BreakAnswers.{ack, first_due}
-use Rattle.xl_core.specs.Leases.{first_ended}
-use Rattle.xl_core.specs.Ticks.{advanced, behind_told, expire, expired_then, expired_for, lapse, lapsed_then, lapsed_for}
+use Rattle.xl_core.specs.BreakAnswers.{ack}
+use Rattle.xl_core.specs.Ticks.{advanced, behind_told, in_turn}
 use Rattle.xl_core.specs.Settle.{first_called, waits_with, give_back, weaken, departed}
 use Rattle.xl_core.specs.Unsettled.{is_among, only_file, with_file, may_change, left_by_ask, first_free, called_at, IsWider, Notes, NotesLeft, IsHeldUp, AreHeldUp}
 use Rattle.xl_core.specs.declared.ask.Answer.{Answer}
@@ -299,22 +298,15 @@ called_on s file place called good all at is =
 
 -- ---- what a reading of the clock tells
 
-pub expired_told : (most : ℕ) (s t : CoreState) (client : List ℕ) (told old mid new : List Effect) → 0 < most → first_ended s.clock s.leases ≡ Some client → expire s client ≡ (told, t) → mid ≡ old ++ told → new ≡ mid ++ (expired_for (most - 1) t).0 → new ≡ old ++ (expired_for most s).0
-expired_told zero s t client told old mid new some ended went first behind = absurd (omega (arith, some))
-expired_told (suc fuel) s t client told old mid new some ended went first behind =
-    let one_less : suc fuel - 1 ≡ fuel = omega arith in
-    behind
-    ∙ (λ i. first i ++ (expired_for (one_less i) t).0)
-    ∙ append_assoc old told (expired_for fuel t).0
-    ∙ ap (λ (r : List Effect × CoreState). old ++ (behind_told r.0 (expired_for fuel r.1)).0) (sym went)
-    ∙ ap (λ (o : Option (List ℕ)). old ++ (expired_then (expired_for fuel) s o).0) (sym ended)
+-- what is done is told behind what was told before
+pub told_more : {A : Type 0} (is_left : CoreState → A → Bool) (does : CoreState → A → List Effect × CoreState) (s t : CoreState) (x : A) (xs : List A) (old told new : List Effect) → is_left s x ≡ true → does s x ≡ (told, t) → new ≡ old ++ told
+    → behind_told old (in_turn is_left does (x ∷ xs) s) ≡ behind_told new (in_turn is_left does xs t)
+told_more is_left does s t x xs old told new there went is =
+    ap (λ (b : Bool). behind_told old (if b then behind_told (does s x).0 (in_turn is_left does xs (does s x).1) else in_turn is_left does xs s)) there
+    ∙ ap (λ (r : List Effect × CoreState). behind_told old (behind_told r.0 (in_turn is_left does xs r.1))) went
+    ∙ ap (λ (told_so : List Effect). (told_so, (in_turn is_left does xs t).1)) (sym (append_assoc old told (in_turn is_left does xs t).0))
+    ∙ ap (λ (told_so : List Effect). behind_told told_so (in_turn is_left does xs t)) (sym is)
 
-pub lapsed_told : (most : ℕ) (s t : CoreState) (cache : Claim) (told old mid new : List Effect) → 0 < most → first_due s ≡ Some cache → lapse s cache ≡ (told, t) → mid ≡ old ++ told → new ≡ mid ++ (lapsed_for (most - 1) t).0 → new ≡ old ++ (lapsed_for most s).0
-lapsed_told zero s t cache told old mid new some due went first behind = absurd (omega (arith, some))
-lapsed_told (suc fuel) s t cache told old mid new some due went first behind =
-    let one_less : suc fuel - 1 ≡ fuel = omega arith in
-    behind
-    ∙ (λ i. first i ++ (lapsed_for (one_less i) t).0)
-    ∙ append_assoc old told (lapsed_for fuel t).0
-    ∙ ap (λ (r : List Effect × CoreState). old ++ (behind_told r.0 (lapsed_for fuel r.1)).0) (sym went)
-    ∙ ap (λ (o : Option Claim). old ++ (lapsed_then (lapsed_for fuel) s o).0) (sym due)
+pub told_no_more : {A : Type 0} (is_left : CoreState → A → Bool) (does : CoreState → A → List Effect × CoreState) (s : CoreState) (x : A) (xs : List A) (old : List Effect) → is_left s x ≡ false
+    → behind_told old (in_turn is_left does (x ∷ xs) s) ≡ behind_told old (in_turn is_left does xs s)
+told_no_more is_left does s x xs old gone = ap (λ (b : Bool). behind_told old (if b then behind_told (does s x).0 (in_turn is_left does xs (does s x).1) else in_turn is_left does xs s)) gone

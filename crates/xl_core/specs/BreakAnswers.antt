@@ -1,8 +1,7 @@
--- What the answer to a break leaves of a cache, and whose answer is due first.
-use Rattle.std.specs.Prelude.{ℕ, Bool, false, ◌==◌, nat_lt, if◌then◌else◌, List, [], ◌∷◌, Option, Some, None}
+-- What the answer to a break leaves of a cache, and whose answers are due.
+use Rattle.std.specs.Prelude.{ℕ, Bool, false, List, [], ◌∷◌, Option, Some, None}
 use Rattle.std.specs.List.{filter, slice_get}
-use Rattle.std.specs.Cmp.Lexicographic.{slice_cmp}
-use Rattle.std.specs.Ordering.{nat_cmp, is_lt}
+use Rattle.xl_base.specs.Lists.{sorted}
 use Rattle.xl_base.specs.declared.name.Party.{Party}
 use Rattle.xl_base.specs.declared.name.Party.TheVariants as parties
 use Rattle.xl_base.specs.declared.name.Protocol.TheVariants.{Nfs}
@@ -16,7 +15,9 @@ use Rattle.xl_names.specs.declared.name.Name.{Name}
 use Rattle.xl_names.specs.declared.name.Name.TheVariants.{NfsParty}
 use Rattle.xl_table.specs.Flat.{removed, changed, is_due}
 use Rattle.xl_core.specs.State.{CoreState}
+use Rattle.xl_core.specs.Leases.{comes_before}
 use Rattle.xl_core.specs.declared.ask.Effect.{Effect}
+use Rattle.xl_core.specs.declared.due.DueRow.{DueRow}
 
 -- ---- an answer
 
@@ -41,27 +42,24 @@ abbrev pub deadline_of : What → ℕ
 deadline_of (Cache kind (Some running)) = running.deadline.0
 deadline_of _ = 0
 
--- by two numbers, then by text
-abbrev pub before_by : ℕ × ℕ → ℕ × ℕ → Bool → Bool
-before_by a b text = if a.0 == b.0 then (if a.1 == b.1 then text else nat_lt a.1 b.1) else nat_lt a.0 b.0
+-- a cache with the text of its party, by which it stands in order
+abbrev pub due_row : List Name → Claim → DueRow
+due_row names c = record { text = party_text names c.party; cache = c }
 
--- the first is due before the second: by the deadline, then the file, then the text of the party (CACHE-5)
+-- by the deadline, then the file, then the text of the party (CACHE-5)
+abbrev pub due_key : DueRow → List ℕ
+due_key row = deadline_of row.cache.what ∷ row.cache.file ∷ row.text
+
+abbrev pub row_due_before : DueRow → DueRow → Bool
+row_due_before a b = comes_before (due_key a) (due_key b)
+
+-- the first is due before the second
 abbrev pub due_before : List Name → Claim → Claim → Bool
-due_before names a b =
-    before_by (deadline_of a.what, a.file) (deadline_of b.what, b.file) (is_lt (slice_cmp nat_cmp (party_text names a.party) (party_text names b.party)))
+due_before names a b = row_due_before (due_row names a) (due_row names b)
 
--- the earlier of the first so far and one more
-abbrev pub earlier_due : List Name → Option Claim → Claim → Option Claim
-earlier_due names None c = Some c
-earlier_due names (Some first) c = if due_before names c first then Some c else Some first
-
-abbrev pub earliest_from : List Name → Option Claim → List Claim → Option Claim
-earliest_from names first [] = first
-earliest_from names first (c ∷ cs) = earliest_from names (earlier_due names first c) cs
-
--- of the caches whose deadline has come the one that is due first (TABLE-21)
-unfoldable pub first_due : CoreState → Option Claim
-first_due s = earliest_from s.names None (filter (is_due s.clock) s.claims)
+-- the caches whose deadline has come, in the order in which they are due (TABLE-21)
+unfoldable pub due : CoreState → List Claim
+due s = sorted (due_before s.names) (filter (is_due s.clock) s.claims)
 
 -- ---- whose delegation it is
 

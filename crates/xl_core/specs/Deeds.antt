@@ -1,5 +1,5 @@
 -- What is done to the core: its calls as values, what each gives, and who waits after them.
-use Rattle.std.specs.Prelude.{◌≡◌, ◌==◌, if◌then◌else◌, ℕ, zero, suc, Bool, true, false, not, ◌||◌, length, List, [], ◌∷◌, ◌++◌, Option, Some, None}
+use Rattle.std.specs.Prelude.{◌≡◌, ◌==◌, if◌then◌else◌, ℕ, Bool, true, false, not, ◌||◌, List, [], ◌∷◌, ◌++◌, Option, Some, None}
 use Rattle.std.specs.List.{filter, slice_get}
 use Rattle.xl_base.specs.Lists.{IsIn}
 use Rattle.xl_base.specs.declared.event.Moment.{Moment}
@@ -21,11 +21,11 @@ use Rattle.xl_core.specs.Wishes.{caches_wished}
 use Rattle.xl_table.specs.Flat.{removed}
 use Rattle.xl_table.specs.Held.{is_range}
 use Rattle.xl_table.specs.Leaving.{is_of_some}
-use Rattle.xl_core.specs.BreakAnswers.{may_be_left, with_rest, ack, first_due, client_of}
-use Rattle.xl_core.specs.Leases.{first_ended}
+use Rattle.xl_core.specs.BreakAnswers.{may_be_left, with_rest, ack, due, client_of}
+use Rattle.xl_core.specs.Leases.{ended}
 use Rattle.xl_core.specs.Good.{caches_of}
 use Rattle.xl_core.specs.Settle.{next_way, settle, waits_for, waits_as, cancel, give_back, share_has, weaken, end_party, close_open}
-use Rattle.xl_core.specs.Ticks.{advanced, renew, expire, lapse, lapsed_for}
+use Rattle.xl_core.specs.Ticks.{advanced, renew, expire, lapse, is_still_held, is_lease_over}
 use Rattle.xl_core.specs.declared.ask.Answer.{Answer}
 use Rattle.xl_core.specs.declared.ask.Answer.TheVariants.{Queued}
 use Rattle.xl_core.specs.declared.ask.Ask.{Ask}
@@ -109,17 +109,16 @@ answers_of n s (d ∷ ds) = with_answer (given n s d).0 (answers_of n (done n s 
 -- ---- which deeds the core takes
 
 -- an ask that is fit; a share or a cache that is held, given back; a share that is held, which comes to have no more than it
--- has; a cache that is held and whose break runs, of which no more is left than the break leaves; a waiter who stands; of the
--- caches whose deadline has come the one that is due first; and of the clients whose lease has ended the one whose id string
--- stands first. Ranges are unlocked by an ask (CORE-7).
+-- has; a cache that is held and whose break runs, of which no more is left than the break leaves; a waiter who stands; a cache
+-- whose deadline has come; and a client whose lease has ended. Ranges are unlocked by an ask (CORE-7).
 abbrev pub IsFitDeed : CoreState → Deed → Type 0
 IsFitDeed s (Asks left a) = IsFit a
 IsFitDeed s (GivesBack claim) = IsIn claim s.claims × (is_range claim.what ≡ false)
 IsFitDeed s (Weakens share access deny) = IsIn share s.claims × (share_has share.what access deny ≡ true)
 IsFitDeed s (Acks cache to) = IsIn cache s.claims × (may_be_left cache.what to ≡ true)
 IsFitDeed s (Cancels id) = is_waiting id s.waiters ≡ true
-IsFitDeed s (Lapses cache) = first_due s ≡ Some cache
-IsFitDeed s (Expires client) = first_ended s.clock s.leases ≡ Some client
+IsFitDeed s (Lapses cache) = IsIn cache (due s)
+IsFitDeed s (Expires client) = IsIn client (ended s.clock s.leases)
 IsFitDeed s _ = Unit {0}
 
 abbrev pub AreFit : ℕ → CoreState → List Deed → Type 0
@@ -167,31 +166,23 @@ queue_after n s (d ∷ ds) waiters = queue_after n (done n s d) ds (waits_after 
 
 -- ---- a tick
 
-abbrev pub expiry_then : (CoreState → List Deed) → CoreState → Option (List ℕ) → List Deed
-expiry_then rest s None = []
-expiry_then rest s (Some client) = Expires client ∷ rest (expire s client).1
+-- each of these that is still to be done once its turn has come, as a deed
+abbrev pub deeds_in_turn : {A : Type 0} → (CoreState → A → Bool) → (A → Deed) → ℕ → List A → CoreState → List Deed
+deeds_in_turn is_left does n [] s = []
+deeds_in_turn is_left does n (x ∷ xs) s = if is_left s x then does x ∷ deeds_in_turn is_left does n xs (done n s (does x)) else deeds_in_turn is_left does n xs s
 
--- so many expiries at most, each of the first of those whose lease has ended
-abbrev pub expiries : ℕ → CoreState → List Deed
-expiries zero s = []
-expiries (suc fuel) s = expiry_then (expiries fuel) s (first_ended s.clock s.leases)
-
-abbrev pub lapse_then : (CoreState → List Deed) → CoreState → Option Claim → List Deed
-lapse_then rest s None = []
-lapse_then rest s (Some cache) = Lapses cache ∷ rest (lapse s cache).1
-
--- so many breaks over at most, each the one that is due first
+-- the breaks whose deadline has come, in the order in which they are due
 abbrev pub lapses : ℕ → CoreState → List Deed
-lapses zero s = []
-lapses (suc fuel) s = lapse_then (lapses fuel) s (first_due s)
+lapses n s = deeds_in_turn is_still_held Lapses n (due s) s
 
-abbrev pub expiries_of : CoreState → List Deed
-expiries_of s = expiries (length s.leases) s
+-- the clients whose lease has ended, in the order of their id strings
+abbrev pub expiries : ℕ → CoreState → List Deed
+expiries n s = deeds_in_turn is_lease_over Expires n (ended s.clock s.leases) s
 
 -- what a reading of the clock does: it rises, each break is over whose deadline has come, and each client whose lease has
 -- ended expires
-abbrev pub tick_deeds : CoreState → Moment → List Deed
-tick_deeds s now = Advances now ∷ (lapses (length s.claims) (advanced s now) ++ expiries_of (lapsed_for (length s.claims) (advanced s now)).1)
+abbrev pub tick_deeds : ℕ → CoreState → Moment → List Deed
+tick_deeds n s now = let t = advanced s now in Advances now ∷ (lapses n t ++ expiries n (all_done n t (lapses n t)))
 
 -- ---- caches
 

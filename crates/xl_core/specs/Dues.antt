@@ -1,5 +1,8 @@
 -- What is due to a deed: the answer that its cause gives, and what nothing stands against.
-use Rattle.std.specs.Prelude.{◌≡◌, ℕ, Bool, true, false, List, [], ◌∷◌, length, map, Option, Some, None, IfSome}
+use Rattle.std.specs.Prelude.{◌≡◌, ℕ, Bool, true, false, bytes_eq, if◌then◌else◌, List, [], ◌∷◌, length, map, Option, Some, None, IfSome}
+use Rattle.std.specs.List.{AllByRecursion}
+use Rattle.xl_base.specs.Lists.{IsIn}
+use Rattle.xl_matrix.specs.Equal.{same_claims}
 use Rattle.xl_matrix.specs.Owners.{posix}
 use Rattle.xl_matrix.specs.declared.claim.Claim.{Claim}
 use Rattle.xl_matrix.specs.declared.claim.Extent.{Extent}
@@ -11,9 +14,9 @@ use Rattle.xl_core.specs.Askers.{range_what, both_entered, asked_what, asked_cla
 use Rattle.xl_core.specs.Limits.{IsRoom}
 use Rattle.xl_core.specs.Causes.{limits_of_grant, IsClaimDue, IsWishDue, IsTestDue, IsUnlockDue, IsElementDue, IsEachDue, IsTurn}
 use Rattle.xl_core.specs.Decide.{way, ask}
-use Rattle.xl_core.specs.BreakAnswers.{first_due}
+use Rattle.xl_core.specs.BreakAnswers.{due}
 use Rattle.xl_core.specs.Deeds.{Deed, Asks, Serves, Lapses, Expires, done}
-use Rattle.xl_core.specs.Leases.{first_ended}
+use Rattle.xl_core.specs.Leases.{ended}
 use Rattle.xl_table.specs.Flat.{is_blocked}
 use Rattle.xl_core.specs.Good.{IsSettled}
 use Rattle.xl_core.specs.Settle.{settle}
@@ -63,16 +66,34 @@ pub record IsTurnOwed (n : ℕ) (left : Rooms) (s : CoreState) : Type 0 where
   pub none : settle n left s ≡ None → IsSettled s
   pub first : IfSome (settle n left s) (λ r. IsTurn left s r.0 r.1)
 
--- what is due to a deed: an ask its answer, a turn to who may have it; of the breaks whose deadline has come the one that is
--- due first is over; and of those whose lease has ended the first by id string expires
+-- what is due to a deed: an ask its answer, a turn to who may have it; a break is over whose deadline has come, and a client
+-- expires whose lease has ended
 abbrev pub IsDue : ℕ → CoreState → Deed → Type 0
 IsDue n s (Asks left a) = IsAnswerDue left (way left s a).1 a a.act (ask n left s a).0
 IsDue n s (Serves left) = IsTurnOwed n left s
-IsDue n s (Lapses cache) = first_due s ≡ Some cache
-IsDue n s (Expires client) = first_ended s.clock s.leases ≡ Some client
+IsDue n s (Lapses cache) = IsIn cache (due s)
+IsDue n s (Expires client) = IsIn client (ended s.clock s.leases)
 IsDue n s _ = Unit {0}
 
 -- each of these deeds, in the state that those before it left
 abbrev pub AreDue : ℕ → CoreState → List Deed → Type 0
 AreDue n s [] = Unit {0}
 AreDue n s (d ∷ ds) = IsDue n s d × AreDue n (done n s d) ds
+
+-- ---- in their order
+
+-- those that stand ahead of the first that passes the test
+abbrev pub ahead : {A : Type 0} → (A → Bool) → List A → List A
+ahead test [] = []
+ahead test (x ∷ xs) = if test x then [] else x ∷ ahead test xs
+
+-- whatever is due or has ended ahead of what a deed takes stands so at the end as well: nothing is passed over whose turn is to come
+abbrev pub IsInTurn : CoreState → CoreState → Deed → Type 0
+IsInTurn s t (Lapses cache) = AllByRecursion (λ c. IsIn c (due t)) (ahead (same_claims cache) (due s))
+IsInTurn s t (Expires client) = AllByRecursion (λ id. IsIn id (ended t.clock t.leases)) (ahead (bytes_eq client) (ended s.clock s.leases))
+IsInTurn s t _ = Unit {0}
+
+-- each of these deeds, in the state that those before it left
+abbrev pub AreInTurn : ℕ → CoreState → List Deed → CoreState → Type 0
+AreInTurn n s [] t = Unit {0}
+AreInTurn n s (d ∷ ds) t = IsInTurn s t d × AreInTurn n (done n s d) ds t

@@ -1,7 +1,9 @@
 -- Leases of NFSv4 clients: what a client has is kept until its lease ends, which it renews (RFC 7530 9.5).
-use Rattle.std.specs.Prelude.{ℕ, ◌+◌, ◌-◌, ◌^◌, Bool, nat_le, nat_lt, min, bytes_eq, if◌then◌else◌, List, [], ◌∷◌, Option, Some, None}
+use Rattle.std.specs.Prelude.{ℕ, ◌+◌, ◌-◌, ◌^◌, Bool, not, ◌&&◌, nat_le, nat_lt, min, bytes_eq, if◌then◌else◌, List, [], ◌∷◌, ◌++◌, map}
+use Rattle.std.specs.List.{filter, list_any}
 use Rattle.std.specs.Cmp.Lexicographic.{slice_cmp}
 use Rattle.std.specs.Ordering.{nat_cmp, is_lt}
+use Rattle.xl_base.specs.Lists.{sorted}
 use Rattle.xl_base.specs.declared.event.Moment.{Moment}
 
 -- a client's id string, and the moment at which its lease ends
@@ -23,31 +25,24 @@ with_lease client until (l ∷ ls) = if bytes_eq client l.0 then (l.0, until) �
 
 -- the leases without the client's
 unfoldable pub without_lease : List ℕ → List Lease → List Lease
-without_lease client [] = []
-without_lease client (l ∷ ls) = if bytes_eq client l.0 then ls else l ∷ without_lease client ls
+without_lease client leases = filter (λ l. not (bytes_eq client l.0)) leases
 
 -- the lease ends at this moment, or ended before (HOUSE-7)
 abbrev pub has_ended : Moment → Lease → Bool
 has_ended now l = nat_le l.1.0 now.0
 
+-- these id strings with the client's behind them, where its lease has ended
+abbrev pub with_ended : Moment → Lease → List (List ℕ) → List (List ℕ)
+with_ended now l ids = if has_ended now l then ids ++ l.0 ∷ [] else ids
+
 -- the first id string stands before the second, by bytes
 abbrev pub comes_before : List ℕ → List ℕ → Bool
 comes_before a b = is_lt (slice_cmp nat_cmp a b)
 
--- of two clients the one whose id string stands first
-abbrev pub first_of : Option (List ℕ) → List ℕ → Option (List ℕ)
-first_of None client = Some client
-first_of (Some other) client = if comes_before client other then Some client else Some other
+-- the clients whose lease has ended, by their id strings and in the order of these (HOUSE-8)
+unfoldable pub ended : Moment → List Lease → List (List ℕ)
+ended now leases = sorted comes_before (map (λ l. l.0) (filter (has_ended now) leases))
 
--- the same with a lease more, where there is one
-abbrev pub first_with : Moment → Option (List ℕ) → Option Lease → Option (List ℕ)
-first_with now first None = first
-first_with now first (Some l) = if has_ended now l then first_of first l.0 else first
-
-abbrev pub first_among : Moment → Option (List ℕ) → List Lease → Option (List ℕ)
-first_among now first [] = first
-first_among now first (l ∷ ls) = first_among now (first_with now first (Some l)) ls
-
--- of the clients whose lease has ended the one whose id string stands first (HOUSE-8)
-unfoldable pub first_ended : Moment → List Lease → Option (List ℕ)
-first_ended now leases = first_among now None leases
+-- the client is one of them
+unfoldable pub is_ended : Moment → List Lease → List ℕ → Bool
+is_ended now leases client = list_any (λ l. has_ended now l && bytes_eq client l.0) leases

@@ -1,15 +1,16 @@
 -- What the clock does: it rises, breaks that nobody answered are over, leases are renewed by it, and clients whose lease
 -- has ended expire (MS-SMB2 3.3.6.1, RFC 7530 9.5).
-use Rattle.std.specs.Prelude.{ℕ, zero, suc, List, [], ◌∷◌, ◌++◌, length, Option, Some, None}
+use Rattle.std.specs.Prelude.{ℕ, Bool, if◌then◌else◌, List, [], ◌∷◌, ◌++◌, Option, Some, None}
 use Rattle.xl_base.specs.declared.event.Moment.{Moment}
 use Rattle.xl_base.specs.declared.name.Party.{Party}
 use Rattle.xl_matrix.specs.declared.claim.Claim.{Claim}
 use Rattle.xl_names.specs.declared.name.Name.TheVariants.{NfsParty}
+use Rattle.xl_table.specs.Elements.{is_held}
 use Rattle.xl_table.specs.Flat.{removed}
 use Rattle.xl_core.specs.State.{CoreState}
 use Rattle.xl_core.specs.Askers.{party_named}
-use Rattle.xl_core.specs.BreakAnswers.{first_due, client_of}
-use Rattle.xl_core.specs.Leases.{moment_after, later, with_lease, without_lease, first_ended}
+use Rattle.xl_core.specs.BreakAnswers.{due, client_of}
+use Rattle.xl_core.specs.Leases.{moment_after, later, with_lease, without_lease, ended, is_ended}
 use Rattle.xl_core.specs.Settle.{end_party}
 use Rattle.xl_core.specs.declared.ask.Effect.{Effect}
 use Rattle.xl_core.specs.declared.ask.Effect.TheVariants.{Expired}
@@ -39,14 +40,10 @@ expire s client = unleased client (end_some s (party_named s.names (NfsParty cli
 abbrev pub behind_told : List Effect → List Effect × CoreState → List Effect × CoreState
 behind_told told r = (told ++ r.0, r.1)
 
-abbrev pub expired_then : (CoreState → List Effect × CoreState) → CoreState → Option (List ℕ) → List Effect × CoreState
-expired_then rest s None = ([], s)
-expired_then rest s (Some client) = behind_told (expire s client).0 (rest (expire s client).1)
-
--- of the clients whose lease has ended so many expire at most, by their id strings
-abbrev pub expired_for : ℕ → CoreState → List Effect × CoreState
-expired_for zero s = ([], s)
-expired_for (suc fuel) s = expired_then (expired_for fuel) s (first_ended s.clock s.leases)
+-- each of these is done, one after another, that is still to be done once its turn has come
+abbrev pub in_turn : {A : Type 0} → (CoreState → A → Bool) → (CoreState → A → List Effect × CoreState) → List A → CoreState → List Effect × CoreState
+in_turn is_left does [] s = ([], s)
+in_turn is_left does (x ∷ xs) s = if is_left s x then behind_told (does s x).0 (in_turn is_left does xs (does s x).1) else in_turn is_left does xs s
 
 -- what comes of a cache whose deadline has passed, by whose delegation it is (CACHE-5)
 abbrev pub lapsed_by : CoreState → Claim → Option (List ℕ) → List Effect × CoreState
@@ -58,20 +55,23 @@ lapsed_by s cache (Some client) = expire s client
 unfoldable pub lapse : CoreState → Claim → List Effect × CoreState
 lapse s cache = lapsed_by s cache (client_of s.names cache.party)
 
-abbrev pub lapsed_then : (CoreState → List Effect × CoreState) → CoreState → Option Claim → List Effect × CoreState
-lapsed_then rest s None = ([], s)
-lapsed_then rest s (Some cache) = behind_told (lapse s cache).0 (rest (lapse s cache).1)
+-- the cache is still held, and not gone with its client
+abbrev pub is_still_held : CoreState → Claim → Bool
+is_still_held s cache = is_held cache s.claims
 
--- of the breaks whose deadline has come so many are over at most, the one that is due first before the others
-abbrev pub lapsed_for : ℕ → CoreState → List Effect × CoreState
-lapsed_for zero s = ([], s)
-lapsed_for (suc fuel) s = lapsed_then (lapsed_for fuel) s (first_due s)
+-- the client's lease has ended, and wasn't taken out yet
+abbrev pub is_lease_over : CoreState → List ℕ → Bool
+is_lease_over s client = is_ended s.clock s.leases client
+
+-- the breaks are over whose deadline has come, in the order in which they are due
+unfoldable pub lapse_all : CoreState → List Effect × CoreState
+lapse_all s = in_turn is_still_held lapse (due s) s
 
 -- each client whose lease has ended expires, in the order of their id strings
 unfoldable pub expire_all : CoreState → List Effect × CoreState
-expire_all s = expired_for (length s.leases) s
+expire_all s = in_turn is_lease_over expire (ended s.clock s.leases) s
 
 -- The clock reads this moment, where that is later; then each break is over whose deadline has come; then each client
 -- expires whose lease has ended (CACHE-5).
 unfoldable pub tick : CoreState → Moment → List Effect × CoreState
-tick s now = let r = lapsed_for (length s.claims) (advanced s now) in behind_told r.0 (expire_all r.1)
+tick s now = let r = lapse_all (advanced s now) in behind_told r.0 (expire_all r.1)

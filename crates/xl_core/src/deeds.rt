@@ -15,11 +15,11 @@ ghost use Rattle.xl_core.specs.declared.ask.Effect.{Effect};
 ghost use Rattle.xl_core.specs.declared.ask.Act.{Act};
 ghost use Rattle.xl_core.specs.declared.ask.Ask.{Ask};
 ghost use Rattle.xl_core.specs.declared.lease.Times.{Times};
-ghost use Rattle.xl_core.specs.Leases.{first_ended};
-ghost use Rattle.xl_core.specs.BreakAnswers.{first_due};
+ghost use Rattle.xl_core.specs.Leases.{ended};
+ghost use Rattle.xl_core.specs.BreakAnswers.{due};
 ghost use Rattle.xl_core.specs.Ticks.{tick};
 ghost use Rattle.xl_core.specs.Deeds.{Deed, Asks, all_done, all_told_of, tick_deeds, AreFit, queue_after, all_caches_after, any_ends_break, KeepNames};
-ghost use Rattle.xl_core.specs.Dues.{AreDue};
+ghost use Rattle.xl_core.specs.Dues.{AreDue, AreInTurn};
 ghost use Rattle.xl_core.specs.Good.{IsGood, caches_of};
 ghost use Rattle.xl_core.specs.Places.{IsChangedBy};
 ghost use Rattle.xl_core.specs.Rows.{Ran, all_ran, all_deeds};
@@ -43,15 +43,17 @@ pub fn deeds_are_all_that_changes()
 {}
 
 /// A reading of the clock leaves what its deeds leave, and tells what they tell: the clock rises, then one break after
-/// another is over whose deadline has come, each the one that is due first, and then one client after another expires, each
-/// the first by id string of those whose lease has ended then. No such break or lease is left.
-#[tactic(auto, using(crate::proofs::TickLaws::tick_done, crate::proofs::TickLaws::tick_tells, crate::proofs::TickLaws::tick_fits, crate::proofs::TickLaws::none_ended, crate::proofs::DueLaws::none_due))]
+/// another is over whose deadline has come, in the order in which they are due, and then one client after another expires
+/// whose lease has ended then, in the order of their id strings: whatever stands ahead of one in these orders and isn't taken
+/// before it is left at the end as well. But no such break or lease is left.
+#[tactic(auto, using(crate::proofs::TickLaws::tick_done, crate::proofs::TickLaws::tick_tells, crate::proofs::TickLaws::tick_fits, crate::proofs::TickLaws::tick_in_turn, crate::proofs::TickLaws::none_ended, crate::proofs::DueLaws::none_due))]
 pub fn ticks_are_their_deeds()
-    ensures done { (n : ℕ) (s : CoreState) (now : Moment) → all_done n s (tick_deeds s now) ≡ (tick s now).1 }
-    ensures told { (n : ℕ) (s : CoreState) (now : Moment) → all_told_of n s (tick_deeds s now) ≡ (tick s now).0 }
-    ensures fit { (n : ℕ) (s : CoreState) (now : Moment) → AreFit n s (tick_deeds s now) }
-    ensures undue { (s : CoreState) (now : Moment) → IsGood s → first_due (tick s now).1 ≡ None }
-    ensures none { (s : CoreState) (now : Moment) → first_ended (tick s now).1.clock (tick s now).1.leases ≡ None }
+    ensures done { (n : ℕ) (s : CoreState) (now : Moment) → all_done n s (tick_deeds n s now) ≡ (tick s now).1 }
+    ensures told { (n : ℕ) (s : CoreState) (now : Moment) → all_told_of n s (tick_deeds n s now) ≡ (tick s now).0 }
+    ensures fit { (n : ℕ) (s : CoreState) (now : Moment) → AreFit n s (tick_deeds n s now) }
+    ensures turns { (n : ℕ) (s : CoreState) (now : Moment) → IsGood s → AreInTurn n s (tick_deeds n s now) (tick s now).1 }
+    ensures undue { (s : CoreState) (now : Moment) → IsGood s → due (tick s now).1 ≡ [] }
+    ensures none { (s : CoreState) (now : Moment) → ended (tick s now).1.clock (tick s now).1.leases ≡ [] }
 {}
 
 /// A break is over at its deadline, not before: a batch oplock whose answer is due at moment 7 stands as it is when the clock

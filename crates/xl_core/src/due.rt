@@ -1,16 +1,24 @@
-//! Whose answer to a break is due.
-ghost use Rattle.std.specs.Prelude.{◌≡◌, None, IfOk};
-ghost use Rattle.std.specs.Ordering.{nat_cmp, is_lt};
+//! Whose answers to breaks are due.
+ghost use Rattle.std.specs.Prelude.{◌≡◌, map, IfOk};
+ghost use Rattle.std.specs.Ordering.{nat_cmp};
 ghost use Rattle.std.specs.Cmp.Lexicographic.{slice_cmp};
-ghost use Rattle.xl_names.specs.Texts.{party_text};
-ghost use Rattle.xl_core.specs.BreakAnswers.{deadline_of, due_before, earlier_due, earliest_from, first_due};
+ghost use Rattle.xl_base.specs.Lists.{sorted};
+ghost use Rattle.xl_core.specs.BreakAnswers.{deadline_of, due_row, due_key, row_due_before, due};
 ghost use Rattle.xl_core.specs.Whole.{state_of};
 
 use crate::parts::Parts;
 use std::alloc::{AllocError, Global};
-use xl_base::Party;
+use std::cmp::Ordering;
+use xl_base::Sequence;
 use xl_matrix::{Claim, What};
 use xl_names::{Names, party_text};
+
+/// A cache with the text of its party, by which it stands in order.
+#[derive(Drop)]
+pub(crate) struct DueRow {
+    pub text: Sequence<u8>,
+    pub cache: Claim,
+}
 
 fn deadline_of(what: What) -> u64
     ensures { result ≡ deadline_of what }
@@ -21,63 +29,50 @@ fn deadline_of(what: What) -> u64
     }
 }
 
-/// Whether the first party's text comes before the second's.
-fn text_before(alloc: Global, names: &Names, a: Party, b: Party) -> Result<bool, AllocError>
-    ensures { IfOk result (λ before. before ≡ is_lt (slice_cmp nat_cmp (party_text names.now a) (party_text names.now b))) }
+fn due_row(alloc: Global, names: &Names, cache: &Claim) -> Result<DueRow, AllocError>
+    ensures { IfOk result (λ r. r ≡ due_row names.now cache.now) }
 {
-    let first = party_text(alloc, names, a)?;
-    let second = party_text(alloc, names, b)?;
-    Ok(first.as_bytes().cmp(second.as_bytes()).is_lt())
+    let text = party_text(alloc, names, cache.party)?;
+    Ok(DueRow {
+        text: Sequence::from_vec(text.into_bytes()),
+        cache: *cache,
+    })
 }
 
-/// Whether the first cache is due before the second: by the deadline, then the file, then the text of the party.
-fn due_before(alloc: Global, names: &Names, a: &Claim, b: &Claim) -> Result<bool, AllocError>
-    ensures { IfOk result (λ before. before ≡ due_before names.now a.now b.now) }
+fn due_rows(alloc: Global, names: &Names, caches: &[Claim]) -> Result<Vec<DueRow>, AllocError>
+    ensures { IfOk result (λ v. v.items ≡ map (due_row names.now) caches.now) }
 {
-    let first = deadline_of(a.what);
-    let second = deadline_of(b.what);
-    if first != second {
-        return Ok(first < second);
+    let mut rows = Vec::new(alloc);
+    for cache in caches {
+        rows.push(due_row(alloc, names, cache)?)?;
     }
-    if a.file != b.file {
-        return Ok(a.file < b.file);
-    }
-    text_before(alloc, names, a.party, b.party)
+    Ok(rows)
 }
 
-/// The earlier of the first so far and one more.
-fn earlier_due(
-    alloc: Global,
-    names: &Names,
-    first: Option<Claim>,
-    claim: &Claim,
-) -> Result<Option<Claim>, AllocError>
-    ensures { IfOk result (λ c. c ≡ earlier_due names.now first claim.now) }
+/// Which of two caches is due first: by the deadline, then the file, then the text of the party.
+fn due_order(a: &DueRow, b: &DueRow) -> Ordering
+    ensures { result ≡ slice_cmp nat_cmp (due_key a.now) (due_key b.now) }
 {
-    if let Some(before) = first {
-        if !due_before(alloc, names, claim, &before)? {
-            return Ok(first);
-        }
-    }
-    Ok(Some(*claim))
+    let deadlines = deadline_of(a.cache.what).cmp(&deadline_of(b.cache.what));
+    let files = a.cache.file.cmp(&b.cache.file);
+    let texts = a.text.as_slice().cmp(b.text.as_slice());
+    deadlines.then(files.then(texts))
 }
 
-/// The one of these that is due first.
-fn earliest(alloc: Global, names: &Names, claims: &[Claim]) -> Result<Option<Claim>, AllocError>
-    ensures { IfOk result (λ c. c ≡ earliest_from names.now None claims.now) }
+/// The rows in order.
+fn in_order(rows: Vec<DueRow>) -> Result<Vec<DueRow>, AllocError>
+    ensures { IfOk result (λ v. v.items ≡ sorted row_due_before rows.items) }
 {
-    let mut first = None;
-    for claim in claims {
-        first = earlier_due(alloc, names, first, claim)?;
-    }
-    Ok(first)
+    let mut rows = rows;
+    rows.sort_by(|a, b| due_order(a, b))?;
+    Ok(rows)
 }
 
-/// Of the caches whose deadline has come the one that is due first.
-#[tactic(auto, unfolding(crate::specs::BreakAnswers::first_due))]
-pub(crate) fn first_due(alloc: Global, parts: &Parts) -> Result<Option<Claim>, AllocError>
-    ensures { IfOk result (λ c. c ≡ first_due (state_of parts.now)) }
+/// The caches whose deadline has come, in the order in which they are due.
+pub(crate) fn due(alloc: Global, parts: &Parts) -> Result<Vec<DueRow>, AllocError>
+    ensures { IfOk result (λ v. map (λ r. r.cache) v.items ≡ due (state_of parts.now)) }
 {
-    let due = parts.table.due(alloc, parts.clock)?;
-    earliest(alloc, &parts.names, &due)
+    let caches = parts.table.due(alloc, parts.clock)?;
+    let rows = in_order(due_rows(alloc, &parts.names, &caches)?)?;
+    Ok(rows)
 }

@@ -1,9 +1,10 @@
 //! Leases of NFSv4 clients (RFC 7530 9.5).
-ghost use Rattle.std.specs.Prelude.{◌≡◌, OnOk, OnErr, nat_le, option_map, slice_get};
-ghost use Rattle.xl_core.specs.Leases.{moment_after, later, with_lease, without_lease, comes_before, first_of, first_with, first_among, first_ended};
+ghost use Rattle.std.specs.Prelude.{◌≡◌, map, filter, IfOk, OnOk, OnErr, nat_le};
+ghost use Rattle.xl_base.specs.Lists.{sorted};
+ghost use Rattle.xl_core.specs.Leases.{moment_after, later, with_lease, without_lease, has_ended, with_ended, comes_before, ended, is_ended};
 
 use indexmap::IndexMap;
-use std::alloc::{AllocFailed, Global};
+use std::alloc::{AllocError, AllocFailed, Global};
 use xl_base::{Moment, Sequence};
 
 /// How long things last, in milliseconds.
@@ -46,11 +47,10 @@ pub(crate) fn put_lease(
 }
 
 /// Takes the client's lease out.
-#[tactic(auto, unfolding(crate::specs::Leases::without_lease))]
 pub(crate) fn drop_lease(leases: &mut IndexMap<Sequence<u8>, Moment>, client: &Sequence<u8>)
     ensures { leases.new.entries ≡ without_lease client.now leases.old.entries }
 {
-    let _ = leases.shift_remove(client);
+    leases.retain(|id, _| id != client);
 }
 
 fn has_ended(now: Moment, until: Moment) -> bool
@@ -59,57 +59,65 @@ fn has_ended(now: Moment, until: Moment) -> bool
     until.0 <= now.0
 }
 
-fn comes_before(a: &[u8], b: &[u8]) -> bool
-    ensures { result ≡ comes_before a.now b.now }
+/// Whether the client's lease has ended, and wasn't taken out.
+#[tactic(auto, unfolding(crate::specs::Leases::is_ended))]
+pub(crate) fn is_ended(leases: &IndexMap<Sequence<u8>, Moment>, now: Moment, client: &[u8]) -> bool
+    ensures { result ≡ is_ended now leases.now.entries client.now }
 {
-    a.cmp(b).is_lt()
+    leases
+        .iter()
+        .any(|(id, until)| has_ended(now, *until) && client == id.as_slice())
 }
 
-/// Of two clients the one whose id string stands first.
-fn first_of<'a>(
-    first: Option<&'a Sequence<u8>>,
-    client: &'a Sequence<u8>,
-) -> Option<&'a Sequence<u8>>
-    ensures { option_map (λ c. c.now) result ≡ first_of (option_map (λ c. c.now) first.entry) client.now }
-{
-    match first {
-        Some(other) if !comes_before(client.as_slice(), other.as_slice()) => Some(other),
-        _ => Some(client),
-    }
-}
-
-/// The same with the lease at this place.
-fn first_with<'a>(
-    leases: &'a IndexMap<Sequence<u8>, Moment>,
+/// Puts the id string of the client behind these, where its lease has ended.
+fn push_ended(
+    alloc: Global,
+    ids: &mut Vec<Sequence<u8>>,
+    id: &Sequence<u8>,
+    until: Moment,
     now: Moment,
-    first: Option<&'a Sequence<u8>>,
-    place: usize,
-) -> Option<&'a Sequence<u8>>
-    ensures { option_map (λ c. c.now) result ≡ first_with now (option_map (λ c. c.now) first.entry) (slice_get leases.now.entries place) }
+) -> Result<(), AllocError>
+    ensures { OnOk result (ids.new.items ≡ with_ended now (id.now, until) ids.old.items) }
 {
-    match leases.get_index(place) {
-        Some((client, until)) => {
-            if has_ended(now, *until) {
-                first_of(first, client)
-            } else {
-                first
-            }
-        }
-        None => first,
+    if has_ended(now, until) {
+        ids.push(Sequence::from_slice(alloc, id.as_slice())?)?;
     }
+    Ok(())
 }
 
-/// Of the clients whose lease has ended the one whose id string stands first.
-#[tactic(auto, unfolding(crate::specs::Leases::first_ended), using(crate::proofs::LeaseLaws::first_step))]
-pub(crate) fn first_ended(
+/// The id strings of the clients whose lease has ended.
+fn ended_ids(
+    alloc: Global,
     leases: &IndexMap<Sequence<u8>, Moment>,
     now: Moment,
-) -> Option<&Sequence<u8>>
-    ensures { option_map (λ c. c.now) result ≡ first_ended now leases.now.entries }
+) -> Result<Vec<Sequence<u8>>, AllocError>
+    ensures { IfOk result (λ v. v.items ≡ map (λ l. l.0) (filter (has_ended now) leases.now.entries)) }
 {
-    let mut first = None;
-    'leases: for place in 0..leases.len() {
-        first = first_with(leases, now, first, place);
+    let mut ids = Vec::new(alloc);
+    'leases: for (id, until) in leases.iter() {
+        push_ended(alloc, &mut ids, id, *until, now)?;
     }
-    first
+    Ok(ids)
+}
+
+/// The id strings in order.
+fn in_order(ids: Vec<Sequence<u8>>) -> Result<Vec<Sequence<u8>>, AllocError>
+    ensures { IfOk result (λ v. v.items ≡ sorted comes_before ids.items) }
+{
+    let mut ids = ids;
+    ids.sort_by(|a, b| a.as_slice().cmp(b.as_slice()))?;
+    Ok(ids)
+}
+
+/// The clients whose lease has ended, by their id strings and in the order of these.
+#[tactic(auto, unfolding(crate::specs::Leases::ended))]
+pub(crate) fn ended(
+    alloc: Global,
+    leases: &IndexMap<Sequence<u8>, Moment>,
+    now: Moment,
+) -> Result<Vec<Sequence<u8>>, AllocError>
+    ensures { IfOk result (λ v. v.items ≡ ended now leases.now.entries) }
+{
+    let ids = in_order(ended_ids(alloc, leases, now)?)?;
+    Ok(ids)
 }

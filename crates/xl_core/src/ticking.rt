@@ -1,20 +1,18 @@
 //! What the clock does.
-ghost use Rattle.std.specs.Prelude.{◌≡◌, ℕ, ◌++◌, [], ◌∷◌, length, option_map, IfOk, OnOk};
+ghost use Rattle.std.specs.Prelude.{◌≡◌, ℕ, ◌++◌, List, [], ◌∷◌, option_map, IfOk, OnOk};
 ghost use Rattle.xl_core.specs.BreakAnswers.{client_of};
 ghost use Rattle.xl_names.specs.declared.name.Name.TheVariants.{NfsParty};
 ghost use Rattle.xl_core.specs.Askers.{party_named};
-ghost use Rattle.xl_core.specs.Leases.{first_ended};
 ghost use Rattle.xl_core.specs.Good.{IsGood};
-ghost use Rattle.xl_core.specs.Ticks.{advanced, renew, end_some, expire, expired_for, expire_all, lapse, lapsed_for, tick};
+ghost use Rattle.xl_core.specs.Ticks.{advanced, renew, end_some, expire, behind_told, in_turn, is_still_held, is_lease_over, lapse_all, expire_all, lapse, tick};
 ghost use Rattle.xl_core.specs.Unsettled.{AreHeldUp};
 ghost use Rattle.xl_core.specs.declared.unsettled.Unsettled.{Unsettled};
 ghost use Rattle.xl_core.specs.Whole.{state_of};
 
 use crate::ask::Effect;
 use crate::calls::leave;
-use crate::due::first_due;
-use crate::lease;
-use crate::lease::{drop_lease, later, moment_after, put_lease};
+use crate::due::due;
+use crate::lease::{drop_lease, ended, is_ended, later, moment_after, put_lease};
 use crate::parts::Parts;
 use crate::unsettled::{Unsettled, note};
 use std::alloc::{AllocError, Global};
@@ -103,16 +101,6 @@ fn expire(
     Ok(effects)
 }
 
-/// A copy of the id string of the first client whose lease has ended.
-fn next_ended(alloc: Global, parts: &Parts) -> Result<Option<Sequence<u8>>, AllocError>
-    ensures { IfOk result (λ client. client ≡ first_ended parts.now.clock parts.now.leases.entries) }
-{
-    match lease::first_ended(&parts.leases, parts.clock) {
-        Some(client) => Ok(Some(Sequence::from_slice(alloc, client.as_slice())?)),
-        None => Ok(None),
-    }
-}
-
 /// Puts effects behind others.
 fn push_all(effects: &mut Sequence<Effect>, more: Sequence<Effect>) -> Result<(), AllocError>
     ensures { OnOk result (effects.new ≡ effects.old ++ more) }
@@ -123,33 +111,29 @@ fn push_all(effects: &mut Sequence<Effect>, more: Sequence<Effect>) -> Result<()
     Ok(())
 }
 
-/// Lets so many clients expire at most whose lease has ended, and tells that behind what was told before.
-fn expire_ended(
+/// Takes out all that the client has, and its lease, where that has ended, and tells that behind what was told before.
+fn expire_one(
     alloc: Global,
     parts: &mut Parts,
     unsettled: &mut Unsettled,
     effects: &mut Sequence<Effect>,
-    most: usize,
+    client: &Sequence<u8>,
 ) -> Result<(), AllocError>
     requires good { IsGood (state_of parts.old) }
     requires held_up { AreHeldUp unsettled.old (state_of parts.old) }
-    ensures state { OnOk result ((expired_for most (state_of parts.old)).1 ≡ state_of parts.new) }
-    ensures told { OnOk result (effects.new ≡ effects.old ++ (expired_for most (state_of parts.old)).0) }
+    ensures turn { OnOk result ((clients : List (List ℕ)) → behind_told effects.old (in_turn is_lease_over expire (client.now ∷ clients) (state_of parts.old)) ≡ behind_told effects.new (in_turn is_lease_over expire clients (state_of parts.new))) }
+    ensures good { OnOk result (IsGood (state_of parts.new)) }
     ensures held_up { AreHeldUp unsettled.new (state_of parts.new) }
 {
-    if most == 0 {
-        return Ok(());
+    if is_ended(&parts.leases, parts.clock, client.as_slice()) {
+        let id = Sequence::from_slice(alloc, client.as_slice())?;
+        let told = expire(alloc, parts, unsettled, id)?;
+        push_all(effects, told)?;
     }
-    let Some(client) = next_ended(alloc, parts)? else {
-        return Ok(());
-    };
-    let told = expire(alloc, parts, unsettled, client)?;
-    push_all(effects, told)?;
-    expire_ended(alloc, parts, unsettled, effects, most - 1)?;
     Ok(())
 }
 
-/// Lets each client expire whose lease has ended, and tells that behind what was told before.
+/// Lets each client expire whose lease has ended, in the order of their id strings, and tells that behind what was told before.
 #[tactic(auto, unfolding(crate::specs::Ticks::expire_all))]
 fn expire_all(
     alloc: Global,
@@ -159,12 +143,14 @@ fn expire_all(
 ) -> Result<(), AllocError>
     requires good { IsGood (state_of parts.old) }
     requires held_up { AreHeldUp unsettled.old (state_of parts.old) }
-    ensures state { OnOk result ((expire_all (state_of parts.old)).1 ≡ state_of parts.new) }
-    ensures told { OnOk result (effects.new ≡ effects.old ++ (expire_all (state_of parts.old)).0) }
+    ensures state { OnOk result (behind_told effects.old (expire_all (state_of parts.old)) ≡ (effects.new, state_of parts.new)) }
     ensures held_up { AreHeldUp unsettled.new (state_of parts.new) }
 {
-    let most = parts.leases.len();
-    expire_ended(alloc, parts, unsettled, effects, most)
+    let clients = ended(alloc, &parts.leases, parts.clock)?;
+    for client in clients.iter() {
+        expire_one(alloc, parts, unsettled, effects, client)?;
+    }
+    Ok(())
 }
 
 /// A copy of the id string of the party, where it is an NFSv4 client.
@@ -203,29 +189,45 @@ fn lapse(
     }
 }
 
-/// Ends so many breaks at most whose deadline has come, and tells that behind what was told before.
-fn lapse_due(
+/// Ends the break of a cache, where it is still held, and tells that behind what was told before.
+fn lapse_one(
     alloc: Global,
     parts: &mut Parts,
     unsettled: &mut Unsettled,
     effects: &mut Sequence<Effect>,
-    most: usize,
+    cache: &Claim,
 ) -> Result<(), AllocError>
     requires good { IsGood (state_of parts.old) }
     requires held_up { AreHeldUp unsettled.old (state_of parts.old) }
-    ensures state { OnOk result ((lapsed_for most (state_of parts.old)).1 ≡ state_of parts.new) }
-    ensures told { OnOk result (effects.new ≡ effects.old ++ (lapsed_for most (state_of parts.old)).0) }
+    ensures turn { OnOk result ((caches : List Claim) → behind_told effects.old (in_turn is_still_held lapse (cache.now ∷ caches) (state_of parts.old)) ≡ behind_told effects.new (in_turn is_still_held lapse caches (state_of parts.new))) }
+    ensures good { OnOk result (IsGood (state_of parts.new)) }
     ensures held_up { AreHeldUp unsettled.new (state_of parts.new) }
 {
-    if most == 0 {
-        return Ok(());
+    if parts.table.contains(cache) {
+        let told = lapse(alloc, parts, unsettled, cache)?;
+        push_all(effects, told)?;
     }
-    let Some(cache) = first_due(alloc, parts)? else {
-        return Ok(());
-    };
-    let told = lapse(alloc, parts, unsettled, &cache)?;
-    push_all(effects, told)?;
-    lapse_due(alloc, parts, unsettled, effects, most - 1)?;
+    Ok(())
+}
+
+/// Ends the breaks whose deadline has come, in the order in which they are due, and tells that behind what was told before.
+#[tactic(auto, unfolding(crate::specs::Ticks::lapse_all))]
+fn lapse_all(
+    alloc: Global,
+    parts: &mut Parts,
+    unsettled: &mut Unsettled,
+    effects: &mut Sequence<Effect>,
+) -> Result<(), AllocError>
+    requires good { IsGood (state_of parts.old) }
+    requires held_up { AreHeldUp unsettled.old (state_of parts.old) }
+    ensures state { OnOk result (behind_told effects.old (lapse_all (state_of parts.old)) ≡ (effects.new, state_of parts.new)) }
+    ensures good { OnOk result (IsGood (state_of parts.new)) }
+    ensures held_up { AreHeldUp unsettled.new (state_of parts.new) }
+{
+    let rows = due(alloc, parts)?;
+    for row in rows.iter() {
+        lapse_one(alloc, parts, unsettled, effects, &row.cache)?;
+    }
     Ok(())
 }
 
@@ -243,10 +245,9 @@ pub(crate) fn tick(
     ensures state { IfOk result (λ effects. tick (state_of parts.old) now ≡ (effects, state_of parts.new)) }
     ensures held_up { AreHeldUp unsettled.new (state_of parts.new) }
 {
-    let most = parts.table.len();
     advance(parts, now);
     let mut effects = Sequence::new(alloc);
-    lapse_due(alloc, parts, unsettled, &mut effects, most)?;
+    lapse_all(alloc, parts, unsettled, &mut effects)?;
     expire_all(alloc, parts, unsettled, &mut effects)?;
     Ok(effects)
 }

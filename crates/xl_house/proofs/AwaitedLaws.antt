@@ -82,8 +82,8 @@ ticks_ask : (now : Moment) (d : Deed) → may_do (Tick now) d ≡ true → is_op
 ticks_ask now (Asks left a) may = absurd (true≢false (sym may))
 ticks_ask now d may = refl
 
-tick_others : (n : ℕ) (s : Whole) (now : Moment) → IsGood (step_begun s.core) → Others (tick_deeds (step_begun s.core) now)
-tick_others n s now good = all_weaker (λ d. may_do (Tick now) d ≡ true) (λ d. is_open_ask d ≡ false) (tick_deeds (step_begun s.core) now) (λ d may. ticks_ask now d may) (own_may n s (Tick now) good)
+tick_others : (n : ℕ) (s : Whole) (now : Moment) → IsGood (step_begun s.core) → Others (tick_deeds n (step_begun s.core) now)
+tick_others n s now good = all_weaker (λ d. may_do (Tick now) d ≡ true) (λ d. is_open_ask d ≡ false) (tick_deeds n (step_begun s.core) now) (λ d may. ticks_ask now d may) (own_may n s (Tick now) good)
 
 -- ---- what an event gives
 
@@ -130,7 +130,7 @@ given_tells n s (Called number bytes) good ready stand =
     deeds_tell n (step_begun s.core) _ s.front.smb.state (own_deeds n s (Called number bytes)) _ good (answer_takes n s.front.nlm (step_begun s.core) number bytes) (refusal_named s.front.nlm.hosts _)
     (answer_does n s.front.nlm (step_begun s.core) number bytes) (answer_tells n s.front.nlm (step_begun s.core) number bytes) stand
 given_tells n s (Tick now) good ready stand =
-    deeds_tell n (step_begun s.core) _ s.front.smb.state (tick_deeds (step_begun s.core) now) _ good (tick_fits n (step_begun s.core) now) (tick_others n s now good) (sym (tick_done n (step_begun s.core) now)) (sym (tick_tells n (step_begun s.core) now)) stand
+    deeds_tell n (step_begun s.core) _ s.front.smb.state (tick_deeds n (step_begun s.core) now) _ good (tick_fits n (step_begun s.core) now) (tick_others n s now good) (sym (tick_done n (step_begun s.core) now)) (sym (tick_tells n (step_begun s.core) now)) stand
 given_tells n s Restart good ready stand = quiet_tell (step_begun s.core) s.front.smb.state stand
 
 -- ---- and what is heard

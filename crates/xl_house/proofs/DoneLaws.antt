@@ -14,15 +14,15 @@ use Rattle.xl_programs.specs.declared.program.Program.{Program}
 use Rattle.xl_programs.specs.declared.program.Program.TheVariants.{Nlm, Nfs}
 use Rattle.xl_programs.specs.Sent.{sent_to}
 use Rattle.xl_core.specs.State.{CoreState, step_begun}
-use Rattle.xl_core.specs.Deeds.{Deed, turned, all_done, all_told_of, answers_of, expiry_then, expiries, expiries_of, lapse_then, lapses, tick_deeds, AreFit}
+use Rattle.xl_core.specs.Deeds.{Deed, Lapses, Expires, turned, done, all_done, all_told_of, answers_of, deeds_in_turn, expiries, lapses, tick_deeds, AreFit}
 use Rattle.xl_core.specs.Good.{IsGood}
 use Rattle.xl_core.specs.Settle.{turns_left, settle}
 use Rattle.xl_core.specs.declared.ask.Effect.{Effect}
 use Rattle.xl_base.specs.declared.event.Moment.{Moment}
-use Rattle.std.proofs.lemmas.Bool.{eq-eqb}
-use Rattle.xl_core.specs.Leases.{first_ended}
-use Rattle.xl_core.specs.BreakAnswers.{first_due}
-use Rattle.xl_core.specs.Ticks.{advanced, expire, lapse, lapsed_for}
+use Rattle.std.proofs.lemmas.Bool.{cases_Bool, eq-eqb}
+use Rattle.xl_core.specs.Leases.{ended}
+use Rattle.xl_core.specs.BreakAnswers.{due}
+use Rattle.xl_core.specs.Ticks.{advanced, is_still_held, is_lease_over}
 use Rattle.xl_core.proofs.TickLaws.{tick_done, tick_fits}
 use Rattle.xl_core.proofs.DeedLists.{done_append, fit_append}
 use Rattle.xl_front_nlm.proofs.AnswerLaws.{answer_does, answer_takes}
@@ -298,33 +298,26 @@ refusal_may : (hosts : List (List ℕ)) (number : ℕ) (bytes : Option (List ℕ
 refusal_may hosts number bytes None = tt
 refusal_may hosts number bytes (Some grant) = (refl, tt)
 
-expiry_may : (now : Moment) (later : CoreState → List Deed) (s : CoreState) (o : Option (List ℕ)) → ((t : CoreState) → AllByRecursion (λ d. may_do (Tick now) d ≡ true) (later t)) → AllByRecursion (λ d. may_do (Tick now) d ≡ true) (expiry_then later s o)
-expiry_may now later s None each = tt
-expiry_may now later s (Some client) each = (refl, each (expire s client).1)
+turns_may : {A : Type 0} (n : ℕ) (now : Moment) (is_left : CoreState → A → Bool) (does : A → Deed) → ((x : A) → may_do (Tick now) (does x) ≡ true) → (xs : List A) (s : CoreState) → AllByRecursion (λ d. may_do (Tick now) d ≡ true) (deeds_in_turn is_left does n xs s)
+turns_may n now is_left does may [] s = tt
+turns_may n now is_left does may (x ∷ xs) s =
+    elim (cases_Bool (is_left s x)) [
+      | inl e ↦ rw e (may x, turns_may n now is_left does may xs (done n s (does x)))
+      | inr e ↦ rw e (turns_may n now is_left does may xs s)
+    ]
 
-expiries_may : (now : Moment) (fuel : ℕ) (s : CoreState) → AllByRecursion (λ d. may_do (Tick now) d ≡ true) (expiries fuel s)
-expiries_may now zero s = tt
-expiries_may now (suc fuel) s = expiry_may now (expiries fuel) s (first_ended s.clock s.leases) (λ t. expiries_may now fuel t)
-
-lapse_may : (now : Moment) (later : CoreState → List Deed) (s : CoreState) (o : Option Claim) → ((t : CoreState) → AllByRecursion (λ d. may_do (Tick now) d ≡ true) (later t)) → AllByRecursion (λ d. may_do (Tick now) d ≡ true) (lapse_then later s o)
-lapse_may now later s None each = tt
-lapse_may now later s (Some cache) each = (refl, each (lapse s cache).1)
-
-lapses_may : (now : Moment) (fuel : ℕ) (s : CoreState) → AllByRecursion (λ d. may_do (Tick now) d ≡ true) (lapses fuel s)
-lapses_may now zero s = tt
-lapses_may now (suc fuel) s = lapse_may now (lapses fuel) s (first_due s) (λ t. lapses_may now fuel t)
-
-tick_may : (now : Moment) (s : CoreState) → AllByRecursion (λ d. may_do (Tick now) d ≡ true) (tick_deeds s now)
-tick_may now s =
-    let u = (lapsed_for (length s.claims) (advanced s now)).1 in
-    (eq-eqb now.0 now.0 refl, all_append (λ d. may_do (Tick now) d ≡ true) (lapses (length s.claims) (advanced s now)) (expiries_of u) (lapses_may now (length s.claims) (advanced s now)) (expiries_may now (length u.leases) u))
+tick_may : (n : ℕ) (now : Moment) (s : CoreState) → AllByRecursion (λ d. may_do (Tick now) d ≡ true) (tick_deeds n s now)
+tick_may n now s =
+    let t = advanced s now in
+    let u = all_done n t (lapses n t) in
+    (eq-eqb now.0 now.0 refl, all_append (λ d. may_do (Tick now) d ≡ true) (lapses n t) (expiries n u) (turns_may n now is_still_held Lapses (λ c. refl) (due t) t) (turns_may n now is_lease_over Expires (λ id. refl) (ended u.clock u.leases) u))
 
 pub own_may : (n : ℕ) (s : Whole) (event : Event) → IsGood (step_begun s.core) → AllByRecursion (λ d. may_do event d ≡ true) (own_deeds n s event)
 own_may n s (Open kind) good = tt
 own_may n s (Message number bytes) good = message_may n number bytes s.exports s.front (step_begun s.core) (kind_of s.connections number) good
 own_may n s (End number) good = end_may s.front (step_begun s.core) (kind_of s.connections number) number
 own_may n s (Called number bytes) good = refusal_may s.front.nlm.hosts number bytes _
-own_may n s (Tick moment) good = tick_may moment (step_begun s.core)
+own_may n s (Tick moment) good = tick_may n moment (step_begun s.core)
 own_may n s Restart good = tt
 
 pub behind_follows : (n : ℕ) (s : Whole) (event : Event) → Follow (behind_own n s event)

@@ -27,7 +27,7 @@ use Rattle.xl_wait.specs.declared.waiter.Rooms.{Rooms}
 use Rattle.xl_wait.specs.declared.waiter.Waiter.{Waiter}
 use Rattle.xl_core.proofs.HollowLaws.{nothing_kept, waiter_dropped}
 use Rattle.xl_core.specs.Deeds.{Deed, Asks, queue_after, any_ends_break}
-use Rattle.xl_core.specs.Leases.{Lease, first_ended}
+use Rattle.xl_core.specs.Leases.{Lease, ended}
 use Rattle.xl_core.specs.Places.{IsChangedBy}
 use Rattle.xl_core.specs.Smallest.{all_room, smallest_lock}
 use Rattle.xl_core.specs.State.{CoreState, started, step_begun}
@@ -84,8 +84,8 @@ clock_stands_in n stores outs s t now less stands lawful =
     let shows : s.core.clock ≡ now = sym stands ∙ lawful.2 ∙ ap (λ (b : Bool). if b then now else s.core.clock) less in
     both_ways (nat_lt now.0 now.0) (not_less now.0) (subst (λ (m : Moment). nat_lt m.0 now.0 ≡ true) shows less)
 
-pub lease_runs_on_in : (n stores : ℕ) (outs : List Out) (s t : Whole) (now : Moment) (client : List ℕ) → first_ended t.core.clock t.core.leases ≡ Some client → IsComplete n s (record { event = Tick now; stores = stores; outs = outs }) t → ⊥
-lease_runs_on_in n stores outs s t now client ended complete = let none : None ≡ Some client = sym complete.1.leases ∙ ended in absurd cc
+pub lease_runs_on_in : (n stores : ℕ) (outs : List Out) (s t : Whole) (now : Moment) (client : List ℕ) → IsIn client (ended t.core.clock t.core.leases) → IsComplete n s (record { event = Tick now; stores = stores; outs = outs }) t → ⊥
+lease_runs_on_in n stores outs s t now client runs complete = subst (λ (ids : List (List ℕ)). IsIn client ids) complete.1.leases runs
 
 -- ---- requests of SMB that wait, and their opens
 

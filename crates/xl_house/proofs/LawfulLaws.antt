@@ -19,16 +19,16 @@ use Rattle.xl_table.specs.Held.{is_cache}
 use Rattle.xl_wait.specs.declared.waiter.Waiter.{Waiter}
 use Rattle.xl_names.specs.declared.name.Name.{Name}
 use Rattle.xl_core.specs.State.{CoreState, step_begun}
-use Rattle.xl_core.specs.BreakAnswers.{first_due}
+use Rattle.xl_core.specs.BreakAnswers.{due}
 use Rattle.xl_core.specs.Deeds.{all_done, queue_after, any_ends_break, KeepNames}
 use Rattle.xl_core.specs.Dues.{AreDue}
-use Rattle.xl_core.specs.Leases.{first_ended}
+use Rattle.xl_core.specs.Leases.{ended}
 use Rattle.xl_core.specs.Places.{Place, ByteOf, ShareOf, RangesOf, CacheOf, held_at, IsChangedBy}
 use Rattle.xl_core.proofs.DeedCaches.{deeds_keep_break}
 use Rattle.xl_core.proofs.DeedLists.{deeds_make, deeds_queue, deeds_names, deeds_due}
 use Rattle.xl_core.proofs.DueLaws.{none_due}
 use Rattle.xl_core.proofs.GoodLaws.{begun_good}
-use Rattle.xl_core.proofs.TickLaws.{tick_done, none_ended}
+use Rattle.xl_core.proofs.TickLaws.{tick_done, tick_in_turn, none_ended}
 use Rattle.xl_house.specs.Done.{own_deeds, deeds, messages}
 use Rattle.xl_house.specs.Free.{IsFree}
 use Rattle.xl_house.specs.Journals.{IsLegal, is_restart}
@@ -181,19 +181,19 @@ kept_by n s (Called number bytes) free = kept n s (Called number bytes) refl fre
 kept_by n s (Tick moment) free = kept n s (Tick moment) refl free
 kept_by n s Restart free = none_held n s
 
-due : (n : ℕ) (s : Whole) (event : Event) → is_restart event ≡ false → IsFree s → AreDue n (step_begun s.core) (deeds n s event)
-due n s event other free = deeds_due n (step_begun s.core) (deeds n s event) (begun_good s.core free.good) (deeds_taken n s event other (begun_good s.core free.good))
+deeds_given : (n : ℕ) (s : Whole) (event : Event) → is_restart event ≡ false → IsFree s → AreDue n (step_begun s.core) (deeds n s event)
+deeds_given n s event other free = deeds_due n (step_begun s.core) (deeds n s event) (begun_good s.core free.good) (deeds_taken n s event other (begun_good s.core free.good))
 
 nothing_due : (n : ℕ) (s : Whole) → AreDue n (step_begun s.core) (deeds n s Restart)
 unfolding deeds
 nothing_due n s = tt
 
 due_by : (n : ℕ) (s : Whole) (event : Event) → IsFree s → AreDue n (step_begun s.core) (deeds n s event)
-due_by n s (Open kind) free = due n s (Open kind) refl free
-due_by n s (Message number bytes) free = due n s (Message number bytes) refl free
-due_by n s (End number) free = due n s (End number) refl free
-due_by n s (Called number bytes) free = due n s (Called number bytes) refl free
-due_by n s (Tick moment) free = due n s (Tick moment) refl free
+due_by n s (Open kind) free = deeds_given n s (Open kind) refl free
+due_by n s (Message number bytes) free = deeds_given n s (Message number bytes) refl free
+due_by n s (End number) free = deeds_given n s (End number) refl free
+due_by n s (Called number bytes) free = deeds_given n s (Called number bytes) refl free
+due_by n s (Tick moment) free = deeds_given n s (Tick moment) refl free
 due_by n s Restart free = nothing_due n s
 
 -- a reading of the clock leaves nothing that is due by then
@@ -201,8 +201,9 @@ on_time : (n : ℕ) (s : Whole) (now : Moment) → IsFree s → IsOnTime n s now
 on_time n s now free =
     let found = step_begun s.core in
     record {
-      breaks = subst (λ (t : CoreState). first_due t ≡ None) (sym (tick_done n found now)) (none_due found now (begun_good s.core free.good));
-      leases = ap (λ (x : Running). first_ended x.1 x.0) (next_times n s (Tick now) refl free ∙ ap times_in (tick_done n found now)) ∙ none_ended found now;
+      breaks = subst (λ (t : CoreState). due t ≡ []) (sym (tick_done n found now)) (none_due found now (begun_good s.core free.good));
+      leases = ap (λ (x : Running). ended x.1 x.0) (next_times n s (Tick now) refl free ∙ ap times_in (tick_done n found now)) ∙ none_ended found now;
+      turns = tick_in_turn n found (all_done n found (own_deeds n s (Tick now))) now (begun_good s.core free.good);
     }
 
 on_time_by : (n : ℕ) (s : Whole) (event : Event) → IsFree s → IsOnTimeBy n s event (step n s event).next

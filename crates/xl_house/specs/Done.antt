@@ -123,7 +123,7 @@ abbrev pub own_deeds : ℕ → Whole → Event → List Deed
 own_deeds n s (Message number bytes) = message_deeds n s.exports s.front (step_begun s.core) (kind_of s.connections number) number bytes
 own_deeds n s (End number) = end_deeds s.front (step_begun s.core) (kind_of s.connections number) number
 own_deeds n s (Called number bytes) = called_deeds s.front.nlm (step_begun s.core) number bytes
-own_deeds n s (Tick now) = tick_deeds (step_begun s.core) now
+own_deeds n s (Tick now) = tick_deeds n (step_begun s.core) now
 own_deeds n s event = []
 
 -- what it is answered: a function of the message, of what its deeds are answered and tell of, and of the state that they leave

@@ -13,10 +13,10 @@ use Rattle.xl_matrix.specs.declared.claim.Claim.{Claim}
 use Rattle.xl_names.specs.declared.name.Name.{Name}
 use Rattle.xl_table.specs.Held.{is_cache}
 use Rattle.xl_core.specs.State.{CoreState, step_begun}
-use Rattle.xl_core.specs.BreakAnswers.{first_due}
+use Rattle.xl_core.specs.BreakAnswers.{due}
 use Rattle.xl_core.specs.Deeds.{Deed, Asks, GivesBack, Weakens, Acks, Cancels, Ends, Closes, Serves, Draws, Advances, Lapses, Renews, Expires, all_done, queue_after, any_ends_break, KeepNames}
-use Rattle.xl_core.specs.Dues.{AreDue}
-use Rattle.xl_core.specs.Leases.{first_ended}
+use Rattle.xl_core.specs.Dues.{AreDue, AreInTurn}
+use Rattle.xl_core.specs.Leases.{ended}
 use Rattle.xl_core.specs.Places.{Place, held_at, IsChangedBy}
 use Rattle.xl_core.specs.declared.ask.Act.{Act}
 use Rattle.xl_core.specs.declared.ask.Act.TheVariants.{Unlock}
@@ -85,10 +85,12 @@ IsKept n s e t = IsKeptBy n s e.event t
 -- ---- complete
 
 -- What a reading of the clock owes: its own deeds leave no break whose deadline has come, and at its end no lease runs that has
--- ended (MS-SMB2 3.3.6.1; RFC 7530 9.5, 10.4.6).
+-- ended (MS-SMB2 3.3.6.1; RFC 7530 9.5, 10.4.6). Breaks are over in the order in which they are due, and clients expire in the
+-- order of their id strings: what stands ahead of one and isn't taken before it is left by the last of these deeds.
 pub record IsOnTime (n : ℕ) (s : Whole) (now : Moment) (t : Whole) : Type 0 where
-  pub breaks : first_due (all_done n (found s) (own_deeds n s (Tick now))) ≡ None
-  pub leases : first_ended t.core.clock t.core.leases ≡ None
+  pub breaks : due (all_done n (found s) (own_deeds n s (Tick now))) ≡ []
+  pub leases : ended t.core.clock t.core.leases ≡ []
+  pub turns : AreInTurn n (found s) (own_deeds n s (Tick now)) (all_done n (found s) (own_deeds n s (Tick now)))
 
 -- what is owed by the event
 abbrev pub IsOnTimeBy : ℕ → Whole → Event → Whole → Type 0

@@ -13,7 +13,7 @@ ghost use Rattle.xl_matrix.specs.declared.claim.Extent.{Extent};
 ghost use Rattle.xl_wait.specs.declared.waiter.Rooms.{Rooms};
 ghost use Rattle.xl_wait.specs.declared.waiter.Waiter.{Waiter};
 ghost use Rattle.xl_core.specs.Deeds.{Asks};
-ghost use Rattle.xl_core.specs.Leases.{Lease, first_ended};
+ghost use Rattle.xl_core.specs.Leases.{Lease, ended};
 ghost use Rattle.xl_core.specs.Settle.{settle, waits_as};
 ghost use Rattle.xl_core.specs.Smallest.{all_room, smallest_lock};
 ghost use Rattle.xl_core.specs.State.{CoreState, started};
@@ -47,7 +47,7 @@ pub fn hollow_machines_are_refused()
     ensures leases { (n stores number : ℕ) (bytes : List ℕ) (outs : List Out) (s t : Whole) (left : Rooms) (a : Ask) (l : Lease) → deeds n s (Message number bytes) ≡ Asks left a ∷ []
         → IsIn l s.core.leases → t.core.leases ≡ [] → IsLawful n s (record { event = Message number bytes; stores = stores; outs = outs }) t → ⊥ }
     ensures clock { (n stores : ℕ) (outs : List Out) (s t : Whole) (now : Moment) → nat_lt s.core.clock.0 now.0 ≡ true → t.core.clock ≡ s.core.clock → IsLawful n s (record { event = Tick now; stores = stores; outs = outs }) t → ⊥ }
-    ensures ended { (n stores : ℕ) (outs : List Out) (s t : Whole) (now : Moment) (client : List ℕ) → first_ended t.core.clock t.core.leases ≡ Some client → IsComplete n s (record { event = Tick now; stores = stores; outs = outs }) t → ⊥ }
+    ensures ended { (n stores : ℕ) (outs : List Out) (s t : Whole) (now : Moment) (client : List ℕ) → IsIn client (ended t.core.clock t.core.leases) → IsComplete n s (record { event = Tick now; stores = stores; outs = outs }) t → ⊥ }
     ensures forgotten { (n : ℕ) (s t : Whole) (e : Entry) (w : Waiter) (number : ℕ) → IsIn w t.core.waiters → waits_as number w ≡ true → t.front.smb.state.waiting ≡ [] → IsServed n s e t → ⊥ }
     ensures unmade { (n stores conn : ℕ) (bytes : List ℕ) (outs : List Out) (s t : Whole) (u : CoreState) (told : List Effect) (id number : ℕ) (claim : Claim) → IsFree s → settle n (rooms_of (heard n s (Message conn bytes)).1) (heard n s (Message conn bytes)).2 ≡ Some (told, u)
         → IsIn (Effect.Served id (Answer.Granted claim)) told → claim.owner ≡ Owner.Open number → open_of number t.front.smb.state ≡ None → IsServed n s (record { event = Message conn bytes; stores = stores; outs = outs }) t → ⊥ }

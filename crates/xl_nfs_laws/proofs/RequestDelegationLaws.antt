@@ -63,8 +63,8 @@ use Rattle.xl_matrix.specs.Blocks.{is_cache}
 use Rattle.xl_matrix.specs.declared.claim.CacheKind.{CacheKind}
 use Rattle.xl_matrix.specs.declared.claim.Claim.{Claim}
 use Rattle.xl_core.proofs.FrameLaws.{end_party_frame}
-use Rattle.xl_core.specs.BreakAnswers.{client_of, first_due, id_of}
-use Rattle.xl_core.specs.Leases.{first_ended}
+use Rattle.xl_core.specs.BreakAnswers.{client_of, due, id_of}
+use Rattle.xl_core.specs.Leases.{ended}
 use Rattle.xl_core.specs.Settle.{end_party}
 use Rattle.xl_core.specs.Ticks.{end_some, expire, lapse, lapsed_by, unleased}
 use Rattle.xl_core.specs.declared.lease.Times.{Times}
@@ -742,10 +742,10 @@ lapse_later s cache = by (client_of s.names cache.party)
     by None = omega arith
     by (Some id) = expire_later s id
 
-pub expire_tied : (n : ℕ) (s : CoreState) (gone : List (List ℕ)) (l : NfsLists) (id : List ℕ) → IsGood s → first_ended s.clock s.leases ≡ Some id → AreTiedBut gone s l → AreTiedBut (id ∷ gone) (done n s (Expires id)) l
+pub expire_tied : (n : ℕ) (s : CoreState) (gone : List (List ℕ)) (l : NfsLists) (id : List ℕ) → IsGood s → IsIn id (ended s.clock s.leases) → AreTiedBut gone s l → AreTiedBut (id ∷ gone) (done n s (Expires id)) l
 expire_tied n s gone l id good first tied = expires_tied n s gone l (Expires id) id (deed_leaves n s (Expires id) id good first (expire_later s id) refl) tied
 
-pub lapse_tied : (n : ℕ) (s : CoreState) (gone : List (List ℕ)) (l : NfsLists) (cache : Claim) (id : List ℕ) → IsGood s → first_due s ≡ Some cache → client_of s.names cache.party ≡ Some id → AreTiedBut gone s l → AreTiedBut (id ∷ gone) (done n s (Lapses cache)) l
+pub lapse_tied : (n : ℕ) (s : CoreState) (gone : List (List ℕ)) (l : NfsLists) (cache : Claim) (id : List ℕ) → IsGood s → IsIn cache (due s) → client_of s.names cache.party ≡ Some id → AreTiedBut gone s l → AreTiedBut (id ∷ gone) (done n s (Lapses cache)) l
 lapse_tied n s gone l cache id good first whose tied =
     expires_tied n s gone l (Lapses cache) id (deed_leaves n s (Lapses cache) id good first (lapse_later s cache) (ap (λ (x : Option (List ℕ)). caches_without s.names cache x (caches_of s.claims)) whose)) tied
 

@@ -12,10 +12,10 @@ ghost use Rattle.xl_base.specs.Stable.{Stable as StableRecord};
 ghost use Rattle.xl_matrix.specs.Blocks.{is_cache};
 ghost use Rattle.xl_matrix.specs.declared.claim.CacheKind.{CacheKind};
 ghost use Rattle.xl_matrix.specs.declared.claim.Claim.{Claim};
-ghost use Rattle.xl_core.specs.BreakAnswers.{client_of, first_due};
+ghost use Rattle.xl_core.specs.BreakAnswers.{client_of, due};
 ghost use Rattle.xl_core.specs.Deeds.{Expires, Lapses, done};
 ghost use Rattle.xl_core.specs.Good.{IsGood};
-ghost use Rattle.xl_core.specs.Leases.{first_ended};
+ghost use Rattle.xl_core.specs.Leases.{ended};
 ghost use Rattle.xl_core.specs.State.{CoreState, started};
 ghost use Rattle.xl_core.specs.declared.ask.Effect.TheVariants.{Expired};
 ghost use Rattle.xl_core.specs.declared.lease.Times.{Times as CoreTimes};
@@ -55,8 +55,8 @@ pub fn delegations_are_caches()
     ensures operations { (n : ℕ) (files : List (List ℕ)) (others : ℕ) (s : CoreState) (l : NfsLists) (current : Option ℕ) (item : OpItem) → IsGood s → IsOrderly l → AreTied s l → AreTied (carried n s l (planned files others s l current item)).4 (carried n s l (planned files others s l current item)).3 }
     ensures requests { (n : ℕ) (exports : Exports) (others : ℕ) (f : FrontNfs) (s : CoreState) (conn : ℕ) (r : RequestItem) → IsGood s → IsOrderly f.state → AreTied s f.state → AreTied (nfs_step n exports others f s conn r).3 (nfs_step n exports others f s conn r).2.state }
     ensures ticks { (s : CoreState) (f : FrontNfs) (now : Moment) → IsGood s → AreTied s f.state → AreTied s (nfs_tick f now).state }
-    ensures expires { (n : ℕ) (s : CoreState) (gone : List (List ℕ)) (l : NfsLists) (id : List ℕ) → IsGood s → first_ended s.clock s.leases ≡ Some id → AreTiedBut gone s l → AreTiedBut (id ∷ gone) (done n s (Expires id)) l }
-    ensures lapses { (n : ℕ) (s : CoreState) (gone : List (List ℕ)) (l : NfsLists) (cache : Claim) (id : List ℕ) → IsGood s → first_due s ≡ Some cache → client_of s.names cache.party ≡ Some id → AreTiedBut gone s l → AreTiedBut (id ∷ gone) (done n s (Lapses cache)) l }
+    ensures expires { (n : ℕ) (s : CoreState) (gone : List (List ℕ)) (l : NfsLists) (id : List ℕ) → IsGood s → IsIn id (ended s.clock s.leases) → AreTiedBut gone s l → AreTiedBut (id ∷ gone) (done n s (Expires id)) l }
+    ensures lapses { (n : ℕ) (s : CoreState) (gone : List (List ℕ)) (l : NfsLists) (cache : Claim) (id : List ℕ) → IsGood s → IsIn cache (due s) → client_of s.names cache.party ≡ Some id → AreTiedBut gone s l → AreTiedBut (id ∷ gone) (done n s (Lapses cache)) l }
     ensures shown { (s : CoreState) (gone : List (List ℕ)) (f : FrontNfs) (id : List ℕ) → AreTiedBut (id ∷ gone) s f.state → AreTiedBut gone s (nfs_shown f (Expired id)).state }
 {}
 
