@@ -36,7 +36,6 @@ pub mod WeakenLaws
 pub mod DeedLaws
 pub mod DeedCaches
 pub mod DeedLists
-pub mod DeedRows
 pub mod DeedClients
 pub mod HollowLaws
 pub mod ElementLaws

@@ -21,7 +21,6 @@ pub mod Frames
 pub mod Deeds
 pub mod Places
 pub mod Dues
-pub mod Rows
 pub mod Clients
 pub mod Smallest
 pub mod Ids

@@ -22,7 +22,6 @@ ghost use Rattle.xl_core.specs.Deeds.{Deed, Asks, all_done, all_told_of, tick_de
 ghost use Rattle.xl_core.specs.Dues.{AreDue, AreInTurn};
 ghost use Rattle.xl_core.specs.Good.{IsGood, caches_of};
 ghost use Rattle.xl_core.specs.Places.{IsChangedBy};
-ghost use Rattle.xl_core.specs.Rows.{Ran, all_ran, all_deeds};
 
 /// The state stays good. At each place there is what the last deed that reaches it made of it, else what was there. Who
 /// waits is who waited, except those whom the deeds queued, took out, ended or served, in order. Each name keeps its
@@ -65,14 +64,6 @@ pub fn breaks_are_over_at_their_deadline()
     ensures goes { (stable : Stable) (times : Times) → (tick (with_claims stable times (broken_oplock ∷ [])) (record { 0 = 7 })).1.claims ≡ [] }
     ensures returns { (stable : Stable) (times : Times) → (tick (with_claims stable times (broken_delegation ∷ its_share ∷ [])) (record { 0 = 6 })).1.claims ≡ broken_delegation ∷ its_share ∷ [] }
     ensures expires { (stable : Stable) (times : Times) → let r = tick (with_claims stable times (broken_delegation ∷ its_share ∷ [])) (record { 0 = 7 }) in (r.1.claims ≡ []) × (r.0 ≡ Effect.Expired [] ∷ []) }
-{}
-
-/// Operations in a row, each in the state that those before it left, leave what their deeds leave, if each one does;
-/// and the core takes these deeds, if it takes those of each.
-#[tactic(auto, using(crate::proofs::DeedRows::row_does, crate::proofs::DeedRows::row_takes))]
-pub fn rows_are_their_deeds<F, Op>()
-    ensures done { (run : ℕ → F → CoreState → Op → Ran F) (does : ℕ → F → CoreState → Op → List Deed) (n : ℕ) → ((f : F) (s : CoreState) (op : Op) → (run n f s op).2 ≡ all_done n s (does n f s op)) → (f : F) (s : CoreState) (ops : List Op) → (all_ran run n f s ops).2 ≡ all_done n s (all_deeds run does n f s ops) }
-    ensures fit { (run : ℕ → F → CoreState → Op → Ran F) (does : ℕ → F → CoreState → Op → List Deed) (n : ℕ) → ((f : F) (s : CoreState) (op : Op) → (run n f s op).2 ≡ all_done n s (does n f s op)) → ((f : F) (s : CoreState) (op : Op) → IsGood s → AreFit n s (does n f s op)) → (f : F) (s : CoreState) (ops : List Op) → IsGood s → AreFit n s (all_deeds run does n f s ops) }
 {}
 
 /// A machine that answers that a lock is granted and keeps nothing doesn't meet the law of places, at a start and for a lock
