@@ -1,5 +1,6 @@
 pub mod CodecLaws
 pub mod FormatLaws
+pub mod KeeperLaws
 pub mod LinkLaws
 pub mod Members
 pub mod MemoryLaws

@@ -88,3 +88,7 @@ abbrev pub given_after : StoreOutcome → Stable → Option (List Stable) → Op
 given_after store.Stored stable given = option_map (λ list. list ++ stable ∷ []) given
 given_after store.Failed stable given = option_map (λ list. list ++ stable ∷ []) given
 given_after store.NoMemory stable given = given
+
+-- What a part of a step leaves of the keeper that it is handed: none gives it a record yet, so it is as it was.
+abbrev pub HandedOn : {K : Type 0} → K → K → Type 0
+HandedOn old new = new ≡ old

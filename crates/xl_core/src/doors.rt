@@ -2,6 +2,7 @@
 ghost use Rattle.std.specs.Prelude.{◌≡◌, ℕ, ◌+◌, ◌<◌, ◌^◌, true, List, Option, Some, None, Ok, option_map, OnOk, IfOk};
 ghost use Rattle.xl_base.specs.Limits.{numbers_left};
 ghost use Rattle.xl_base.specs.Lists.{IsIn};
+ghost use Rattle.xl_base.specs.Outside.{HandedOn};
 ghost use Rattle.xl_wait.specs.Waiting.{is_waiting};
 ghost use Rattle.xl_core.specs.State.{started, step_begun, drawn, MayBe, GoesOn};
 ghost use Rattle.xl_core.specs.Askers.{IsFit};
@@ -145,7 +146,7 @@ impl Core {
         ensures state { (n : ℕ) → IfOk result (λ r. MayBe n self.new → ask n left.now self.old request.now ≡ (r.0, r.1, self.new)) }
         ensures on { OnOk result (GoesOn self.old self.new) }
         ensures good { OnOk result (IsGood self.new) }
-        ensures keeper { _keeper.new ≡ _keeper.old }
+        ensures keeper { HandedOn _keeper.old _keeper.new }
     {
         let answered = calls::answer(alloc, &mut self.parts, &mut self.unsettled, left, request)?;
         Ok(answered)
@@ -167,7 +168,7 @@ impl Core {
         ensures none { result ≡ Ok None → self.new ≡ self.old }
         ensures on { OnOk result (GoesOn self.old self.new) }
         ensures good { OnOk result (IsGood self.new) }
-        ensures keeper { _keeper.new ≡ _keeper.old }
+        ensures keeper { HandedOn _keeper.old _keeper.new }
     {
         let turn = calls::settle(alloc, &mut self.parts, &mut self.unsettled, left)?;
         Ok(turn)
@@ -302,7 +303,7 @@ impl Core {
         requires good { IsGood self.old }
         ensures state { IfOk result (λ effects. tick self.old now ≡ (effects, self.new)) }
         ensures good { OnOk result (IsGood self.new) }
-        ensures keeper { _keeper.new ≡ _keeper.old }
+        ensures keeper { HandedOn _keeper.old _keeper.new }
     {
         ticking::tick(alloc, &mut self.parts, &mut self.unsettled, now)
     }

@@ -1,5 +1,6 @@
 //! A COMPOUND (RFC 7530 14.2, 15.2): its operations in a row, up to the first that fails.
 ghost use Rattle.std.specs.Prelude.{◌≡◌, ℕ, ◌+◌, ◌*◌, ◌<◌, ◌≤◌, ◌++◌, List, [], false, true, length, IfOk, OnOk};
+ghost use Rattle.xl_base.specs.Outside.{HandedOn};
 ghost use Rattle.xl_nfs.specs.Ops.{shown_op, OpFits};
 ghost use Rattle.xl_nfs.specs.Outcomes.{is_ok};
 ghost use Rattle.xl_nfs_state.specs.Bytes.{most_result_bytes};
@@ -97,7 +98,7 @@ fn do_op<K: Keeper>(
     ensures little { OnOk result (length progress.new.results ≤ length progress.old.results + most_result_bytes) }
     ensures short { IfOk result (λ more. more ≡ true → length progress.new.results ≤ length progress.old.results + 104) }
     ensures count { OnOk result (progress.new.count ≡ progress.old.count + 1) }
-    ensures keeper { keeper.new ≡ keeper.old }
+    ensures keeper { HandedOn keeper.old keeper.new }
 {
     let done = serve(
         alloc,
@@ -160,7 +161,7 @@ pub(crate) fn run_ops<K: Keeper>(
     ensures course { (n : ℕ) → OnOk result (MayBe n core.new → told_behind progress.old.effects (carried n core.old state.old (compound files.now others (course_of progress.old) core.old state.old (steps_in count args.now.rest.now))) ≡ (course_of progress.new, progress.new.effects, state.new, core.new)) }
     ensures leaves { OnOk result (Leaves (4 * count) core.old core.new) }
     ensures little { OnOk result (length progress.new.results ≤ length progress.old.results + 104 * count + most_result_bytes) }
-    ensures keeper { keeper.new ≡ keeper.old }
+    ensures keeper { HandedOn keeper.old keeper.new }
 {
     if count == 0 {
         return Ok(());

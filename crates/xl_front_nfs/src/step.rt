@@ -2,6 +2,7 @@
 ghost use Rattle.std.specs.Prelude.{◌≡◌, ℕ, ◌+◌, ◌≤◌, List, [], ◌++◌, true, length, IfOk, OnOk};
 ghost use Rattle.std.specs.List.{AllByRecursion};
 ghost use Rattle.xl_base.specs.Limits.{most_message_bytes};
+ghost use Rattle.xl_base.specs.Outside.{HandedOn};
 ghost use Rattle.xl_nfs.specs.Basics.{most_text_bytes};
 ghost use Rattle.xl_nfs.specs.Compounds.{compound_head_at};
 ghost use Rattle.xl_programs.specs.Programs.{serves, shown_request};
@@ -101,7 +102,7 @@ fn done<K: Keeper>(
     ensures done { (n : ℕ) → IfOk result (λ r. MayBe n core.new → with_reply xid head.now.tag.now (run n files.now others front.old core.old (steps_in head.now.count args.now.rest.now)) ≡ (r.0.items, r.1, front.new, core.new)) }
     ensures leaves { OnOk result (Leaves most_drawn core.old core.new) }
     ensures little { IfOk result (λ r. length r.0.items ≤ most_message_bytes) }
-    ensures keeper { keeper.new ≡ keeper.old }
+    ensures keeper { HandedOn keeper.old keeper.new }
 {
     let mut progress = begun(alloc);
     run_ops(
@@ -180,7 +181,7 @@ fn compound<K: Keeper>(
     ensures done { (n : ℕ) → IfOk result (λ r. MayBe n core.new → replied n files.now others front.old core.old request.now.xid (compound_in (compound_head_at request.now.arguments.rest.now)) ≡ (r.0.items, r.1, front.new, core.new)) }
     ensures leaves { OnOk result (Leaves most_drawn core.old core.new) }
     ensures little { IfOk result (λ r. length r.0.items ≤ most_message_bytes) }
-    ensures keeper { keeper.new ≡ keeper.old }
+    ensures keeper { HandedOn keeper.old keeper.new }
 {
     let mut args = request.arguments;
     let Ok(head) = read_head(&mut args) else {
@@ -220,7 +221,7 @@ fn replied<K: Keeper>(
     ensures done { (n : ℕ) → IfOk result (λ r. MayBe n core.new → replied n files.now others front.old core.old request.now.xid (call_in (shown_request request.now)) ≡ (r.0.items, r.1, front.new, core.new)) }
     ensures leaves { OnOk result (Leaves most_drawn core.old core.new) }
     ensures little { IfOk result (λ r. length r.0.items ≤ most_message_bytes) }
-    ensures keeper { keeper.new ≡ keeper.old }
+    ensures keeper { HandedOn keeper.old keeper.new }
 {
     if request.procedure == 0 {
         let done = null(alloc, request)?;
@@ -255,7 +256,7 @@ pub fn nfs_step<K: Keeper>(
     ensures state { (n : ℕ) → IfOk result (λ r. MayBe n core.new → nfs_step n exports.now others front.old core.old conn (shown_request request.now) ≡ (r.0, r.1, front.new, core.new)) }
     ensures leaves { OnOk result (Leaves most_drawn core.old core.new) }
     ensures little { IfOk result (λ r. AllByRecursion FitsFrame r.0) }
-    ensures keeper { keeper.new ≡ keeper.old }
+    ensures keeper { HandedOn keeper.old keeper.new }
 {
     let (reply, effects) = replied(
         alloc,

@@ -1,5 +1,6 @@
 //! What is done to the core.
 ghost use Rattle.std.specs.Prelude.{◌≡◌, ℕ, None, IfOk, OnOk};
+ghost use Rattle.xl_base.specs.Outside.{HandedOn};
 ghost use Rattle.xl_core.specs.Askers.{IsFit};
 ghost use Rattle.xl_core.specs.Decide.{ask};
 ghost use Rattle.xl_core.specs.Deeds.{given, IsFitDeed};
@@ -27,7 +28,7 @@ pub(crate) fn asked<K: Keeper>(
     requires ready { IsReady 0 core.old }
     ensures state { (n : ℕ) → IfOk result (λ r. MayBe n core.new → ask n left.now core.old request ≡ (r.0, r.1, core.new)) }
     ensures leaves { OnOk result (Leaves 2 core.old core.new) }
-    ensures keeper { keeper.new ≡ keeper.old }
+    ensures keeper { HandedOn keeper.old keeper.new }
 {
     let (answer, effects) = core.ask(alloc, keeper, &request, left)?;
     Ok((answer, effects))

@@ -1,5 +1,6 @@
 //! What becomes of a call.
 ghost use Rattle.std.specs.Prelude.{◌≡◌, ℕ, None, option_map, IfOk, OnOk};
+ghost use Rattle.xl_base.specs.Outside.{HandedOn};
 ghost use Rattle.xl_names.specs.Names.{number_of};
 ghost use Rattle.xl_names.specs.declared.name.Name.TheVariants.{NlmParty};
 ghost use Rattle.xl_nlm.specs.Items.{shown_notify, shown_call, FreeAll};
@@ -101,7 +102,7 @@ pub(crate) fn serve<K: Keeper>(
     requires ready { IsReady 0 layers.core.now }
     ensures done { (n : ℕ) → IfOk result (λ r. MayBe n (core_of layers.exit) → served n count layers.entry.front.now layers.entry.core.now (shown_call call.now) ≡ (r.0, r.1, front_of layers.exit, core_of layers.exit)) }
     ensures leaves { OnOk result (Leaves 2 layers.entry.core.now (core_of layers.exit)) }
-    ensures keeper { keeper.new ≡ keeper.old }
+    ensures keeper { HandedOn keeper.old keeper.new }
 {
     let NlmLayers { front, core } = layers;
     let plan = planned(alloc, &Context { count, front, core }, call)?;

@@ -1,5 +1,6 @@
 //! CREATE.
 ghost use Rattle.std.specs.Prelude.{◌≡◌, ℕ, ◌+◌, ◌<◌, true, Some, None, length, IfOk, OnOk};
+ghost use Rattle.xl_base.specs.Outside.{HandedOn};
 ghost use Rattle.xl_smb.specs.Creates.{shown_create_call};
 ghost use Rattle.xl_smb.specs.declared.command.Command.TheVariants as command;
 ghost use Rattle.xl_smb_state.specs.Links.{most_opens, IsHolderLinked, IsOpenLinked};
@@ -233,7 +234,7 @@ fn open_as<K: Keeper>(
     ensures done { (n : ℕ) → IfOk result (λ r. MayBe n core.new → carried n core.old state.old (open_as core.old others state.old head.now client.now place.now (shown_create_call call.now) file (core.old.counter + 1)) ≡ (r.0, r.1, state.new, core.new)) }
     ensures leaves { OnOk result (Leaves 3 core.old core.new) }
     ensures answer { IfOk result (λ r. IsAnswer (Some command.Create) r.0) }
-    ensures keeper { keeper.new ≡ keeper.old }
+    ensures keeper { HandedOn keeper.old keeper.new }
 {
     let left = rooms_left(state, others);
     let number = drawn(core);
@@ -272,7 +273,7 @@ fn open_file<K: Keeper>(
     ensures done { (n : ℕ) → IfOk result (λ r. MayBe n core.new → carried n core.old state.old (open_file core.old others state.old head.now client.now place.now (shown_create_call call.now) file) ≡ (r.0, r.1, state.new, core.new)) }
     ensures leaves { OnOk result (Leaves 3 core.old core.new) }
     ensures answer { IfOk result (λ r. IsAnswer (Some command.Create) r.0) }
-    ensures keeper { keeper.new ≡ keeper.old }
+    ensures keeper { HandedOn keeper.old keeper.new }
 {
     if !has_room(state, others, core.counter() + 1) {
         return Ok(failed(alloc, SmbStatus::InsufficientResources));
@@ -328,7 +329,7 @@ fn open_keyed<K: Keeper>(
     ensures done { (n : ℕ) → IfOk result (λ r. MayBe n core.new → carried n core.old state.old (open_keyed core.old others state.old head.now client.now place.now (shown_create_call call.now) file) ≡ (r.0, r.1, state.new, core.new)) }
     ensures leaves { OnOk result (Leaves 3 core.old core.new) }
     ensures answer { IfOk result (λ r. IsAnswer (Some command.Create) r.0) }
-    ensures keeper { keeper.new ≡ keeper.old }
+    ensures keeper { HandedOn keeper.old keeper.new }
 {
     let key = lease_key(client, key_asked(call));
     if is_key_elsewhere(state, file, key) {
@@ -366,7 +367,7 @@ fn create_on<K: Keeper>(
     ensures done { (n : ℕ) → IfOk result (λ r. MayBe n core.new → carried n core.old state.old (create_on core.old files.now others state.old head.now client.now (shown_create_call call.now) place.now) ≡ (r.0, r.1, state.new, core.new)) }
     ensures leaves { OnOk result (Leaves 3 core.old core.new) }
     ensures answer { IfOk result (λ r. IsAnswer (Some command.Create) r.0) }
-    ensures keeper { keeper.new ≡ keeper.old }
+    ensures keeper { HandedOn keeper.old keeper.new }
 {
     if call.disposition > 5 {
         return Ok(failed(alloc, SmbStatus::InvalidParameter));
@@ -404,7 +405,7 @@ pub(crate) fn create<K: Keeper>(
     ensures done { (n : ℕ) → IfOk result (λ r. MayBe n core.new → carried n core.old state.old (create core.old files.now others state.old conn client.now head.now (shown_create_call call.now)) ≡ (r.0, r.1, state.new, core.new)) }
     ensures leaves { OnOk result (Leaves 3 core.old core.new) }
     ensures answer { IfOk result (λ r. IsAnswer (Some command.Create) r.0) }
-    ensures keeper { keeper.new ≡ keeper.old }
+    ensures keeper { HandedOn keeper.old keeper.new }
 {
     let Some(session) = session_named(core, state, conn, head.session_id) else {
         return Ok(failed(alloc, SmbStatus::UserSessionDeleted));

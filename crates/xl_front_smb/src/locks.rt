@@ -1,6 +1,7 @@
 //! LOCK and CANCEL.
 ghost use Rattle.std.specs.Prelude.{◌≡◌, ℕ, ◌≤◌, ◌==◌, Some, None, length, IfOk, OnOk, option_copied};
 ghost use Rattle.std.specs.List.{list_any};
+ghost use Rattle.xl_base.specs.Outside.{HandedOn};
 ghost use Rattle.xl_smb.specs.Locks.{shown_lock, elements_of};
 ghost use Rattle.xl_smb.specs.declared.command.Command.TheVariants as command;
 ghost use Rattle.xl_smb_state.specs.State.{open_of};
@@ -125,7 +126,7 @@ fn lock_all<K: Keeper>(
     ensures done { (n : ℕ) → IfOk result (λ r. MayBe n core.new → carried n core.old state.old (Locks (lock_ask conn number row.now elements.now) kept) ≡ (r.0, r.1, state.new, core.new)) }
     ensures leaves { OnOk result (Leaves 2 core.old core.new) }
     ensures answer { IfOk result (λ r. IsAnswer (Some command.Lock) r.0) }
-    ensures keeper { keeper.new ≡ keeper.old }
+    ensures keeper { HandedOn keeper.old keeper.new }
 {
     let (locking, effects) = xl_smb_locks::lock(alloc, core, keeper, conn, number, row, elements)?;
     keep(state, kept, locking)?;
@@ -146,7 +147,7 @@ fn unlock_all<K: Keeper>(
     ensures done { (n : ℕ) → IfOk result (λ r. carried n core.old state.now (unlock_by state.now (unlocks core.old number row.now elements.now)) ≡ (r.0, r.1, state.now, core.new)) }
     ensures leaves { OnOk result (Leaves 0 core.old core.new) }
     ensures answer { IfOk result (λ r. IsAnswer (Some command.Lock) r.0) }
-    ensures keeper { keeper.new ≡ keeper.old }
+    ensures keeper { HandedOn keeper.old keeper.new }
 {
     let locking = xl_smb_locks::unlock(alloc, core, keeper, number, row, elements)?;
     Ok((told_as(locking), Sequence::new(alloc)))
@@ -170,7 +171,7 @@ fn lock_on<K: Keeper>(
     ensures done { (n : ℕ) → IfOk result (λ r. MayBe n core.new → carried n core.old state.old (lock_on core.old state.old conn head.now number place.now elements.now row.now) ≡ (r.0, r.1, state.new, core.new)) }
     ensures leaves { OnOk result (Leaves 2 core.old core.new) }
     ensures answer { IfOk result (λ r. IsAnswer (Some command.Lock) r.0) }
-    ensures keeper { keeper.new ≡ keeper.old }
+    ensures keeper { HandedOn keeper.old keeper.new }
 {
     if !is_count(elements.len()) {
         return Ok(failed(alloc, SmbStatus::InvalidParameter));
@@ -221,7 +222,7 @@ fn lock_found<K: Keeper>(
     ensures done { (n : ℕ) → IfOk result (λ r. MayBe n core.new → carried n core.old state.old (lock_found core.old state.old conn head.now number place.now (elements_of (shown_lock call.now).elements) (open_of number state.old)) ≡ (r.0, r.1, state.new, core.new)) }
     ensures leaves { OnOk result (Leaves 2 core.old core.new) }
     ensures answer { IfOk result (λ r. IsAnswer (Some command.Lock) r.0) }
-    ensures keeper { keeper.new ≡ keeper.old }
+    ensures keeper { HandedOn keeper.old keeper.new }
 {
     let Some(row) = open_row(state, number) else {
         return Ok(failed(alloc, SmbStatus::FileClosed));
@@ -249,7 +250,7 @@ pub(crate) fn lock<K: Keeper>(
     ensures done { (n : ℕ) → IfOk result (λ r. MayBe n core.new → carried n core.old state.old (lock core.old state.old conn client.now head.now (shown_lock call.now)) ≡ (r.0, r.1, state.new, core.new)) }
     ensures leaves { OnOk result (Leaves 2 core.old core.new) }
     ensures answer { IfOk result (λ r. IsAnswer (Some command.Lock) r.0) }
-    ensures keeper { keeper.new ≡ keeper.old }
+    ensures keeper { HandedOn keeper.old keeper.new }
 {
     let Some(session) = session_named(core, state, conn, head.session_id) else {
         return Ok(failed(alloc, SmbStatus::UserSessionDeleted));

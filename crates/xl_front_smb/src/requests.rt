@@ -1,5 +1,6 @@
 //! A request, by its command.
 ghost use Rattle.std.specs.Prelude.{◌≡◌, ℕ, Some, Ok, IfOk, OnOk};
+ghost use Rattle.xl_base.specs.Outside.{HandedOn};
 ghost use Rattle.xl_smb.specs.Calls.{shown_call, command_of_call};
 ghost use Rattle.xl_smb.specs.Heads.{command_of, head_of};
 ghost use Rattle.xl_smb_state.specs.State.{client_of};
@@ -46,7 +47,7 @@ fn commanded<K: Keeper>(
     ensures done { (n : ℕ) → IfOk result (λ r. MayBe n core.new → carried n core.old state.old (commanded core.old files.now others state.old conn head.now (shown_call call.now) client.now) ≡ (r.0, r.1, state.new, core.new)) }
     ensures leaves { OnOk result (Leaves 3 core.old core.new) }
     ensures answer { IfOk result (λ r. IsAnswer (command_of_call (shown_call call.now)) r.0) }
-    ensures keeper { keeper.new ≡ keeper.old }
+    ensures keeper { HandedOn keeper.old keeper.new }
 {
     match call {
         SmbCall::SessionSetup(_) => Ok(session_setup(alloc, state, core, conn, head)?),
@@ -85,7 +86,7 @@ fn once_negotiated<K: Keeper>(
     ensures done { (n : ℕ) → IfOk result (λ r. MayBe n core.new → carried n core.old state.old (negotiated_by (commanded core.old files.now others state.old conn head.now (shown_call call.now)) (client_of conn state.old)) ≡ (r.0, r.1, state.new, core.new)) }
     ensures leaves { OnOk result (Leaves 3 core.old core.new) }
     ensures answer { IfOk result (λ r. IsAnswer (command_of_call (shown_call call.now)) r.0) }
-    ensures keeper { keeper.new ≡ keeper.old }
+    ensures keeper { HandedOn keeper.old keeper.new }
 {
     match client_on(state, conn) {
         Some(client) => Ok(commanded(
@@ -112,7 +113,7 @@ fn planned<K: Keeper>(
     ensures done { (n : ℕ) → IfOk result (λ r. MayBe n core.new → carried n core.old state.old (planned core.old files.now others state.old conn head.now (shown_call call.now)) ≡ (r.0, r.1, state.new, core.new)) }
     ensures leaves { OnOk result (Leaves 3 core.old core.new) }
     ensures answer { IfOk result (λ r. IsAnswer (command_of_call (shown_call call.now)) r.0) }
-    ensures keeper { keeper.new ≡ keeper.old }
+    ensures keeper { HandedOn keeper.old keeper.new }
 {
     match call {
         SmbCall::Negotiate(args) => Ok(negotiate(alloc, state, conn, args)),
@@ -150,7 +151,7 @@ pub(crate) fn requested<K: Keeper>(
     ensures done { (n : ℕ) → IfOk result (λ r. MayBe n core.new → carried n core.old state.old (requested core.old files.now others state.old conn bytes.now head.now) ≡ (r.0, r.1, state.new, core.new)) }
     ensures leaves { OnOk result (Leaves 3 core.old core.new) }
     ensures answer { IfOk result (λ r. IsAnswer (command_of head.now.command) r.0) }
-    ensures keeper { keeper.new ≡ keeper.old }
+    ensures keeper { HandedOn keeper.old keeper.new }
 {
     if head.next_command != 0 || head.command > LAST_COMMAND {
         return Ok(failed(alloc, SmbStatus::InvalidParameter));

@@ -2,6 +2,7 @@
 ghost use Rattle.std.specs.Prelude.{◌≡◌, ℕ, ◌≤◌, length, option_map, IfSome, IfOk, OnOk};
 ghost use Rattle.std.specs.List.{AllByRecursion};
 ghost use Rattle.xl_base.specs.Limits.{most_message_bytes};
+ghost use Rattle.xl_base.specs.Outside.{HandedOn};
 ghost use Rattle.xl_programs.specs.Sent.{FitsFrame};
 ghost use Rattle.xl_core.specs.State.{MayBe};
 ghost use Rattle.xl_front_smb.specs.FrontSmb.{sent_by, smb_step, smb_shown};
@@ -52,7 +53,7 @@ pub fn smb_step<K: Keeper>(
     ensures state { (n : ℕ) → IfOk result (λ r. MayBe n core.new → smb_step n exports.now others front.old core.old conn bytes.now ≡ (r.0, r.1, front.new, core.new)) }
     ensures leaves { OnOk result (Leaves 3 core.old core.new) }
     ensures little { IfOk result (λ r. AllByRecursion FitsFrame r.0) }
-    ensures keeper { keeper.new ≡ keeper.old }
+    ensures keeper { HandedOn keeper.old keeper.new }
 {
     let Ok(head) = read_head(bytes) else {
         return Ok((Sequence::new(alloc), Sequence::new(alloc)));

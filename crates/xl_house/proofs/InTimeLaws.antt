@@ -15,7 +15,7 @@ use Rattle.xl_base.specs.declared.event.Out.{Out}
 use Rattle.xl_base.specs.declared.journal.Entry.{Entry}
 use Rattle.xl_base.specs.declared.journal.Head.{Head}
 use Rattle.xl_house.specs.Journals.{opened_after, IsTimely, IsOrderly, IsLegal}
-use Rattle.xl_house.specs.Machine.{begin, most_connections}
+use Rattle.xl_house.specs.Machine.{start_of, most_connections}
 use Rattle.xl_house.specs.Serials.{IsHistory}
 use Rattle.xl_house.proofs.OrderLaws.{legal_orderly}
 
@@ -104,5 +104,5 @@ in_time es orderly = record {
   ending = λ before behind e number parts is past. silent_behind [] 0 number before behind e (subst (λ (xs : List Entry). IsOrderly [] 0 xs) parts orderly) is past;
 }
 
-pub legal_history : (head : Head) (es : List Entry) → IsLegal (begin head) es → IsHistory head es
+pub legal_history : (head : Head) (es : List Entry) → IsLegal (start_of head) es → IsHistory head es
 legal_history head es legal = (legal, in_time es (legal_orderly head es legal))

@@ -13,7 +13,7 @@ use Rattle.xl_core.specs.declared.lease.Times.{Times}
 use Rattle.xl_front_nlm.specs.Short.{AreShort}
 use Rattle.xl_house.specs.Awaited.{IsAwaiting, IsServed, IsServedBy}
 use Rattle.xl_house.specs.Lawful.{Always}
-use Rattle.xl_house.specs.Machine.{Whole, times_of, begin, step}
+use Rattle.xl_house.specs.Machine.{Whole, times_of, start_of, step}
 use Rattle.xl_house.specs.Journals.{replay, IsLegal, entry, entries_of, is_restart, most_entries}
 use Rattle.xl_house.specs.Free.{IsFree}
 use Rattle.xl_base.specs.Serials.{Extends}
@@ -63,7 +63,7 @@ started_short : (s : Whole) (stable : Stable) (now : Moment) (times : Times) →
 started_short s stable now times e = subst (λ (c : CoreState). AreShort c.names) (sym e) tt
 
 -- at a start
-pub begun_stands : (head : Head) (s : Whole) → s ≡ begin head → Stands (begin head) [] s
+pub begun_stands : (head : Head) (s : Whole) → s ≡ start_of head → Stands (start_of head) [] s
 begun_stands head s e = record {
   replayed = e;
   place = ap (λ (w : Whole). w.place) e;

@@ -33,7 +33,7 @@ use Rattle.xl_house.specs.Done.{own_deeds, deeds, messages}
 use Rattle.xl_house.specs.Free.{IsFree}
 use Rattle.xl_house.specs.Journals.{IsLegal, is_restart}
 use Rattle.xl_house.specs.Lawful.{Always, IsLawful, IsLawfulBy, IsWaiting, IsWaitingBy, IsGuarding, IsKept, IsKeptBy, IsOnTime, IsOnTimeBy, IsComplete, IsCaused, IsTold}
-use Rattle.xl_house.specs.Machine.{Whole, Turn, begin, step}
+use Rattle.xl_house.specs.Machine.{Whole, Turn, start_of, step}
 use Rattle.xl_house.specs.Timed.{leases_after, clock_after}
 use Rattle.xl_house.proofs.DoneLaws.{left_is, deeds_taken, own_may, owners_own, behind_follows, all_sent}
 use Rattle.xl_house.proofs.MachineLaws.{step_is, step_free, begin_free}
@@ -261,20 +261,20 @@ told_from s (e ∷ es) legal = (legal.0.1 ∙ sends_by e.stores s e.event, told_
 
 -- ---- each journal
 
-pub always_lawful : (head : Head) (es : List Entry) → Always IsLawful (begin head) es
-always_lawful head es = lawful_from (begin head) es (begin_free head)
+pub always_lawful : (head : Head) (es : List Entry) → Always IsLawful (start_of head) es
+always_lawful head es = lawful_from (start_of head) es (begin_free head)
 
-pub always_waiting : (head : Head) (es : List Entry) → Always IsWaiting (begin head) es
-always_waiting head es = waiting_from (begin head) es (begin_free head)
+pub always_waiting : (head : Head) (es : List Entry) → Always IsWaiting (start_of head) es
+always_waiting head es = waiting_from (start_of head) es (begin_free head)
 
-pub always_kept : (head : Head) (es : List Entry) → Always IsKept (begin head) es
-always_kept head es = kept_from (begin head) es (begin_free head)
+pub always_kept : (head : Head) (es : List Entry) → Always IsKept (start_of head) es
+always_kept head es = kept_from (start_of head) es (begin_free head)
 
-pub always_complete : (head : Head) (es : List Entry) → Always IsComplete (begin head) es
-always_complete head es = complete_from (begin head) es (begin_free head)
+pub always_complete : (head : Head) (es : List Entry) → Always IsComplete (start_of head) es
+always_complete head es = complete_from (start_of head) es (begin_free head)
 
-pub always_caused : (head : Head) (es : List Entry) → Always IsCaused (begin head) es
-always_caused head es = caused_from (begin head) es (begin_free head)
+pub always_caused : (head : Head) (es : List Entry) → Always IsCaused (start_of head) es
+always_caused head es = caused_from (start_of head) es (begin_free head)
 
-pub always_told : (head : Head) (es : List Entry) → IsLegal (begin head) es → Always IsTold (begin head) es
-always_told head es legal = told_from (begin head) es legal
+pub always_told : (head : Head) (es : List Entry) → IsLegal (start_of head) es → Always IsTold (start_of head) es
+always_told head es legal = told_from (start_of head) es legal

@@ -19,7 +19,7 @@ use Rattle.xl_house.specs.declared.layers.Fronts.{Fronts}
 use Rattle.xl_house.specs.Free.{IsFree, AlwaysFree}
 use Rattle.xl_house.specs.Journals.{is_restart}
 use Rattle.xl_core.specs.declared.lease.Times.{Times}
-use Rattle.xl_house.specs.Machine.{Whole, Turn, Sent, times_of, begin, behind, and_then, all_shown, rooms_of, after_turn, settled_for, settled, heard, connected, onward, turn_of, settled_turn, restarted, step}
+use Rattle.xl_house.specs.Machine.{Whole, Turn, Sent, times_of, start_of, behind, and_then, all_shown, rooms_of, after_turn, settled_for, settled, heard, connected, onward, turn_of, settled_turn, restarted, step}
 use Rattle.xl_house.specs.declared.connections.Connection.{Connection}
 use Rattle.xl_house.proofs.StillLaws.{IsStill, deeds_still}
 use Rattle.xl_house.specs.Done.{deeds}
@@ -116,16 +116,16 @@ step_free n s (Called call reply) free = turn_free n s (Called call reply) (conn
 step_free n s (Tick moment) free = turn_free n s (Tick moment) (connected s.connections s.place (Tick moment)) refl free
 step_free n s Restart free = started_free (restarted s).next (raised s.core.stable) s.core.clock (times_of s.exports) refl
 
-pub begin_free : (head : Head) → IsFree (begin head)
-begin_free head = started_free (begin head) (raised head.record) head.start (times_of head.exports) refl
+pub begin_free : (head : Head) → IsFree (start_of head)
+begin_free head = started_free (start_of head) (raised head.record) head.start (times_of head.exports) refl
 
 pub free_always : (s : Whole) (es : List Entry) → IsFree s → AlwaysFree s es
 free_always s [] free = (free, tt)
 free_always s (e ∷ es) free = (free, free_always (step e.stores s e.event).next es (step_free e.stores s e.event free))
 
 -- at each free moment of a journal
-pub begun_free : (head : Head) (es : List Entry) → AlwaysFree (begin head) es
-begun_free head es = free_always (begin head) es (begin_free head)
+pub begun_free : (head : Head) (es : List Entry) → AlwaysFree (start_of head) es
+begun_free head es = free_always (start_of head) es (begin_free head)
 
 -- ---- stores and places
 

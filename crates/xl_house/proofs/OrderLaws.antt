@@ -40,7 +40,7 @@ use Rattle.xl_house.specs.declared.layers.Fronts.{Fronts}
 use Rattle.xl_front_nlm.specs.declared.grant.Grant.{Grant}
 use Rattle.xl_house.proofs.MachineLaws.{next_place}
 use Rattle.xl_house.specs.Journals.{is_restart, IsLegal, IsOrderly, IsTimely, opened_after}
-use Rattle.xl_house.specs.Machine.{Whole, Sent, Given, begin, begun_by, begun, with_connection, without, kind_of, framed_by, framed, showing, all_shown, nfs_opens, smb_opens, rooms_of, after_turn, settled_for, settled, program_given, record_given, message_given, end_given, given_by, sent_of, heard, connected, settled_turn, step, most_connections}
+use Rattle.xl_house.specs.Machine.{Whole, Sent, Given, start_of, begun_by, begun, with_connection, without, kind_of, framed_by, framed, showing, all_shown, nfs_opens, smb_opens, rooms_of, after_turn, settled_for, settled, program_given, record_given, message_given, end_given, given_by, sent_of, heard, connected, settled_turn, step, most_connections}
 use Rattle.xl_house.specs.declared.connections.Connection.{Connection}
 
 abbrev numbers : List Connection → List ℕ
@@ -352,5 +352,5 @@ orderly s (e ∷ es) waits legal =
     )
 
 -- a legal journal from a first start is orderly
-pub legal_orderly : (head : Head) (es : List Entry) → IsLegal (begin head) es → IsOrderly [] 0 es
-legal_orderly head es legal = orderly (begin head) es (smb_waits.empty_on (IsOpen [])) legal
+pub legal_orderly : (head : Head) (es : List Entry) → IsLegal (start_of head) es → IsOrderly [] 0 es
+legal_orderly head es legal = orderly (start_of head) es (smb_waits.empty_on (IsOpen [])) legal

@@ -43,7 +43,7 @@ use Rattle.xl_house.specs.Awaited.{HasItsOpen, HaveOpens, IsAwaiting, IsServed, 
 use Rattle.xl_house.specs.Free.{IsFree}
 use Rattle.xl_house.specs.Journals.{replay}
 use Rattle.xl_house.specs.Lawful.{Always, Law}
-use Rattle.xl_house.specs.Machine.{Whole, after_turn, all_shown, begin, framed, heard, rooms_of, settled, settled_for, step}
+use Rattle.xl_house.specs.Machine.{Whole, after_turn, all_shown, start_of, framed, heard, rooms_of, settled, settled_for, step}
 use Rattle.xl_house.specs.declared.layers.Fronts.{Fronts}
 use Rattle.xl_house.proofs.AwaitedLaws.{Ready, heard_stand, settled_stand, shown_stand, turn_tells}
 use Rattle.xl_house.proofs.PairedWaiterLaws.{Stand, same_stand}
@@ -193,7 +193,7 @@ pub step_awaits : (n : ℕ) (s : Whole) (event : Event) → IsFree s → Ready s
 step_awaits n s event free ready awaiting = awaiting_by n s (step n s event).next event (step_serves n s event free ready awaiting)
 
 -- at a start nobody waits
-pub begin_awaits : (head : Head) → IsAwaiting (begin head)
+pub begin_awaits : (head : Head) → IsAwaiting (start_of head)
 begin_awaits head = record { awaits = tt; keeps = tt }
 
 -- ---- journals

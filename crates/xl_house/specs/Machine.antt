@@ -61,6 +61,10 @@ no_fronts = record { nlm = empty_front; nfs = empty_nfs_front; smb = empty_smb_f
 abbrev pub begin : Head → Whole
 begin head = record { exports = head.exports; place = 0; connections = []; front = no_fronts; core = started (raised head.record) head.start (times_of head.exports) }
 
+-- the state from which the entries of a journal with this head lead on
+abbrev pub start_of : Head → Whole
+start_of head = begin head
+
 -- what an event gives: the next state, how many stores were made, and what was sent
 pub record Turn : Type 0 where
   pub next : Whole

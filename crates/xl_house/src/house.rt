@@ -1,6 +1,7 @@
 //! The house: the machine with its journal.
 ghost use Rattle.std.specs.Prelude.{◌≡◌, ℕ, ◌+◌, ◌-◌, ◌*◌, ◌<◌, ◌≤◌, ◌^◌, [], ◌∷◌, ◌++◌, length, drop, true, false, Ok, Err, Some, None, OnOk, OnErr, IfOk, IfErr, IfSome, ◌↔◌};
 ghost use Rattle.xl_base.specs.Limits.{most_numbers};
+ghost use Rattle.xl_base.specs.Outside.{HandedOn};
 ghost use Rattle.xl_base.specs.Serials.{Extends};
 ghost use Rattle.xl_base.specs.Stable.{raised};
 ghost use Rattle.xl_core.specs.Numbers.{numbers_of};
@@ -11,7 +12,7 @@ ghost use Rattle.xl_house.specs.Free.{IsFree, AlwaysFree};
 ghost use Rattle.xl_house.specs.Housed.{Housed, is_spoiled, Holds, Stands};
 ghost use Rattle.xl_house.specs.Journals.{replay, IsLegal, IsOrderly, entry, is_restart, most_entries};
 ghost use Rattle.xl_house.specs.Lawful.{Always, IsLawful, IsWaiting, IsKept, IsComplete, IsCaused, IsTold};
-ghost use Rattle.xl_house.specs.Machine.{times_of, begin, step};
+ghost use Rattle.xl_house.specs.Machine.{times_of, start_of, step};
 ghost use Rattle.xl_house.specs.Serials.{IsHistory, MayHalt};
 ghost use Rattle.xl_house.specs.Whole.{whole_of};
 
@@ -55,7 +56,7 @@ pub struct House<K: Keeper> {
 
 impl<K: Keeper> Model for House<K> {
     ghost use Rattle.std.specs.Prelude.{◌≡◌, ◌≤◌, length, false, IfSome};
-    ghost use Rattle.xl_house.specs.Machine.{begin};
+    ghost use Rattle.xl_house.specs.Machine.{start_of};
     ghost use Rattle.xl_house.specs.Awaited.{IsServed};
     ghost use Rattle.xl_house.specs.Journals.{IsLegal, most_entries};
     ghost use Rattle.xl_house.specs.Lawful.{Always};
@@ -68,11 +69,11 @@ impl<K: Keeper> Model for House<K> {
     ghost view = { λ h. record { head = h.head; entries = h.entries; halt = h.halt; keeper = h.keeper } };
 
     ghost invariant = { λ h. record {
-      stands : is_spoiled h.halt ≡ false → Stands (begin h.head) h.entries (whole_of h.head.exports h.machine);
+      stands : is_spoiled h.halt ≡ false → Stands (start_of h.head) h.entries (whole_of h.head.exports h.machine);
       holds : is_spoiled h.halt ≡ false → Holds (K.held h.keeper) h.machine.layers.core.stable;
       few : length h.entries ≤ most_entries;
-      legal : IsLegal (begin h.head) h.entries;
-      served : Always IsServed (begin h.head) h.entries;
+      legal : IsLegal (start_of h.head) h.entries;
+      served : Always IsServed (start_of h.head) h.entries;
       halts : IfSome h.halt (λ reason. MayHalt h.entries reason);
     } };
 }
@@ -106,7 +107,7 @@ fn act_and_enter<K: Keeper>(
     ensures kept { IfErr result (λ halt. is_spoiled (Some halt) ≡ false → machine.new ≡ machine.old) }
     ensures sound { IsSound machine.old.layers.front.smb.state }
     ensures distinct { AreDistinct machine.old.layers.front.smb.state }
-    ensures keeper { keeper.new ≡ keeper.old }
+    ensures keeper { HandedOn keeper.old keeper.new }
 {
     machine.layers.front.smb.state().links();
     if entries.len() == MOST_ENTRIES {
@@ -178,15 +179,15 @@ impl<K: Keeper> House<K> {
     #[tactic(auto, using(crate::proofs::JournalLaws::legal_next, crate::proofs::JournalLaws::stands_next))]
     pub fn step(&mut self, alloc: Global, event: Event) -> Result<u64, Halt>
         requires goes_on { is_restart event ≡ false }
-        ensures ok { IfOk result (λ place. (place ≡ length self.old.entries) × (self.new ≡ record { head = self.old.head; entries = self.old.entries ++ entry 0 (replay (begin self.old.head) self.old.entries) event ∷ []; halt = None; keeper = self.old.keeper })) }
+        ensures ok { IfOk result (λ place. (place ≡ length self.old.entries) × (self.new ≡ record { head = self.old.head; entries = self.old.entries ++ entry 0 (replay (start_of self.old.head) self.old.entries) event ∷ []; halt = None; keeper = self.old.keeper })) }
         ensures below { IfOk result (λ place. place < most_entries) }
         ensures err { IfErr result (λ halt. self.new ≡ record { head = self.old.head; entries = self.old.entries; halt = Some halt; keeper = self.old.keeper }) }
         ensures stays { IfSome self.old.halt (λ halt. result ≡ Err halt) }
         ensures full { (count : ℕ) → self.old.halt ≡ None → (result ≡ Err (Halt.JournalFull count)) ↔ ((count ≡ length self.old.entries) × (length self.old.entries ≡ most_entries)) }
         ensures started { (count : ℕ) → self.old.halt ≡ None → result ≡ Err (Halt.StartStore count) → ⊥ }
         ensures may { IfErr result (λ reason. MayHalt self.old.entries reason) }
-        ensures served { OnOk result (IsServedBy 0 (replay (begin self.old.head) self.old.entries) event (replay (begin self.new.head) self.new.entries)) }
-        ensures holds { OnOk result (Holds (K.held self.new.keeper) (replay (begin self.new.head) self.new.entries).core.stable) }
+        ensures served { OnOk result (IsServedBy 0 (replay (start_of self.old.head) self.old.entries) event (replay (start_of self.new.head) self.new.entries)) }
+        ensures holds { OnOk result (Holds (K.held self.new.keeper) (replay (start_of self.new.head) self.new.entries).core.stable) }
     {
         match self.halt {
             Some(halt) => return Err(halt),
@@ -236,7 +237,7 @@ impl<K: Keeper> House<K> {
     /// A copy of the claims that are held, in the table's order. A house that ran out of memory in a step has none to tell.
     pub fn dump(&self, alloc: Global) -> Result<Vec<Claim>, AllocError>
         requires { is_spoiled self.now.halt ≡ false }
-        ensures { IfOk result (λ v. v.items ≡ (replay (begin self.now.head) self.now.entries).core.claims) }
+        ensures { IfOk result (λ v. v.items ≡ (replay (start_of self.now.head) self.now.entries).core.claims) }
     {
         self.machine.layers.core.table().claims(alloc)
     }
@@ -244,7 +245,7 @@ impl<K: Keeper> House<K> {
     /// The names that are kept, which claims name by number. A house that ran out of memory in a step has none to tell.
     pub fn names(&self) -> &Names
         requires { is_spoiled self.now.halt ≡ false }
-        ensures { result.now ≡ (replay (begin self.now.head) self.now.entries).core.names }
+        ensures { result.now ≡ (replay (start_of self.now.head) self.now.entries).core.names }
     {
         self.machine.layers.core.names()
     }
@@ -269,18 +270,18 @@ impl<K: Keeper> House<K> {
     pub fn end(self) -> (Journal, K)
         ensures journal { (result.0.head ≡ self.head) × (result.0.entries ≡ self.entries) }
         ensures keeper { result.1 ≡ self.keeper }
-        ensures legal { IsLegal (begin result.0.head) result.0.entries }
-        ensures free { AlwaysFree (begin result.0.head) result.0.entries }
-        ensures lawful { Always IsLawful (begin result.0.head) result.0.entries }
-        ensures waiting { Always IsWaiting (begin result.0.head) result.0.entries }
-        ensures kept_until_answered { Always IsKept (begin result.0.head) result.0.entries }
-        ensures complete { Always IsComplete (begin result.0.head) result.0.entries }
-        ensures caused { Always IsCaused (begin result.0.head) result.0.entries }
-        ensures told { Always IsTold (begin result.0.head) result.0.entries }
-        ensures served { Always IsServed (begin result.0.head) result.0.entries }
+        ensures legal { IsLegal (start_of result.0.head) result.0.entries }
+        ensures free { AlwaysFree (start_of result.0.head) result.0.entries }
+        ensures lawful { Always IsLawful (start_of result.0.head) result.0.entries }
+        ensures waiting { Always IsWaiting (start_of result.0.head) result.0.entries }
+        ensures kept_until_answered { Always IsKept (start_of result.0.head) result.0.entries }
+        ensures complete { Always IsComplete (start_of result.0.head) result.0.entries }
+        ensures caused { Always IsCaused (start_of result.0.head) result.0.entries }
+        ensures told { Always IsTold (start_of result.0.head) result.0.entries }
+        ensures served { Always IsServed (start_of result.0.head) result.0.entries }
         ensures orderly { IsOrderly [] 0 result.0.entries }
         ensures most { length result.0.entries ≤ most_entries }
-        ensures holds { is_spoiled self.halt ≡ false → Holds (K.held result.1) (replay (begin result.0.head) result.0.entries).core.stable }
+        ensures holds { is_spoiled self.halt ≡ false → Holds (K.held result.1) (replay (start_of result.0.head) result.0.entries).core.stable }
     {
         let House {
             head,

@@ -1,6 +1,7 @@
 //! The machine: what one event does, and what it sends.
 ghost use Rattle.std.specs.Prelude.{◌≡◌, ℕ, ◌+◌, ◌<◌, ◌≤◌, ◌^◌, true, false, map, option_map, OnOk, IfOk};
 ghost use Rattle.xl_base.specs.Limits.{most_numbers};
+ghost use Rattle.xl_base.specs.Outside.{HandedOn};
 ghost use Rattle.xl_programs.specs.Programs.{serves, shown_request, incoming_at};
 ghost use Rattle.xl_programs.specs.Sent.{sent_to};
 ghost use Rattle.xl_rpc.specs.Replies.{reply};
@@ -65,7 +66,7 @@ fn hear_nlm<K: Keeper>(
     requires ready { IsReady most_numbers layers.old.core }
     ensures heard { (n : ℕ) → IfOk result (λ outs. MayBe n layers.new.core → sent_of exports.now (with_nlm layers.old.front (nlm_step n exports.now layers.old.front.nlm layers.old.core number (shown_request request.now))) ≡ (outs, layers.new.front, layers.new.core)) }
     ensures leaves { OnOk result (Leaves most_numbers layers.old.core layers.new.core) }
-    ensures keeper { keeper.new ≡ keeper.old }
+    ensures keeper { HandedOn keeper.old keeper.new }
 {
     let (reply, effects) = nlm_step(
         alloc,
@@ -95,7 +96,7 @@ fn hear_nfs<K: Keeper>(
     requires ready { IsReady most_numbers layers.old.core }
     ensures heard { (n : ℕ) → IfOk result (λ outs. MayBe n layers.new.core → sent_of exports.now (with_nfs layers.old.front (nfs_step n exports.now (smb_opens layers.old.front) layers.old.front.nfs layers.old.core number (shown_request request.now))) ≡ (outs, layers.new.front, layers.new.core)) }
     ensures leaves { OnOk result (Leaves most_numbers layers.old.core layers.new.core) }
-    ensures keeper { keeper.new ≡ keeper.old }
+    ensures keeper { HandedOn keeper.old keeper.new }
 {
     let others = layers.front.smb.opens_held();
     let (reply, effects) = nfs_step(
@@ -141,7 +142,7 @@ fn hear_record<K: Keeper>(
     requires ready { IsReady most_numbers layers.old.core }
     ensures heard { (n : ℕ) → IfOk result (λ outs. MayBe n layers.new.core → sent_of exports.now (record_given n exports.now layers.old.front layers.old.core number (incoming_at bytes.now)) ≡ (outs, layers.new.front, layers.new.core)) }
     ensures leaves { OnOk result (Leaves most_numbers layers.old.core layers.new.core) }
-    ensures keeper { keeper.new ≡ keeper.old }
+    ensures keeper { HandedOn keeper.old keeper.new }
 {
     match read_incoming(bytes) {
         Incoming::Asked(request) => match request.program {
@@ -165,7 +166,7 @@ fn hear_packet<K: Keeper>(
     requires ready { IsReady most_numbers layers.old.core }
     ensures heard { (n : ℕ) → IfOk result (λ outs. MayBe n layers.new.core → sent_of exports.now (with_smb layers.old.front (smb_step n exports.now (nfs_opens layers.old.front) layers.old.front.smb layers.old.core number bytes.now)) ≡ (outs, layers.new.front, layers.new.core)) }
     ensures leaves { OnOk result (Leaves most_numbers layers.old.core layers.new.core) }
-    ensures keeper { keeper.new ≡ keeper.old }
+    ensures keeper { HandedOn keeper.old keeper.new }
 {
     let others = layers.front.nfs_opens();
     let (reply, effects) = smb_step(
@@ -196,7 +197,7 @@ fn hear<K: Keeper>(
     requires ready { IsReady most_numbers layers.old.core }
     ensures heard { (n : ℕ) → IfOk result (λ outs. MayBe n layers.new.core → sent_of exports.now (message_given n exports.now layers.old.front layers.old.core kind number bytes.now) ≡ (outs, layers.new.front, layers.new.core)) }
     ensures leaves { OnOk result (Leaves most_numbers layers.old.core layers.new.core) }
-    ensures keeper { keeper.new ≡ keeper.old }
+    ensures keeper { HandedOn keeper.old keeper.new }
 {
     let Some(kind) = kind else {
         return Ok(Sequence::new(alloc));
@@ -283,7 +284,7 @@ fn hear_answer<K: Keeper>(
     requires ready { IsReady most_numbers layers.old.core }
     ensures heard { (n : ℕ) → IfOk result (λ outs. MayBe n layers.new.core → sent_of exports.now (after_call layers.old.front (nlm_called n layers.old.front.nlm layers.old.core call reply.now)) ≡ (outs, layers.new.front, layers.new.core)) }
     ensures leaves { OnOk result (Leaves most_numbers layers.old.core layers.new.core) }
-    ensures keeper { keeper.new ≡ keeper.old }
+    ensures keeper { HandedOn keeper.old keeper.new }
 {
     let effects = nlm_called(
         alloc,
@@ -310,7 +311,7 @@ fn hear_tick<K: Keeper>(
     requires ready { IsReady most_numbers layers.old.core }
     ensures heard { IfOk result (λ outs. sent_of exports.now (after_tick layers.old.front (tick layers.old.core now)) ≡ (outs, layers.new.front, layers.new.core)) }
     ensures leaves { OnOk result (Leaves most_numbers layers.old.core layers.new.core) }
-    ensures keeper { keeper.new ≡ keeper.old }
+    ensures keeper { HandedOn keeper.old keeper.new }
 {
     let effects = layers.core.tick(alloc, keeper, now)?;
     nfs_tick(&mut layers.front.nfs, layers.core.clock());
@@ -332,7 +333,7 @@ fn hear_event<K: Keeper>(
     ensures leaves { OnOk result (Leaves most_numbers (step_begun machine.old.layers.core) machine.new.layers.core) }
     ensures place { machine.new.place ≡ machine.old.place }
     ensures connections { machine.new.connections.items ≡ machine.old.connections.items }
-    ensures keeper { keeper.new ≡ keeper.old }
+    ensures keeper { HandedOn keeper.old keeper.new }
 {
     machine.layers.core.begin_step();
     match event {
@@ -383,7 +384,7 @@ pub(crate) fn act<K: Keeper>(
     ensures step { IfOk result (λ outs. step 0 (whole_of exports.now machine.old) event.now ≡ record { next = whole_of exports.now machine.new; made = 0; outs = outs }) }
     ensures short { OnOk result (AreShort machine.new.layers.core.names) }
     ensures numbers { OnOk result (numbers_of machine.new.layers.core ≤ numbers_of machine.old.layers.core + most_numbers) }
-    ensures keeper { keeper.new ≡ keeper.old }
+    ensures keeper { HandedOn keeper.old keeper.new }
 {
     let mut outs = hear_event(alloc, exports, machine, keeper, event)?;
     settle(alloc, exports, &mut machine.layers, keeper, &mut outs)?;

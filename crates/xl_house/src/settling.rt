@@ -1,5 +1,6 @@
 //! Whoever waits is served when it isn't held up any more.
 ghost use Rattle.std.specs.Prelude.{◌≡◌, ℕ, OnOk};
+ghost use Rattle.xl_base.specs.Outside.{HandedOn};
 ghost use Rattle.xl_core.specs.Good.{IsSettled};
 ghost use Rattle.xl_core.specs.State.{MayBe};
 ghost use Rattle.xl_house.specs.Machine.{behind, settled};
@@ -22,7 +23,7 @@ pub(crate) fn settle<K: Keeper>(
     ensures state { (n : ℕ) → OnOk result (MayBe n layers.new.core → behind outs.old (settled n exports.now layers.old.front layers.old.core) ≡ (outs.new, layers.new.front, layers.new.core)) }
     ensures leaves { OnOk result (Leaves 0 layers.old.core layers.new.core) }
     ensures settled { OnOk result (IsSettled layers.new.core) }
-    ensures keeper { keeper.new ≡ keeper.old }
+    ensures keeper { HandedOn keeper.old keeper.new }
 {
     'turns: while let Some(effects) = layers.core.settle(alloc, keeper, &layers.front.rooms())? {
         show_all(alloc, exports, layers, effects.as_slice(), outs)?;

@@ -1,6 +1,7 @@
 //! LOCK under an open, by a lock owner that has no stateid there yet, or has one (RFC 7530 16.10).
 ghost use Rattle.std.specs.Prelude.{◌≡◌, ◌≤◌, ℕ, [], false, true, Option, None, Some, Ok, IsSome, IfSome, IfOk, OnOk, option_copied};
 ghost use Rattle.std.specs.List.{find};
+ghost use Rattle.xl_base.specs.Outside.{HandedOn};
 ghost use Rattle.xl_core.specs.State.{CoreState, MayBe};
 ghost use Rattle.xl_nfs.specs.Locks.{shown_lock_args, shown_new_locker};
 ghost use Rattle.xl_nfs.specs.Outcomes.{is_ok};
@@ -292,7 +293,7 @@ fn join_bytes<K: Keeper>(
     requires ends { args.now.offset ≤ last }
     ensures done { (n : ℕ) → IfOk result (λ r. MayBe n core.new → carried n core.old state.old (join_to state.old current (shown_lock_args args.now) both locker.now above.now had (Ok last)) ≡ (r.0, r.1, r.2, state.new, core.new)) }
     ensures leaves { OnOk result (Leaves 4 core.old core.new) }
-    ensures keeper { keeper.new ≡ keeper.old }
+    ensures keeper { HandedOn keeper.old keeper.new }
 {
     let reclaim = args.reclaim;
     let request = lock_ask(
@@ -331,7 +332,7 @@ fn join_in<K: Keeper>(
     requires had { IfSome had (λ lock. (find (is_stateid lock.number) state.old.stateids ≡ Some lock) × (lock.standing.closed ≡ false)) }
     ensures done { (n : ℕ) → IfOk result (λ r. MayBe n core.new → carried n core.old state.old (join_in state.old current (shown_lock_args args.now) both locker.now above.now had) ≡ (r.0, r.1, r.2, state.new, core.new)) }
     ensures leaves { OnOk result (Leaves 4 core.old core.new) }
-    ensures keeper { keeper.new ≡ keeper.old }
+    ensures keeper { HandedOn keeper.old keeper.new }
 {
     match lock_end(args.kind, above.standing.access, args.offset, args.len) {
         Err(status) => {
@@ -434,7 +435,7 @@ fn join_as<K: Keeper>(
     requires joined { IsJoined state.old joined }
     ensures done { (n : ℕ) → IfOk result (λ r. MayBe n core.new → carried n core.old state.old (join_as state.old current (shown_lock_args args.now) both locker.now above.now joined) ≡ (r.0, r.1, r.2, state.new, core.new)) }
     ensures leaves { OnOk result (Leaves 4 core.old core.new) }
-    ensures keeper { keeper.new ≡ keeper.old }
+    ensures keeper { HandedOn keeper.old keeper.new }
 {
     match joined {
         Joined::Bad => Ok(ended_as(alloc, NfsStatus::BadSeqid, current)),
@@ -480,7 +481,7 @@ fn join_of<K: Keeper>(
     requires owner { IsSome (find (is_owner both.number) state.old.owners) }
     ensures done { (n : ℕ) → IfOk result (λ r. MayBe n core.new → carried n core.old state.old (join_of state.old current (shown_lock_args args.now) (shown_new_locker given.now) both above.now (locker_under above.now given.now.owner.owner.now (client_in core.old state.old given.now.owner.clientid))) ≡ (r.0, r.1, r.2, state.new, core.new)) }
     ensures leaves { OnOk result (Leaves 4 core.old core.new) }
-    ensures keeper { keeper.new ≡ keeper.old }
+    ensures keeper { HandedOn keeper.old keeper.new }
 {
     let client = client_in(state, core, given.owner.clientid);
     let Some(locker) = locker_under(alloc, above, given.owner.owner, client)? else {
@@ -513,7 +514,7 @@ fn join_passed<K: Keeper>(
     requires owner { IsSome (find (is_owner both.number) state.old.owners) }
     ensures done { (n : ℕ) → IfOk result (λ r. MayBe n core.new → carried n core.old state.old (join_standing core.old state.old current (shown_lock_args args.now) (shown_new_locker given.now) both above.now (standing_fault above.now both.seqids given.now.open_stateid.seqid true)) ≡ (r.0, r.1, r.2, state.new, core.new)) }
     ensures leaves { OnOk result (Leaves 4 core.old core.new) }
-    ensures keeper { keeper.new ≡ keeper.old }
+    ensures keeper { HandedOn keeper.old keeper.new }
 {
     if let Some(status) = standing_fault(above, both.seqids, given.open_stateid.seqid, true) {
         let (owner, seqids, seqid) = (both.number, both.seqids, both.open_seqid);
@@ -543,7 +544,7 @@ fn join_checked<K: Keeper>(
     requires found { IsChecked state.old found }
     ensures done { (n : ℕ) → IfOk result (λ r. MayBe n core.new → carried n core.old state.old (join_checked core.old state.old current (shown_lock_args args.now) (shown_new_locker given.now) found) ≡ (r.0, r.1, r.2, state.new, core.new)) }
     ensures leaves { OnOk result (Leaves 4 core.old core.new) }
-    ensures keeper { keeper.new ≡ keeper.old }
+    ensures keeper { HandedOn keeper.old keeper.new }
 {
     match found {
         Checked::Refused(status) => Ok(ended_as(alloc, status, current)),
@@ -579,7 +580,7 @@ fn lock_named<K: Keeper>(
     requires ready { IsReady 4 core.old }
     ensures done { (n : ℕ) → IfOk result (λ r. MayBe n core.new → carried n core.old state.old (lock_named core.old state.old current (shown_lock_args args.now) (shown_new_locker given.now)) ≡ (r.0, r.1, r.2, state.new, core.new)) }
     ensures leaves { OnOk result (Leaves 4 core.old core.new) }
-    ensures keeper { keeper.new ≡ keeper.old }
+    ensures keeper { HandedOn keeper.old keeper.new }
 {
     let client = number_in(core, given.owner.clientid);
     renew_for(alloc, state, core, client)?;
@@ -614,7 +615,7 @@ pub(crate) fn lock_new<K: Keeper>(
     requires ready { IsReady 4 core.old }
     ensures done { (n : ℕ) → IfOk result (λ r. MayBe n core.new → carried n core.old state.old (lock_new core.old state.old current (shown_lock_args args.now) (shown_new_locker given.now)) ≡ (r.0, r.1, r.2, state.new, core.new)) }
     ensures leaves { OnOk result (Leaves 4 core.old core.new) }
-    ensures keeper { keeper.new ≡ keeper.old }
+    ensures keeper { HandedOn keeper.old keeper.new }
 {
     let client = state_client(state, core, &given.open_stateid);
     renew_for(alloc, state, core, client)?;

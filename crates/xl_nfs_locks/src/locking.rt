@@ -1,6 +1,7 @@
 //! LOCK by a lock owner that has a stateid under the open (RFC 7530 16.10).
 ghost use Rattle.std.specs.Prelude.{◌≡◌, ◌≤◌, ℕ, [], false, true, Some, IsSome, IfOk, OnOk};
 ghost use Rattle.std.specs.List.{find};
+ghost use Rattle.xl_base.specs.Outside.{HandedOn};
 ghost use Rattle.xl_core.specs.State.{CoreState, MayBe};
 ghost use Rattle.xl_nfs.specs.Locks.{shown_lock_args};
 ghost use Rattle.xl_nfs_state.specs.State.{is_owner, is_stateid};
@@ -119,7 +120,7 @@ fn lock_bytes<K: Keeper>(
     requires ends { args.now.offset ≤ last }
     ensures done { (n : ℕ) → IfOk result (λ r. MayBe n core.new → carried n core.old state.old (lock_by_owner state.old current (shown_lock_args args.now) row.now owner seqids seqid last (Some by.now)) ≡ (r.0, r.1, r.2, state.new, core.new)) }
     ensures leaves { OnOk result (Leaves 2 core.old core.new) }
-    ensures keeper { keeper.new ≡ keeper.old }
+    ensures keeper { HandedOn keeper.old keeper.new }
 {
     let reclaim = args.reclaim;
     let request = lock_ask(alloc, by, row.file, args.kind, reclaim, args.offset, last)?;
@@ -179,7 +180,7 @@ fn lock_to<K: Keeper>(
     requires open { row.now.standing.closed ≡ false }
     ensures done { (n : ℕ) → IfOk result (λ r. MayBe n core.new → carried n core.old state.old (lock_to state.old current (shown_lock_args args.now) row.now owner seqids seqid (lock_end args.now.kind access (last_byte args.now.offset args.now.len))) ≡ (r.0, r.1, r.2, state.new, core.new)) }
     ensures leaves { OnOk result (Leaves 2 core.old core.new) }
-    ensures keeper { keeper.new ≡ keeper.old }
+    ensures keeper { HandedOn keeper.old keeper.new }
 {
     match lock_end(args.kind, access, args.offset, args.len) {
         Err(status) => {
@@ -219,7 +220,7 @@ fn lock_passed<K: Keeper>(
     requires open { row.now.standing.closed ≡ false }
     ensures done { (n : ℕ) → IfOk result (λ r. MayBe n core.new → carried n core.old state.old (lock_standing state.old current (shown_lock_args args.now) row.now owner seqids known.now.seqid (standing_fault row.now seqids known.now.stateid.seqid true)) ≡ (r.0, r.1, r.2, state.new, core.new)) }
     ensures leaves { OnOk result (Leaves 2 core.old core.new) }
-    ensures keeper { keeper.new ≡ keeper.old }
+    ensures keeper { HandedOn keeper.old keeper.new }
 {
     let seqid = known.seqid;
     if let Some(status) = standing_fault(row, seqids, known.stateid.seqid, true) {
@@ -250,7 +251,7 @@ fn lock_found<K: Keeper>(
     requires found { IsChecked state.old found }
     ensures done { (n : ℕ) → IfOk result (λ r. MayBe n core.new → carried n core.old state.old (lock_found core.old state.old current (shown_lock_args args.now) known.now found) ≡ (r.0, r.1, r.2, state.new, core.new)) }
     ensures leaves { OnOk result (Leaves 2 core.old core.new) }
-    ensures keeper { keeper.new ≡ keeper.old }
+    ensures keeper { HandedOn keeper.old keeper.new }
 {
     match found {
         Checked::Refused(status) => Ok(ended_as(alloc, status, current)),
@@ -280,7 +281,7 @@ pub(crate) fn lock_known<K: Keeper>(
     requires ready { IsReady 2 core.old }
     ensures done { (n : ℕ) → IfOk result (λ r. MayBe n core.new → carried n core.old state.old (lock_known core.old state.old current (shown_lock_args args.now) known.now) ≡ (r.0, r.1, r.2, state.new, core.new)) }
     ensures leaves { OnOk result (Leaves 2 core.old core.new) }
-    ensures keeper { keeper.new ≡ keeper.old }
+    ensures keeper { HandedOn keeper.old keeper.new }
 {
     let client = state_client(state, core, &known.stateid);
     renew_for(alloc, state, core, client)?;

@@ -1,5 +1,6 @@
 //! LOCK (RFC 7530 16.10).
 ghost use Rattle.std.specs.Prelude.{◌≡◌, ℕ, IfOk, OnOk};
+ghost use Rattle.xl_base.specs.Outside.{HandedOn};
 ghost use Rattle.xl_core.specs.State.{MayBe};
 ghost use Rattle.xl_nfs.specs.Locks.{shown_lock_args};
 ghost use Rattle.xl_nfs_locks.specs.FirstLocks.{lock};
@@ -31,7 +32,7 @@ pub fn lock<K: Keeper>(
     requires ready { IsReady 4 core.old }
     ensures done { (n : ℕ) → IfOk result (λ r. MayBe n core.new → carried n core.old state.old (lock core.old state.old current (shown_lock_args args.now)) ≡ (r.0, r.1, r.2, state.new, core.new)) }
     ensures leaves { OnOk result (Leaves 4 core.old core.new) }
-    ensures keeper { keeper.new ≡ keeper.old }
+    ensures keeper { HandedOn keeper.old keeper.new }
 {
     match &args.locker {
         Locker::New(given) => {

@@ -1,5 +1,6 @@
 //! LOCKT (RFC 7530 16.11).
 ghost use Rattle.std.specs.Prelude.{◌≡◌, ◌≤◌, ℕ, IfOk, OnOk, Some};
+ghost use Rattle.xl_base.specs.Outside.{HandedOn};
 ghost use Rattle.xl_core.specs.State.{MayBe};
 ghost use Rattle.xl_nfs.specs.Locks.{shown_lock_test_args};
 ghost use Rattle.xl_nfs_locks.specs.Ranges.{last_byte};
@@ -61,7 +62,7 @@ fn test_bytes<K: Keeper>(
     requires ends { args.now.offset ≤ last }
     ensures done { (n : ℕ) → IfOk result (λ r. MayBe n core.new → carried n core.old state.now (test_to state.now current (shown_lock_test_args args.now) file by.now (Some last)) ≡ (r.0, r.1, r.2, state.now, core.new)) }
     ensures leaves { OnOk result (Leaves 2 core.old core.new) }
-    ensures keeper { keeper.new ≡ keeper.old }
+    ensures keeper { HandedOn keeper.old keeper.new }
 {
     let request = test_ask(alloc, by, file, args.kind, args.offset, last)?;
     let (said, effects) = asked(alloc, core, keeper, request)?;
@@ -84,7 +85,7 @@ fn test_to<K: Keeper>(
     requires ready { IsReady 2 core.old }
     ensures done { (n : ℕ) → IfOk result (λ r. MayBe n core.new → carried n core.old state.now (test_to state.now current (shown_lock_test_args args.now) file by.now (last_byte args.now.offset args.now.len)) ≡ (r.0, r.1, r.2, state.now, core.new)) }
     ensures leaves { OnOk result (Leaves 2 core.old core.new) }
-    ensures keeper { keeper.new ≡ keeper.old }
+    ensures keeper { HandedOn keeper.old keeper.new }
 {
     let Some(last) = last_byte(args.offset, args.len) else {
         return Ok(ended_as(alloc, NfsStatus::Inval, current));
@@ -106,7 +107,7 @@ fn test_at<K: Keeper>(
     requires ready { IsReady 2 core.old }
     ensures done { (n : ℕ) → IfOk result (λ r. MayBe n core.new → carried n core.old state.now (test_at core.old state.now (shown_lock_test_args args.now) current) ≡ (r.0, r.1, r.2, state.now, core.new)) }
     ensures leaves { OnOk result (Leaves 2 core.old core.new) }
-    ensures keeper { keeper.new ≡ keeper.old }
+    ensures keeper { HandedOn keeper.old keeper.new }
 {
     let Some(at) = current else {
         return Ok(ended_as(alloc, NfsStatus::NoFileHandle, current));
@@ -136,7 +137,7 @@ pub fn lock_test<K: Keeper>(
     requires ready { IsReady 2 core.old }
     ensures done { (n : ℕ) → IfOk result (λ r. MayBe n core.new → carried n core.old state.old (lock_test core.old state.old current (shown_lock_test_args args.now)) ≡ (r.0, r.1, r.2, state.new, core.new)) }
     ensures leaves { OnOk result (Leaves 2 core.old core.new) }
-    ensures keeper { keeper.new ≡ keeper.old }
+    ensures keeper { HandedOn keeper.old keeper.new }
 {
     let client = number_in(core, args.owner.clientid);
     renew_for(alloc, state, core, client)?;

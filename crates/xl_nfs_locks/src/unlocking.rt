@@ -1,6 +1,7 @@
 //! LOCKU (RFC 7530 16.12).
 ghost use Rattle.std.specs.Prelude.{◌≡◌, ◌≤◌, ℕ, [], false, true, Some, IsSome, IfOk, OnOk};
 ghost use Rattle.std.specs.List.{find};
+ghost use Rattle.xl_base.specs.Outside.{HandedOn};
 ghost use Rattle.xl_core.specs.State.{MayBe};
 ghost use Rattle.xl_nfs.specs.Outcomes.{is_ok};
 ghost use Rattle.xl_nfs_state.specs.State.{is_owner, is_stateid};
@@ -99,7 +100,7 @@ fn unlock_bytes<K: Keeper>(
     requires ends { args.now.offset ≤ last }
     ensures done { (n : ℕ) → IfOk result (λ r. MayBe n core.new → carried n core.old state.old (unlock_by_owner state.old current args.now row.now owner seqids last (Some by.now)) ≡ (r.0, r.1, r.2, state.new, core.new)) }
     ensures leaves { OnOk result (Leaves 2 core.old core.new) }
-    ensures keeper { keeper.new ≡ keeper.old }
+    ensures keeper { HandedOn keeper.old keeper.new }
 {
     let request = unlock_ask(alloc, by, row.file, args.offset, last)?;
     let (said, effects) = asked(alloc, core, keeper, request)?;
@@ -129,7 +130,7 @@ fn unlock_to<K: Keeper>(
     requires open { row.now.standing.closed ≡ false }
     ensures done { (n : ℕ) → IfOk result (λ r. MayBe n core.new → carried n core.old state.old (unlock_to state.old current args.now row.now owner seqids (last_byte args.now.offset args.now.len)) ≡ (r.0, r.1, r.2, state.new, core.new)) }
     ensures leaves { OnOk result (Leaves 2 core.old core.new) }
-    ensures keeper { keeper.new ≡ keeper.old }
+    ensures keeper { HandedOn keeper.old keeper.new }
 {
     let Some(last) = last_byte(args.offset, args.len) else {
         let op = operation::LOCKU;
@@ -165,7 +166,7 @@ fn unlock_passed<K: Keeper>(
     requires open { row.now.standing.closed ≡ false }
     ensures done { (n : ℕ) → IfOk result (λ r. MayBe n core.new → carried n core.old state.old (unlock_standing state.old current args.now row.now owner seqids (standing_fault row.now seqids args.now.stateid.seqid true)) ≡ (r.0, r.1, r.2, state.new, core.new)) }
     ensures leaves { OnOk result (Leaves 2 core.old core.new) }
-    ensures keeper { keeper.new ≡ keeper.old }
+    ensures keeper { HandedOn keeper.old keeper.new }
 {
     if let Some(status) = standing_fault(row, seqids, args.stateid.seqid, true) {
         let op = operation::LOCKU;
@@ -193,7 +194,7 @@ fn unlock_found<K: Keeper>(
     requires found { IsChecked state.old found }
     ensures done { (n : ℕ) → IfOk result (λ r. MayBe n core.new → carried n core.old state.old (unlock_found core.old state.old current args.now found) ≡ (r.0, r.1, r.2, state.new, core.new)) }
     ensures leaves { OnOk result (Leaves 2 core.old core.new) }
-    ensures keeper { keeper.new ≡ keeper.old }
+    ensures keeper { HandedOn keeper.old keeper.new }
 {
     match found {
         Checked::Refused(status) => Ok(ended_as(alloc, status, current)),
@@ -222,7 +223,7 @@ pub fn unlock<K: Keeper>(
     requires ready { IsReady 2 core.old }
     ensures done { (n : ℕ) → IfOk result (λ r. MayBe n core.new → carried n core.old state.old (unlock core.old state.old current args.now) ≡ (r.0, r.1, r.2, state.new, core.new)) }
     ensures leaves { OnOk result (Leaves 2 core.old core.new) }
-    ensures keeper { keeper.new ≡ keeper.old }
+    ensures keeper { HandedOn keeper.old keeper.new }
 {
     let client = state_client(state, core, &args.stateid);
     renew_for(alloc, state, core, client)?;

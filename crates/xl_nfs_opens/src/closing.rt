@@ -6,6 +6,7 @@ ghost use Rattle.xl_nfs.specs.Outcomes.{is_ok};
 ghost use Rattle.std.specs.Prelude.{◌≡◌, ℕ, false, true, None, Some, IsSome, IfSome, IfOk, OnOk};
 ghost use Rattle.std.specs.List.{find};
 ghost use Rattle.xl_base.specs.Lists.{IsIn};
+ghost use Rattle.xl_base.specs.Outside.{HandedOn};
 ghost use Rattle.xl_core.specs.State.{CoreState};
 ghost use Rattle.xl_nfs_state.specs.State.{is_owner, is_stateid};
 ghost use Rattle.xl_nfs_opens.specs.Closing.{checked, close, close_by, close_done, share_closed, confirm_by, confirm_done, deleg_return, failed, holder_returned, cache_of, next_seqids, open_confirm, opener_by, owner_checked, return_done, returned, row_checked, seqid_checked, share_of_open, standing_fault, state_told, IsChecked};
@@ -359,7 +360,7 @@ fn close_passed<K: Keeper>(
     requires open { row.now.standing.closed ≡ false }
     ensures done { (n : ℕ) → IfOk result (λ r. carried n core.old state.old (close_done core.old state.old current args.now row.now owner seqids (standing_fault row.now seqids args.now.stateid.seqid true)) ≡ (r.0, r.1, r.2, state.new, core.new)) }
     ensures leaves { OnOk result (Leaves 0 core.old core.new) }
-    ensures keeper { keeper.new ≡ keeper.old }
+    ensures keeper { HandedOn keeper.old keeper.new }
 {
     let op = operation::CLOSE;
     if let Some(status) = standing_fault(row, seqids, args.stateid.seqid, true) {
@@ -385,7 +386,7 @@ fn close_by<K: Keeper>(
     requires found { IsChecked state.old found }
     ensures done { (n : ℕ) → IfOk result (λ r. carried n core.old state.old (close_by core.old state.old current args.now found) ≡ (r.0, r.1, r.2, state.new, core.new)) }
     ensures leaves { OnOk result (Leaves 0 core.old core.new) }
-    ensures keeper { keeper.new ≡ keeper.old }
+    ensures keeper { HandedOn keeper.old keeper.new }
 {
     match found {
         Checked::Refused(status) => Ok(ended_as(alloc, status, current)),
@@ -411,7 +412,7 @@ pub fn close<K: Keeper>(
     requires ready { IsReady 2 core.old }
     ensures done { (n : ℕ) → IfOk result (λ r. carried n core.old state.old (close core.old state.old current args.now) ≡ (r.0, r.1, r.2, state.new, core.new)) }
     ensures leaves { OnOk result (Leaves 0 core.old core.new) }
-    ensures keeper { keeper.new ≡ keeper.old }
+    ensures keeper { HandedOn keeper.old keeper.new }
 {
     let client = state_client(state, core, &args.stateid);
     renew_for(alloc, state, core, client)?;

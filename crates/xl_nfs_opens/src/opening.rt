@@ -1,6 +1,7 @@
 //! OPEN (RFC 7530 16.16).
 ghost use Rattle.std.specs.Prelude.{◌≡◌, ◌||◌, ℕ, [], false, true, None, Some, IsSome, option_copied, IfOk, OnOk};
 ghost use Rattle.std.specs.List.{find};
+ghost use Rattle.xl_base.specs.Outside.{HandedOn};
 ghost use Rattle.xl_core.specs.State.{CoreState, MayBe};
 ghost use Rattle.xl_nfs.specs.Opens.{shown_open_args, shown_open_claim};
 ghost use Rattle.xl_nfs.specs.Outcomes.{is_ok};
@@ -249,7 +250,7 @@ fn open_on<K: Keeper>(
     requires ready { IsReady 4 core.old }
     ensures done { (n : ℕ) → IfOk result (λ r. MayBe n core.new → carried n core.old state.old (open_on others core.old state.old current opener.now (shown_open_args args.now) confirmed file) ≡ (r.0, r.1, r.2, state.new, core.new)) }
     ensures leaves { OnOk result (Leaves 4 core.old core.new) }
-    ensures keeper { keeper.new ≡ keeper.old }
+    ensures keeper { HandedOn keeper.old keeper.new }
 {
     if !has_room(state, others, opener, file) {
         return Ok(ended_as(alloc, NfsStatus::Resource, current));
@@ -281,7 +282,7 @@ fn open_as<K: Keeper>(
     requires ready { IsReady 4 core.old }
     ensures done { (n : ℕ) → IfOk result (λ r. MayBe n core.new → carried n core.old state.old (open_as files.now others core.old state.old (Some at) at opener.now (shown_open_args args.now) confirmed) ≡ (r.0, r.1, r.2, state.new, core.new)) }
     ensures leaves { OnOk result (Leaves 4 core.old core.new) }
-    ensures keeper { keeper.new ≡ keeper.old }
+    ensures keeper { HandedOn keeper.old keeper.new }
 {
     let current = Some(at);
     match opened_file(files, core, state, opener.client, at, args) {
@@ -316,7 +317,7 @@ fn open_anew<K: Keeper>(
     requires ready { IsReady 4 core.old }
     ensures done { (n : ℕ) → IfOk result (λ r. MayBe n core.new → carried n core.old state.old (open_judged files.now others core.old state.old (Some at) at opener.now (shown_open_args args.now) (Judged.Anew number)) ≡ (r.0, r.1, r.2, state.new, core.new)) }
     ensures leaves { OnOk result (Leaves 4 core.old core.new) }
-    ensures keeper { keeper.new ≡ keeper.old }
+    ensures keeper { HandedOn keeper.old keeper.new }
 {
     let Ok(rows) = state.list_stateids(alloc, Whose::Owner(number)) else {
         return Err(AllocError);
@@ -347,7 +348,7 @@ fn open_judged<K: Keeper>(
     requires ready { IsReady 4 core.old }
     ensures done { (n : ℕ) → IfOk result (λ r. MayBe n core.new → carried n core.old state.old (open_judged files.now others core.old state.old (Some at) at opener.now (shown_open_args args.now) judged) ≡ (r.0, r.1, r.2, state.new, core.new)) }
     ensures leaves { OnOk result (Leaves 4 core.old core.new) }
-    ensures keeper { keeper.new ≡ keeper.old }
+    ensures keeper { HandedOn keeper.old keeper.new }
 {
     match judged {
         Judged::Bad => Ok(ended_as(alloc, NfsStatus::BadSeqid, Some(at))),
@@ -405,7 +406,7 @@ fn open_at<K: Keeper>(
     requires ready { IsReady 4 core.old }
     ensures done { (n : ℕ) → IfOk result (λ r. MayBe n core.new → carried n core.old state.old (open_at files.now others core.old state.old (shown_open_args args.now) current) ≡ (r.0, r.1, r.2, state.new, core.new)) }
     ensures leaves { OnOk result (Leaves 4 core.old core.new) }
-    ensures keeper { keeper.new ≡ keeper.old }
+    ensures keeper { HandedOn keeper.old keeper.new }
 {
     let Some(at) = current else {
         return Ok(ended_as(alloc, NfsStatus::NoFileHandle, current));
@@ -446,7 +447,7 @@ fn open_claimed<K: Keeper>(
     requires ready { IsReady 4 core.old }
     ensures done { (n : ℕ) → IfOk result (λ r. MayBe n core.new → carried n core.old state.old (open_claimed files.now others core.old state.old current (shown_open_args args.now)) ≡ (r.0, r.1, r.2, state.new, core.new)) }
     ensures leaves { OnOk result (Leaves 4 core.old core.new) }
-    ensures keeper { keeper.new ≡ keeper.old }
+    ensures keeper { HandedOn keeper.old keeper.new }
 {
     let client = claim_client(state, core, &args.claim);
     renew_for(alloc, state, core, client)?;
@@ -469,7 +470,7 @@ pub fn open_file<K: Keeper>(
     requires ready { IsReady 4 core.old }
     ensures done { (n : ℕ) → IfOk result (λ r. MayBe n core.new → carried n core.old state.old (open_file files.now others core.old state.old current (shown_open_args args.now)) ≡ (r.0, r.1, r.2, state.new, core.new)) }
     ensures leaves { OnOk result (Leaves 4 core.old core.new) }
-    ensures keeper { keeper.new ≡ keeper.old }
+    ensures keeper { HandedOn keeper.old keeper.new }
 {
     let client = number_in(core, args.owner.clientid);
     renew_for(alloc, state, core, client)?;

@@ -3,6 +3,7 @@ ghost use Rattle.xl_nfs_opens.specs.Downgrades.{weakens};
 ghost use Rattle.xl_names.specs.declared.name.Name.TheVariants.{NfsShare};
 ghost use Rattle.std.specs.Prelude.{◌≡◌, ℕ, [], IfOk, IfSome, OnOk};
 ghost use Rattle.xl_base.specs.Lists.{IsIn};
+ghost use Rattle.xl_base.specs.Outside.{HandedOn};
 ghost use Rattle.xl_core.specs.Askers.{IsFit};
 ghost use Rattle.xl_core.specs.Decide.{ask};
 ghost use Rattle.xl_core.specs.Deeds.{all_done, all_told_of};
@@ -193,7 +194,7 @@ pub fn asked<K: Keeper>(
     requires ready { IsReady 2 core.old }
     ensures state { (n : ℕ) → IfOk result (λ r. MayBe n core.new → ask n all_rooms core.old request ≡ (r.0, r.1, core.new)) }
     ensures leaves { OnOk result (Leaves 2 core.old core.new) }
-    ensures keeper { keeper.new ≡ keeper.old }
+    ensures keeper { HandedOn keeper.old keeper.new }
 {
     let (answer, effects) = core.ask(alloc, keeper, &request, &ALL_ROOMS)?;
     Ok((answer, effects))

@@ -1,5 +1,6 @@
 //! Locks.
 ghost use Rattle.std.specs.Prelude.{◌≡◌, ℕ, ◌≤◌, None, length, IfOk, OnOk};
+ghost use Rattle.xl_base.specs.Outside.{HandedOn};
 ghost use Rattle.xl_core.specs.Decide.{ask};
 ghost use Rattle.xl_core.specs.State.{MayBe};
 ghost use Rattle.xl_smb_locks.specs.Elements.{lock_fault};
@@ -58,7 +59,7 @@ pub fn asked<K: Keeper>(
     requires unnamed { IsOpenAsk request }
     ensures state { (n : ℕ) → IfOk result (λ r. MayBe n core.new → ask n left.now core.old request ≡ (r.0, r.1, core.new)) }
     ensures leaves { OnOk result (Leaves 2 core.old core.new) }
-    ensures keeper { keeper.new ≡ keeper.old }
+    ensures keeper { HandedOn keeper.old keeper.new }
 {
     let (answer, effects) = core.ask(alloc, keeper, &request, left)?;
     Ok((answer, effects))
@@ -83,7 +84,7 @@ pub fn lock<K: Keeper>(
     requires some { 1 ≤ length elements.now }
     ensures state { (n : ℕ) → IfOk result (λ r. MayBe n core.new → lock_done (ask n no_rows core.old (lock_ask conn number row.now elements.now)) ≡ (r.0, r.1, core.new)) }
     ensures leaves { OnOk result (Leaves 2 core.old core.new) }
-    ensures keeper { keeper.new ≡ keeper.old }
+    ensures keeper { HandedOn keeper.old keeper.new }
 {
     let request = lock_ask(alloc, conn, number, row, elements)?;
     let (answer, effects) = asked(alloc, core, keeper, &NO_ROWS, request)?;

@@ -26,7 +26,7 @@ use Rattle.xl_front_nlm.specs.State.{FrontState}
 use Rattle.xl_front_nlm.specs.declared.outcome.Outcome.TheVariants.{Answered}
 use Rattle.xl_house.specs.Journals.{entry, entries_of}
 use Rattle.xl_house.specs.declared.layers.Fronts.{Fronts}
-use Rattle.xl_house.specs.Machine.{Whole, Turn, Sent, framed, heard, message_given, record_given, sent_of, with_nlm, kind_of, connected, with_connection, settled, settled_turn, turn_of, behind, rooms_of, begin, step}
+use Rattle.xl_house.specs.Machine.{Whole, Turn, Sent, framed, heard, message_given, record_given, sent_of, with_nlm, kind_of, connected, with_connection, settled, settled_turn, turn_of, behind, rooms_of, start_of, step}
 use Rattle.xl_house.proofs.JournalLaws.{length-entries_of}
 use Rattle.xl_house.proofs.MachineLaws.{step_is}
 use Rattle.xl_house.proofs.SettleLaws.{none_settles}
@@ -163,16 +163,16 @@ all_counted s x number (suc more) ok small =
 
 -- ---- from the start
 
-opened_is : step 0 (begin made_head) (Open Rpc) ≡ turn_of (begin made_head) (record { number = 0; kind = Rpc } ∷ []) ([], (begin made_head).front, step_begun (begin made_head).core)
+opened_is : step 0 (start_of made_head) (Open Rpc) ≡ turn_of (start_of made_head) (record { number = 0; kind = Rpc } ∷ []) ([], (start_of made_head).front, step_begun (start_of made_head).core)
 unfolding connected with_connection heard step_begun
 opened_is =
-    step_is 0 (begin made_head) (Open Rpc) refl
-    ∙ ap (λ r. turn_of (begin made_head) (record { number = 0; kind = Rpc } ∷ []) (behind [] r)) (settled_none 0 made_head.exports (begin made_head).front (step_begun (begin made_head).core) (begun_waiters (begin made_head).core refl))
+    step_is 0 (start_of made_head) (Open Rpc) refl
+    ∙ ap (λ r. turn_of (start_of made_head) (record { number = 0; kind = Rpc } ∷ []) (behind [] r)) (settled_none 0 made_head.exports (start_of made_head).front (step_begun (start_of made_head).core) (begun_waiters (start_of made_head).core refl))
   where
     begun_waiters : (s : CoreState) → s.waiters ≡ [] → (step_begun s).waiters ≡ []
     begun_waiters s none = none
 
-begun_made : IsMade (turn_of (begin made_head) (record { number = 0; kind = Rpc } ∷ []) ([], (begin made_head).front, step_begun (begin made_head).core)).next
+begun_made : IsMade (turn_of (start_of made_head) (record { number = 0; kind = Rpc } ∷ []) ([], (start_of made_head).front, step_begun (start_of made_head).core)).next
 begun_made = record {
   exports = refl;
   connections = refl;
@@ -187,10 +187,10 @@ made_counts seed count few =
     subst (λ (r : Turn). tally (record { event = Open Rpc; stores = 0; outs = r.outs } ∷ entries_of r.next (calls_from seed 1 count)) ≡ count) (sym opened_is)
     (none_first ∙ all_counted _ seed 1 count begun_made (omega (arith, few)))
   where
-    none_first : tally (record { event = Open Rpc; stores = 0; outs = [] } ∷ entries_of (turn_of (begin made_head) (record { number = 0; kind = Rpc } ∷ []) ([], (begin made_head).front, step_begun (begin made_head).core)).next (calls_from seed 1 count))
-        ≡ tally (entries_of (turn_of (begin made_head) (record { number = 0; kind = Rpc } ∷ []) ([], (begin made_head).front, step_begun (begin made_head).core)).next (calls_from seed 1 count))
+    none_first : tally (record { event = Open Rpc; stores = 0; outs = [] } ∷ entries_of (turn_of (start_of made_head) (record { number = 0; kind = Rpc } ∷ []) ([], (start_of made_head).front, step_begun (start_of made_head).core)).next (calls_from seed 1 count))
+        ≡ tally (entries_of (turn_of (start_of made_head) (record { number = 0; kind = Rpc } ∷ []) ([], (start_of made_head).front, step_begun (start_of made_head).core)).next (calls_from seed 1 count))
     none_first =
-        let rest = entries_of (turn_of (begin made_head) (record { number = 0; kind = Rpc } ∷ []) ([], (begin made_head).front, step_begun (begin made_head).core)).next (calls_from seed 1 count) in
+        let rest = entries_of (turn_of (start_of made_head) (record { number = 0; kind = Rpc } ∷ []) ([], (start_of made_head).front, step_begun (start_of made_head).core)).next (calls_from seed 1 count) in
         let first : Entry = record { event = Open Rpc; stores = 0; outs = [] } in
         let grants : granted (first ∷ rest) ≡ 0 + granted rest = sum_by-cons (λ (d : Entry). if is_granted (told_status d.outs) then 1 else 0) first rest in
         let denies : denied (first ∷ rest) ≡ 0 + denied rest = sum_by-cons (λ (d : Entry). if is_denied (told_status d.outs) then 1 else 0) first rest in
@@ -204,7 +204,7 @@ length_calls x number (suc more) = omega (arith, length_calls (fourth x) (number
 -- the opening and each call have an entry
 pub made_length : (seed count : ℕ) → length (made_entries seed count) ≡ count + 1
 unfolding made_entries
-made_length seed count = omega (arith, length-entries_of (begin made_head) (made seed count), length_calls seed 1 count)
+made_length seed count = omega (arith, length-entries_of (start_of made_head) (made seed count), length_calls seed 1 count)
 
 pub journal_counts : (seed count : ℕ) (journal : Journal) → count ≤ most_made → journal ≡ made_journal seed count → (length journal.entries ≡ count + 1) × (granted journal.entries + denied journal.entries ≡ count)
 journal_counts seed count journal few e =

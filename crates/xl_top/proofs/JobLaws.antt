@@ -12,29 +12,29 @@ use Rattle.xl_top.specs.Job.{is_done, is_full, AreSteps, transcript_from, whole_
 use Rattle.xl_capture.specs.Capture.{captured}
 use Rattle.xl_capture.proofs.PlainLaws.{is_plain, captured_plain}
 use Rattle.xl_house.specs.Journals.{replay, entries_of, most_entries, is_restart}
-use Rattle.xl_house.specs.Machine.{begin}
+use Rattle.xl_house.specs.Machine.{start_of}
 use Rattle.xl_house.proofs.JournalLaws.{front}
 use Rattle.xl_capture.specs.declared.capture.Capture.{Capture}
 
 abbrev journal_with : Head → List Entry → Journal
 journal_with head entries = record { head = head; entries = entries }
 
-pub same_journal : (c : Capture) (journal : Journal) → journal.head ≡ head_of c → journal.entries ≡ entries_of (begin (head_of c)) c.events → journal ≡ journal_of c
+pub same_journal : (c : Capture) (journal : Journal) → journal.head ≡ head_of c → journal.entries ≡ entries_of (start_of (head_of c)) c.events → journal ≡ journal_of c
 same_journal c journal head entries = ap (λ (h : Head). journal_with h journal.entries) head ∙ ap (journal_with (head_of c)) entries
 
 pub same_transcript : (journal : Journal) (head : Head) (es : List Entry) → journal.head ≡ head → journal.entries ≡ es → transcript_from head es ≡ whole_transcript journal
 same_transcript journal head es h e = ap (λ (x : Head). transcript_from x es) (sym h) ∙ ap (λ (x : List Entry). transcript_from journal.head x) (sym e)
 
-pub begins : (c : Capture) (journal : Journal) → journal.head ≡ head_of c → take (length journal.entries) (entries_of (begin (head_of c)) c.events) ≡ journal.entries → BeginsAs c journal
+pub begins : (c : Capture) (journal : Journal) → journal.head ≡ head_of c → take (length journal.entries) (entries_of (start_of (head_of c)) c.events) ≡ journal.entries → BeginsAs c journal
 begins c journal head entries = record { entries = entries; head = λ some. head }
 
 -- what was stepped from a start is a beginning of what the capture gives, at an error too
 pub begins_stepped : (c : Capture) (head : Head) (old new : List Entry) (events : List Event) (ended : Result (Unit {0}) Halt) → head ≡ head_of c → old ≡ [] → events ≡ c.events
-    → OnOk ended (new ≡ old ++ entries_of (replay (begin head) old) events) → OnErr ended (take (length new) (old ++ entries_of (replay (begin head) old) events) ≡ new)
-    → take (length new) (entries_of (begin (head_of c)) c.events) ≡ new
+    → OnOk ended (new ≡ old ++ entries_of (replay (start_of head) old) events) → OnErr ended (take (length new) (old ++ entries_of (replay (start_of head) old) events) ≡ new)
+    → take (length new) (entries_of (start_of (head_of c)) c.events) ≡ new
 begins_stepped c head old new events (Ok done) same none are ok err =
-    front new [] (entries_of (begin (head_of c)) c.events) (append-nil new ∙ ok ∙ (λ i. none i ++ entries_of (replay (begin (same i)) (none i)) (are i)))
-begins_stepped c head old new events (Err halt) same none are ok err = sym (λ i. take (length new) (none i ++ entries_of (replay (begin (same i)) (none i)) (are i))) ∙ err
+    front new [] (entries_of (start_of (head_of c)) c.events) (append-nil new ∙ ok ∙ (λ i. none i ++ entries_of (replay (start_of (same i)) (none i)) (are i)))
+begins_stepped c head old new events (Err halt) same none are ok err = sym (λ i. take (length new) (none i ++ entries_of (replay (start_of (same i)) (none i)) (are i))) ∙ err
 
 -- what holds where all was stepped, and what holds where the journal is full
 pub done_gives : (ended : Result (Unit {0}) Halt) (P : Type 0) → is_done ended ≡ true → OnOk ended P → P
@@ -48,13 +48,13 @@ full_gives (Err (halts.JournalFull count)) P is each = each count refl
 full_gives (Err (halts.StartStore count)) P is each = absurd cc
 
 -- the journal of a house that stepped a capture
-pub all_stepped : (c : Capture) (journal : Journal) (head : Head) (es : List Entry) (ended : Result (Unit {0}) Halt) → journal.head ≡ head → journal.entries ≡ es → head ≡ head_of c → OnOk ended (es ≡ entries_of (begin (head_of c)) c.events) → is_done ended ≡ true → journal ≡ journal_of c
-all_stepped c journal head es ended same entered is ok done = same_journal c journal (same ∙ is) (entered ∙ done_gives ended (es ≡ entries_of (begin (head_of c)) c.events) done ok)
+pub all_stepped : (c : Capture) (journal : Journal) (head : Head) (es : List Entry) (ended : Result (Unit {0}) Halt) → journal.head ≡ head → journal.entries ≡ es → head ≡ head_of c → OnOk ended (es ≡ entries_of (start_of (head_of c)) c.events) → is_done ended ≡ true → journal ≡ journal_of c
+all_stepped c journal head es ended same entered is ok done = same_journal c journal (same ∙ is) (entered ∙ done_gives ended (es ≡ entries_of (start_of (head_of c)) c.events) done ok)
 
-pub begun_stepped : (c : Capture) (journal : Journal) (head : Head) (es : List Entry) → journal.head ≡ head → journal.entries ≡ es → head ≡ head_of c → take (length es) (entries_of (begin (head_of c)) c.events) ≡ es → BeginsAs c journal
-begun_stepped c journal head es same entered is begun = begins c journal (same ∙ is) (subst (λ (xs : List Entry). take (length xs) (entries_of (begin (head_of c)) c.events) ≡ xs) (sym entered) begun)
+pub begun_stepped : (c : Capture) (journal : Journal) (head : Head) (es : List Entry) → journal.head ≡ head → journal.entries ≡ es → head ≡ head_of c → take (length es) (entries_of (start_of (head_of c)) c.events) ≡ es → BeginsAs c journal
+begun_stepped c journal head es same entered is begun = begins c journal (same ∙ is) (subst (λ (xs : List Entry). take (length xs) (entries_of (start_of (head_of c)) c.events) ≡ xs) (sym entered) begun)
 
-pub full_stepped : (c : Capture) (journal : Journal) (head : Head) (es : List Entry) (ended : Result (Unit {0}) Halt) → journal.head ≡ head → journal.entries ≡ es → head ≡ head_of c → take (length es) (entries_of (begin (head_of c)) c.events) ≡ es
+pub full_stepped : (c : Capture) (journal : Journal) (head : Head) (es : List Entry) (ended : Result (Unit {0}) Halt) → journal.head ≡ head → journal.entries ≡ es → head ≡ head_of c → take (length es) (entries_of (start_of (head_of c)) c.events) ≡ es
     → ((count : ℕ) → ended ≡ Err (halts.JournalFull count) → (length es ≡ most_entries) × (most_entries < length c.events)) → is_full ended ≡ true → IsCutAt most_entries (Ok c) journal
 full_stepped c journal head es ended same entered is begun each full =
     let both = full_gives ended ((length es ≡ most_entries) × (most_entries < length c.events)) full each in

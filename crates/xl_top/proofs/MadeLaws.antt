@@ -9,7 +9,7 @@ use Rattle.xl_base.specs.declared.journal.Head.{Head}
 use Rattle.xl_base.specs.declared.journal.Journal.{Journal}
 use Rattle.xl_top.specs.Job.{no_journal}
 use Rattle.xl_house.specs.Journals.{replay, entry, entries_of}
-use Rattle.xl_house.specs.Machine.{begin}
+use Rattle.xl_house.specs.Machine.{start_of}
 use Rattle.xl_house.proofs.JournalLaws.{stepped}
 use Rattle.xl_top.specs.declared.make.Draws.{Draws}
 use Rattle.xl_top.specs.Made.{IsMadePart, next, draw, fourth, call_by, call_from, record_of, calls_from, made_entries, made_head, made_journal, summary_from, whole_summary}
@@ -51,21 +51,21 @@ unfolding call_from
 drawn_event x number draws e = ap (λ (d : Draws). Message 0 (record_of number (call_by d.first d.second d.third d.fourth))) e
 
 -- one call more is entered
-pub call_stepped : (head at : Head) (es new : List Entry) (x y number left : ℕ) (event : Event) (whole : List Entry) → at ≡ head → new ≡ es ++ entry 0 (replay (begin head) es) event ∷ []
-    → event ≡ Message 0 (record_of number (call_from x)) → y ≡ fourth x → 0 < left → es ++ entries_of (replay (begin head) es) (calls_from x number left) ≡ whole
-    → new ++ entries_of (replay (begin at) new) (calls_from y (number + 1) (left - 1)) ≡ whole
+pub call_stepped : (head at : Head) (es new : List Entry) (x y number left : ℕ) (event : Event) (whole : List Entry) → at ≡ head → new ≡ es ++ entry 0 (replay (start_of head) es) event ∷ []
+    → event ≡ Message 0 (record_of number (call_from x)) → y ≡ fourth x → 0 < left → es ++ entries_of (replay (start_of head) es) (calls_from x number left) ≡ whole
+    → new ++ entries_of (replay (start_of at) new) (calls_from y (number + 1) (left - 1)) ≡ whole
 call_stepped head at es new x y number left event whole same entered is last some before =
-    (λ i. entered i ++ entries_of (replay (begin (same i)) (entered i)) (calls_from (last i) (number + 1) (left - 1)))
-    ∙ stepped (begin head) es event (calls_from (fourth x) (number + 1) (left - 1))
-    ∙ ap (λ (e : Event). es ++ entries_of (replay (begin head) es) (e ∷ calls_from (fourth x) (number + 1) (left - 1))) is
-    ∙ ap (λ (es' : List Event). es ++ entries_of (replay (begin head) es) es') (sym (next_call x number left some))
+    (λ i. entered i ++ entries_of (replay (start_of (same i)) (entered i)) (calls_from (last i) (number + 1) (left - 1)))
+    ∙ stepped (start_of head) es event (calls_from (fourth x) (number + 1) (left - 1))
+    ∙ ap (λ (e : Event). es ++ entries_of (replay (start_of head) es) (e ∷ calls_from (fourth x) (number + 1) (left - 1))) is
+    ∙ ap (λ (es' : List Event). es ++ entries_of (replay (start_of head) es) es') (sym (next_call x number left some))
     ∙ before
 
 -- no call is left
-pub none_left : (head : Head) (es : List Entry) (x number left : ℕ) (whole : List Entry) → left ≡ 0 → es ++ entries_of (replay (begin head) es) (calls_from x number left) ≡ whole → es ≡ whole
+pub none_left : (head : Head) (es : List Entry) (x number left : ℕ) (whole : List Entry) → left ≡ 0 → es ++ entries_of (replay (start_of head) es) (calls_from x number left) ≡ whole → es ≡ whole
 unfolding calls_from
 none_left head es x number left whole none before =
-    sym (append-nil es) ∙ ap (λ (n : ℕ). es ++ entries_of (replay (begin head) es) (calls_from x number n)) (sym none) ∙ before
+    sym (append-nil es) ∙ ap (λ (n : ℕ). es ++ entries_of (replay (start_of head) es) (calls_from x number n)) (sym none) ∙ before
 
 -- ---- its summary
 

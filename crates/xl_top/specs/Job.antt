@@ -12,7 +12,7 @@ use Rattle.xl_base.specs.declared.journal.Journal.{Journal}
 use Rattle.xl_capture.specs.Capture.{default_lease, default_grace, default_break, most_bytes, no_lines}
 use Rattle.xl_house.specs.Journals.{entries_of, replay, is_restart}
 use Rattle.xl_capture.specs.Transcript.{transcript}
-use Rattle.xl_house.specs.Machine.{Whole, begin}
+use Rattle.xl_house.specs.Machine.{Whole, start_of}
 use Rattle.xl_capture.specs.declared.capture.Capture.{Capture}
 
 -- the statuses that an ending has
@@ -72,7 +72,7 @@ head_of c = head_with (exports_of c)
 
 -- the journal that a capture's events make
 abbrev pub journal_of : Capture → Journal
-journal_of c = record { head = head_of c; entries = entries_of (begin (head_of c)) c.events }
+journal_of c = record { head = head_of c; entries = entries_of (start_of (head_of c)) c.events }
 
 -- the journal of a run that stepped nothing (TEXT-12)
 abbrev pub no_journal : Journal
@@ -102,7 +102,7 @@ abbrev pub transcript_with : List Entry → Whole → List ℕ
 transcript_with es s = transcript es s.core.claims s.core.names
 
 abbrev pub transcript_from : Head → List Entry → List ℕ
-transcript_from head es = transcript_with es (replay (begin head) es)
+transcript_from head es = transcript_with es (replay (start_of head) es)
 
 -- the transcript of a whole journal: its outs, and what is held after it
 abbrev pub whole_transcript : Journal → List ℕ

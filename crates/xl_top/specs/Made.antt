@@ -15,7 +15,7 @@ use Rattle.xl_nlm.specs.Granted.{no_auth}
 use Rattle.xl_nlm.specs.Items.{LockItem, CallItem, Test, Lock, Unlock}
 use Rattle.xl_capture.specs.Summary.{summary}
 use Rattle.xl_house.specs.Journals.{entries_of, replay}
-use Rattle.xl_house.specs.Machine.{begin}
+use Rattle.xl_house.specs.Machine.{start_of}
 use Rattle.xl_top.specs.Job.{exports_with, head_with}
 
 -- ---- draws: a linear congruential generator below 2 ^ 31, whose upper bits are drawn
@@ -79,7 +79,7 @@ abbrev pub made_head : Head
 made_head = head_with (exports_with made_files [])
 
 unfoldable pub made_entries : ℕ → ℕ → List Entry
-made_entries seed count = entries_of (begin made_head) (made seed count)
+made_entries seed count = entries_of (start_of made_head) (made seed count)
 
 abbrev pub made_journal : ℕ → ℕ → Journal
 made_journal seed count = record { head = made_head; entries = made_entries seed count }
@@ -92,7 +92,7 @@ pub record IsMadePart (seed count : ℕ) (journal : Journal) : Type 0 where
 -- ---- its summary
 
 abbrev pub summary_from : Head → List Entry → List ℕ
-summary_from head es = summary es (replay (begin head) es).core.claims
+summary_from head es = summary es (replay (start_of head) es).core.claims
 
 abbrev pub whole_summary : Journal → List ℕ
 whole_summary journal = summary_from journal.head journal.entries

@@ -7,7 +7,7 @@ ghost use Rattle.xl_nlm.specs.Arguments.{CallFits, procedure_of};
 ghost use Rattle.xl_nlm.specs.Items.{shown_lock, shown_call};
 ghost use Rattle.xl_house.specs.Housed.{Housed, is_spoiled};
 ghost use Rattle.xl_house.specs.Journals.{replay, entries_of, most_entries};
-ghost use Rattle.xl_house.specs.Machine.{begin};
+ghost use Rattle.xl_house.specs.Machine.{start_of};
 ghost use Rattle.xl_top.specs.Words.{most_made};
 ghost use Rattle.xl_top.specs.Made.{next, draw, fourth, exclusive_by, lock_by, asked_by, call_by, call_from, head_to, record_of, calls_from, made, made_files, made_head, made_entries};
 
@@ -175,8 +175,8 @@ fn step_calls(alloc: Global, house: &mut House<SureKeeper>, x: u32, count: u32) 
     requires seed { x < 2 ^ 31 }
     requires few { count ≤ most_made }
     ensures head { house.new.head ≡ house.old.head }
-    ensures ok { OnOk result (house.new.entries ≡ house.old.entries ++ entries_of (replay (begin house.old.head) house.old.entries) (calls_from x 1 count)) }
-    ensures err { OnErr result (take (length house.new.entries) (house.old.entries ++ entries_of (replay (begin house.old.head) house.old.entries) (calls_from x 1 count)) ≡ house.new.entries) }
+    ensures ok { OnOk result (house.new.entries ≡ house.old.entries ++ entries_of (replay (start_of house.old.head) house.old.entries) (calls_from x 1 count)) }
+    ensures err { OnErr result (take (length house.new.entries) (house.old.entries ++ entries_of (replay (start_of house.old.head) house.old.entries) (calls_from x 1 count)) ≡ house.new.entries) }
     ensures unspoiled { OnOk result (is_spoiled house.new.halt ≡ false) }
     ensures memory { IfErr result (λ halt. halt ≡ Halt.NoMemory) }
 {
@@ -211,8 +211,8 @@ fn step_made(
     requires seed { seed < 2 ^ 31 }
     requires few { count ≤ most_made }
     ensures head { house.new.head ≡ house.old.head }
-    ensures ok { OnOk result (house.new.entries ≡ entries_of (begin house.old.head) (made seed count)) }
-    ensures err { OnErr result (take (length house.new.entries) (entries_of (begin house.old.head) (made seed count)) ≡ house.new.entries) }
+    ensures ok { OnOk result (house.new.entries ≡ entries_of (start_of house.old.head) (made seed count)) }
+    ensures err { OnErr result (take (length house.new.entries) (entries_of (start_of house.old.head) (made seed count)) ≡ house.new.entries) }
     ensures unspoiled { OnOk result (is_spoiled house.new.halt ≡ false) }
     ensures memory { IfErr result (λ halt. halt ≡ Halt.NoMemory) }
 {

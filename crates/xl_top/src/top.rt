@@ -8,7 +8,7 @@ ghost use Rattle.xl_house.specs.Awaited.{IsServed};
 ghost use Rattle.xl_house.specs.Free.{AlwaysFree};
 ghost use Rattle.xl_house.specs.Housed.{Housed, is_spoiled};
 ghost use Rattle.xl_house.specs.Journals.{replay, IsLegal, IsOrderly, entries_of, most_entries};
-ghost use Rattle.xl_house.specs.Machine.{begin};
+ghost use Rattle.xl_house.specs.Machine.{start_of};
 ghost use Rattle.xl_top.specs.Job.{is_status, is_stepped, is_read, is_replay, is_shown, is_show, is_made, is_idle, AddsShown, BeginsShown, capped, head_of, journal_of, no_journal, IsReplayed, IsBegun, BeginsAs, IsCutAt, AreSteps, is_whole, is_done, is_full, transcript_from, whole_transcript};
 ghost use Rattle.xl_capture.specs.Show.{shown};
 ghost use Rattle.xl_capture.specs.Summary.{granted, denied};
@@ -109,8 +109,8 @@ fn step_all(alloc: Global, house: &mut House<SureKeeper>, events: Vec<Event>) ->
     requires goes { house.old.halt ≡ None }
     requires steps { AreSteps events.items }
     ensures head { house.new.head ≡ house.old.head }
-    ensures ok { OnOk result (house.new.entries ≡ house.old.entries ++ entries_of (replay (begin house.old.head) house.old.entries) events.items) }
-    ensures err { OnErr result (take (length house.new.entries) (house.old.entries ++ entries_of (replay (begin house.old.head) house.old.entries) events.items) ≡ house.new.entries) }
+    ensures ok { OnOk result (house.new.entries ≡ house.old.entries ++ entries_of (replay (start_of house.old.head) house.old.entries) events.items) }
+    ensures err { OnErr result (take (length house.new.entries) (house.old.entries ++ entries_of (replay (start_of house.old.head) house.old.entries) events.items) ≡ house.new.entries) }
     ensures full { (count : ℕ) → result ≡ Err (Halt.JournalFull count) → (length house.new.entries ≡ most_entries) × (most_entries < length house.old.entries + length events.items) }
     ensures unspoiled { OnOk result (is_spoiled house.new.halt ≡ false) }
     ensures unspoiled_full { (count : ℕ) → result ≡ Err (Halt.JournalFull count) → is_spoiled house.new.halt ≡ false }
@@ -156,8 +156,8 @@ fn write_whole<O: Sink>(alloc: Global, house: &House<SureKeeper>, out: &mut O) -
 /// The journal of a house that steps no more.
 fn journal_in(house: House<SureKeeper>) -> Journal
     ensures journal { (result.head ≡ house.head) × (result.entries ≡ house.entries) }
-    ensures legal { IsLegal (begin result.head) result.entries }
-    ensures served { Always IsServed (begin result.head) result.entries }
+    ensures legal { IsLegal (start_of result.head) result.entries }
+    ensures served { Always IsServed (start_of result.head) result.entries }
     ensures orderly { IsOrderly [] 0 result.entries }
     ensures most { length result.entries ≤ most_entries }
 {
@@ -190,8 +190,8 @@ fn idle(alloc: Global, status: u8, line: u64) -> Done
 fn step_capture(alloc: Global, capture: Capture) -> Option<(House<SureKeeper>, Result<(), Halt>)>
     requires { AreSteps capture.events }
     ensures head { IfSome result (λ r. r.0.head ≡ head_of capture) }
-    ensures ok { IfSome result (λ r. OnOk r.1 (r.0.entries ≡ entries_of (begin (head_of capture)) capture.events)) }
-    ensures begun { IfSome result (λ r. take (length r.0.entries) (entries_of (begin (head_of capture)) capture.events) ≡ r.0.entries) }
+    ensures ok { IfSome result (λ r. OnOk r.1 (r.0.entries ≡ entries_of (start_of (head_of capture)) capture.events)) }
+    ensures begun { IfSome result (λ r. take (length r.0.entries) (entries_of (start_of (head_of capture)) capture.events) ≡ r.0.entries) }
     ensures full { IfSome result (λ r. (count : ℕ) → r.1 ≡ Err (Halt.JournalFull count) → (length r.0.entries ≡ most_entries) × (most_entries < length capture.events)) }
     ensures whole { IfSome result (λ r. is_whole r.1 ≡ true → is_spoiled r.0.halt ≡ false) }
     ensures started { IfSome result (λ r. (count : ℕ) → r.1 ≡ Err (Halt.StartStore count) → ⊥) }
@@ -266,8 +266,8 @@ fn replay<O: Sink>(alloc: Global, capture: Capture, out: &mut O) -> Done
     ensures failed { result.status ≡ 3 → Rose (O.faults out.old) (O.faults out.new) }
     ensures still { result.status ≢ 3 → result.status ≢ 7 → O.faults out.new ≡ O.faults out.old }
     ensures written_full { result.status ≡ 7 → (Rose (O.faults out.old) (O.faults out.new) → ⊥) → Added (O.held out.old) (whole_transcript result.journal) (O.held out.new) }
-    ensures legal { IsLegal (begin result.journal.head) result.journal.entries }
-    ensures served { Always IsServed (begin result.journal.head) result.journal.entries }
+    ensures legal { IsLegal (start_of result.journal.head) result.journal.entries }
+    ensures served { Always IsServed (start_of result.journal.head) result.journal.entries }
     ensures orderly { IsOrderly [] 0 result.journal.entries }
     ensures most { length result.journal.entries ≤ most_entries }
 {
@@ -299,8 +299,8 @@ fn replay_text<O: Sink>(alloc: Global, text: &[u8], out: &mut O) -> Done
     ensures still { result.status ≢ 3 → result.status ≢ 7 → O.faults out.new ≡ O.faults out.old }
     ensures written_full { result.status ≡ 7 → (Rose (O.faults out.old) (O.faults out.new) → ⊥) → Added (O.held out.old) (whole_transcript result.journal) (O.held out.new) }
     ensures idle { result.status ≡ 4 → (result.journal ≡ no_journal) × (O.held out.new ≡ O.held out.old) }
-    ensures legal { IsLegal (begin result.journal.head) result.journal.entries }
-    ensures served { Always IsServed (begin result.journal.head) result.journal.entries }
+    ensures legal { IsLegal (start_of result.journal.head) result.journal.entries }
+    ensures served { Always IsServed (start_of result.journal.head) result.journal.entries }
     ensures orderly { IsOrderly [] 0 result.journal.entries }
     ensures most { length result.journal.entries ≤ most_entries }
 {
@@ -330,8 +330,8 @@ fn replay_input<I: Source, O: Sink>(alloc: Global, input: &mut I, out: &mut O) -
     ensures written { result.status ≡ 0 → Added (O.held out.old) (whole_transcript result.journal) (O.held out.new) }
     ensures began { Began (O.held out.old) (whole_transcript result.journal) (O.held out.new) }
     ensures idle { is_idle result.status ≡ true → (result.journal ≡ no_journal) × (O.held out.new ≡ O.held out.old) }
-    ensures legal { IsLegal (begin result.journal.head) result.journal.entries }
-    ensures served { Always IsServed (begin result.journal.head) result.journal.entries }
+    ensures legal { IsLegal (start_of result.journal.head) result.journal.entries }
+    ensures served { Always IsServed (start_of result.journal.head) result.journal.entries }
     ensures orderly { IsOrderly [] 0 result.journal.entries }
     ensures most { length result.journal.entries ≤ most_entries }
 {
@@ -449,8 +449,8 @@ fn make<O: Sink>(alloc: Global, seed: u32, count: u32, out: &mut O) -> Done
     ensures began { Began (O.held out.old) (whole_summary result.journal) (O.held out.new) }
     ensures failed { result.status ≡ 3 → Rose (O.faults out.old) (O.faults out.new) }
     ensures still { result.status ≢ 3 → O.faults out.new ≡ O.faults out.old }
-    ensures legal { IsLegal (begin result.journal.head) result.journal.entries }
-    ensures served { Always IsServed (begin result.journal.head) result.journal.entries }
+    ensures legal { IsLegal (start_of result.journal.head) result.journal.entries }
+    ensures served { Always IsServed (start_of result.journal.head) result.journal.entries }
     ensures orderly { IsOrderly [] 0 result.journal.entries }
     ensures most { length result.journal.entries ≤ most_entries }
 {
@@ -519,13 +519,13 @@ pub fn run<I: Source, O: Sink>(alloc: Global, words: &[String], input: &mut I, o
     ensures made_alone { (seed count : ℕ) → job (map string_bytes words.now) ≡ Some (Job.Make seed count) → (is_made result.status ≡ true) × (I.left input.new ≡ I.left input.old) }
 
     // Each entry is what the machine's step gives. Nothing is sent to a connection before its opening or after its end.
-    ensures legal { IsLegal (begin result.journal.head) result.journal.entries }
+    ensures legal { IsLegal (start_of result.journal.head) result.journal.entries }
     ensures orderly { IsOrderly [] 0 result.journal.entries }
     ensures most { length result.journal.entries ≤ most_entries }
 
     // Before the first event and after each, any two held claims may be held together, each owner's ranges are sorted maximal
     // runs, and nobody who waits could be served.
-    ensures free { AlwaysFree (begin result.journal.head) result.journal.entries }
+    ensures free { AlwaysFree (start_of result.journal.head) result.journal.entries }
 
     // lawful: an event changes an owner's bytes and shares only by what the owner did in it, was granted after a wait, or lost
     // with its lease or its connection; it changes a lease only by a renewal or the client's expiry.
@@ -536,16 +536,16 @@ pub fn run<I: Source, O: Sink>(alloc: Global, words: &[String], input: &mut I, o
     // refused or waits. A reading of the clock ends each break and lets each client expire that is due by then.
     // caused: an event does only what such an event may do, and only for the clients that it names.
     // told: what is sent follows from what the event did and what it was answered.
-    ensures lawful { Always IsLawful (begin result.journal.head) result.journal.entries }
-    ensures waiting { Always IsWaiting (begin result.journal.head) result.journal.entries }
-    ensures kept_until_answered { Always IsKept (begin result.journal.head) result.journal.entries }
-    ensures complete { Always IsComplete (begin result.journal.head) result.journal.entries }
-    ensures caused { Always IsCaused (begin result.journal.head) result.journal.entries }
-    ensures told { Always IsTold (begin result.journal.head) result.journal.entries }
+    ensures lawful { Always IsLawful (start_of result.journal.head) result.journal.entries }
+    ensures waiting { Always IsWaiting (start_of result.journal.head) result.journal.entries }
+    ensures kept_until_answered { Always IsKept (start_of result.journal.head) result.journal.entries }
+    ensures complete { Always IsComplete (start_of result.journal.head) result.journal.entries }
+    ensures caused { Always IsCaused (start_of result.journal.head) result.journal.entries }
+    ensures told { Always IsTold (start_of result.journal.head) result.journal.entries }
 
     // Each request of SMB that waits has a waiter in the core, and each waiter of an SMB open has its request. If a CREATE or a
     // LOCK that waited is granted, its open is there, and its final reply says that it succeeded.
-    ensures served { Always IsServed (begin result.journal.head) result.journal.entries }
+    ensures served { Always IsServed (start_of result.journal.head) result.journal.entries }
 {
     match parse(alloc, words) {
         Ok(Job::Replay) => replay_input(alloc, input, out),

@@ -1,4 +1,5 @@
-use Rattle.std.proofs.Common.{◌≡◌, List, Option, Ok, ap, ◌∙◌}
+use Rattle.std.proofs.Common.{◌≡◌, List, Option, Ok, ap}
+use Rattle.xl_base.proofs.KeeperLaws.{handed_twice}
 use Rattle.xl_core.specs.declared.ask.Effect.{Effect}
 use Rattle.xl_house.proofs.SettleLaws.{settling_numbers, turn_ready, turn_smaller, turn_preserves, ended_state, ended_settled, ended_leaves}
 use Rattle.xl_house.proofs.settling.settle.Goals as goal
@@ -23,7 +24,7 @@ turns-smaller g c =
 pub turns-preserved : goal.turns-preserved
 turns-preserved g c = (
   turn_preserves c.args.exports.now c.args.layers.now.front c.args.layers.now.core c.args.outs.now c.turns.layers.front c.show_all.new.layers.front c.turns.layers.core c.settle.new.self c.show_all.new.layers.core c.turns.outs c.show_all.new.outs c.in_ok-effects.field-0 c.in-Some.effects c.turns.invariant.0 c.turns.invariant.1.0 (λ n may. rw (← c.rooms.ensures) (c.in_ok-effects.ensures.state n may)) c.in-Some.is c.in_ok-effects.ensures.on (rw (← c.as_slice.ensures) c.in_ok-show_all.ensures.sent),
-  (c.in_ok-show_all.ensures.leaves.good, c.settle.ensures.keeper ∙ c.turns.invariant.1.1),
+  (c.in_ok-show_all.ensures.leaves.good, handed_twice c.turns.invariant.1.1 c.settle.ensures.keeper),
 )
 
 pub returns-clause-state : goal.returns-clause-state

@@ -1,4 +1,5 @@
 use Rattle.std.proofs.Common.{refl, sym, ◌∙◌}
+use Rattle.xl_base.proofs.KeeperLaws.{handed_self, handed_twice}
 use Rattle.xl_plan.proofs.BudgetLaws.{leaves_self}
 use Rattle.xl_smb_locks.proofs.LeaveLaws.{leaves_on}
 use Rattle.xl_smb_locks.proofs.UnlockLaws.{come_self, one_more, missed_at}
@@ -12,8 +13,8 @@ pub elements-preserved : goal.elements-preserved
 elements-preserved g c = (
   one_more c.args.number c.args.row.now c.args.core.now c.elements.core c.unlock_one.new.core c.args.elements.now c.elements.element-index _ _ c.in_ok-answer.answer c.elements-test.true refl c.elements.invariant.0 (sym c.unlock_fault.ensures ∙ c.in_default.is) c.in_ok-answer.ensures.state (sym c.is_granted.ensures ∙ c.if-not-is_granted.false),
   leaves_on c.args.core.now c.elements.core c.unlock_one.new.core c.elements.invariant.1 c.in_ok-answer.ensures.leaves,
-  c.in_ok-answer.ensures.keeper ∙ c.elements.invariant.2,
+  handed_twice c.elements.invariant.2 c.in_ok-answer.ensures.keeper,
 )
 
 pub elements-init : goal.elements-init
-elements-init g c = (come_self c.args.number c.args.row.now c.args.core.now c.args.elements.now, leaves_self c.args.core.now 0 0 c.requires.ready, refl)
+elements-init g c = (come_self c.args.number c.args.row.now c.args.core.now c.args.elements.now, leaves_self c.args.core.now 0 0 c.requires.ready, handed_self c.args.keeper.now)

@@ -1,7 +1,7 @@
 use Rattle.std.proofs.Common.{◌∙◌, ap, arith, length, [], ◌∷◌}
 use Rattle.std.proofs.lemmas.List.{length-append}
 use Rattle.xl_house.specs.Journals.{replay, entry}
-use Rattle.xl_house.specs.Machine.{begin}
+use Rattle.xl_house.specs.Machine.{start_of}
 use Rattle.xl_top.proofs.MadeLaws.{only_memory, drawn_event, call_stepped, none_left}
 use Rattle.xl_top.proofs.make.step_calls.Goals as goal
 
@@ -21,7 +21,7 @@ calls-preserved c =
       goes = ap (λ h. h.halt) ok.1;
       head = same ∙ c.calls.invariant.head;
       seed = c.draw-last.ensures.fit;
-      at = omega (arith, ap length entered, length-append old.entries (entry 0 (replay (begin old.head) old.entries) c.in-Ok.event ∷ []), c.calls.invariant.at);
+      at = omega (arith, ap length entered, length-append old.entries (entry 0 (replay (start_of old.head) old.entries) c.in-Ok.event ∷ []), c.calls.invariant.at);
       left = omega (arith, c.calls.invariant.left, c.calls-test.true);
       entries = call_stepped old.head c.step.new.self.head old.entries c.step.new.self.entries c.calls.x c.draw-last.result.1 c.calls.number c.calls.left c.in-Ok.event _ same entered
           (c.in-Ok.ensures ∙ drawn_event c.calls.x c.calls.number c.draw-last.result.0 c.draw-last.ensures.draws) c.draw-last.ensures.last (omega (arith, c.calls-test.true)) c.calls.invariant.entries;

@@ -3,7 +3,7 @@ use Rattle.std.specs.Vec.Iter.{into_iter_items}
 use Rattle.xl_base.specs.declared.halt.Halt.{Halt}
 use Rattle.xl_base.specs.declared.halt.Halt.TheVariants.{JournalFull}
 use Rattle.xl_house.specs.Journals.{replay}
-use Rattle.xl_house.specs.Machine.{begin}
+use Rattle.xl_house.specs.Machine.{start_of}
 use Rattle.xl_house.proofs.JournalLaws.{some_left}
 use Rattle.xl_top.proofs.top.step_all.Goals as goal
 
@@ -21,6 +21,6 @@ returns-in-Err-clause-full c = λ count full.
     let met = (c.in-Err.ensures.full count c.loop-event.invariant.goes).0 (ap failed (same_halt c.in-Err.halt (JournalFull count) full)) in
     let old = c.args.house.now in
     let now = c.loop-event.house in
-    let more = some_left (replay (begin old.head) old.entries) (replay (begin now.head) now.entries) now.entries old.entries c.in-Some.event (into_iter_items c.next.new.self) c.args.events.items
+    let more = some_left (replay (start_of old.head) old.entries) (replay (start_of now.head) now.entries) now.entries old.entries c.in-Some.event (into_iter_items c.next.new.self) c.args.events.items
     (rw c.in-Some.ensures.steps.0 at c.loop-event.invariant.entries) in
     (ap (λ h. length h.entries) c.in-Err.ensures.err ∙ met.1, omega (arith, met.1, more))

@@ -1,7 +1,7 @@
 use Rattle.std.proofs.Common.{◌≡◌, ◌++◌, None}
 use Rattle.std.specs.Vec.Iter.{into_iter_items}
 use Rattle.xl_house.specs.Journals.{replay, entries_of}
-use Rattle.xl_house.specs.Machine.{begin}
+use Rattle.xl_house.specs.Machine.{start_of}
 use Rattle.xl_top.specs.Job.{AreSteps}
 use Rattle.xl_top.proofs.top.step_all.Given as goal
 
@@ -10,6 +10,6 @@ invariant-loop-event l = record {
   goes : l.house.halt ≡ None;
   steps : AreSteps (into_iter_items l.event-iterator);
   head : l.house.head ≡ l.fn.house.head;
-  entries : l.house.entries ++ entries_of (replay (begin l.house.head) l.house.entries) (into_iter_items l.event-iterator)
-      ≡ l.fn.house.entries ++ entries_of (replay (begin l.fn.house.head) l.fn.house.entries) l.fn.events.items;
+  entries : l.house.entries ++ entries_of (replay (start_of l.house.head) l.house.entries) (into_iter_items l.event-iterator)
+      ≡ l.fn.house.entries ++ entries_of (replay (start_of l.fn.house.head) l.fn.house.entries) l.fn.events.items;
 }
