@@ -90,21 +90,46 @@ fn serve<K: Keeper>(
     Ok(())
 }
 
-fn main(rt: HostRuntime) -> io::Result<()> {
-    let alloc = rt.alloc();
+/// The house, which keeps its record in memory.
+fn started(alloc: Global) -> io::Result<House<MemoryKeeper>> {
+    let exports = exports(alloc)?;
     let keeper = MemoryKeeper::new(alloc, Record::new(alloc), Vec::new(alloc));
-    let Ok(mut house) = House::start(alloc, exports(alloc)?, keeper, Moment(0)) else {
-        return Err(io::Error::other("the house did not start"));
-    };
-    serve(&rt, &mut house, Event::Open(Kind::Rpc))?;
-    serve(&rt, &mut house, message(alloc, LOCK_BY_A)?)?;
-    serve(&rt, &mut house, message(alloc, LOCK_BY_B)?)?;
-    serve(&rt, &mut house, message(alloc, UNLOCK_BY_A)?)?;
-    serve(&rt, &mut house, Event::Called(2, None))?;
-    serve(&rt, &mut house, Event::Tick(Moment(1000)))?;
-    if !house.is_spoiled() {
-        println!(rt; "claims {}", house.dump(alloc)?.len())?;
+    match House::start(alloc, exports, keeper, Moment(0)) {
+        Ok(house) => Ok(house),
+        Err(_) => Err(io::Error::other("the house did not start")),
     }
+}
+
+/// Steps the events of the example, and writes how many claims are held then.
+fn serve_all<K: Keeper>(rt: &(impl Print + AllocGlobal), house: &mut House<K>) -> io::Result<()> {
+    let alloc = rt.alloc();
+    serve(rt, house, Event::Open(Kind::Rpc))?;
+    serve(rt, house, message(alloc, LOCK_BY_A)?)?;
+    serve(rt, house, message(alloc, LOCK_BY_B)?)?;
+    serve(rt, house, message(alloc, UNLOCK_BY_A)?)?;
+    serve(rt, house, Event::Called(2, None))?;
+    serve(rt, house, Event::Tick(Moment(1000)))?;
+    write_claims(rt, house)
+}
+
+/// Writes how many claims are held.
+fn write_claims<K: Keeper>(rt: &(impl Print + AllocGlobal), house: &House<K>) -> io::Result<()> {
+    if house.is_spoiled() {
+        return Ok(());
+    }
+    println!(rt; "claims {}", house.dump(rt.alloc())?.len())
+}
+
+/// Ends the house; the answer is how many entries its journal has.
+fn end(house: House<MemoryKeeper>) -> usize {
     let (journal, _keeper) = house.end();
-    println!(rt; "entries {}", journal.entries.len())
+    journal.entries.len()
+}
+
+fn main(rt: HostRuntime) -> io::Result<()> {
+    let mut house = started(rt.alloc())?;
+    let served = serve_all(&rt, &mut house);
+    let entries = end(house);
+    served?;
+    println!(rt; "entries {entries}")
 }

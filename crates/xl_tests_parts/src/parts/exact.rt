@@ -42,6 +42,10 @@ other x 4 1 yes
 other x 4 2 no
 other s 4 2 yes
 other x 5 0 yes
+# Two of them don't meet. The exclusive one goes first, though it came last.
+lock x 5 0 yes
+unlock 5 0 yes
+held s 5 0 0
 new
 # The last byte, and the longest ranges.
 lock x 18446744073709551615 1 yes

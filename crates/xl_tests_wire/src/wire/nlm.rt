@@ -34,12 +34,14 @@ pub(crate) const MESSAGES: &str = "\
 00 05 00 00000000 00000001 00000000 00000000 00000000 ffffffff 00000000 00000001 00000000 00000000 00000009
 00 14 00 00000000 00000000 00000000 00000001 6f000000 00000001 00000002 00000001 00000009
 00 15 00 00000000 00000000 00000000 00000001 6f000000 00000001 00000002 00000001 00000009
+00 15 00 00000000 00000000 00000000 00000001 6f000000 00000003 00000002 00000000 00000009
 00 16 00 00000000 00000000 00000001 00000001 61000000 00000008 584c4b31 00000001 00000000 00000007 \
 0000000000000000 000000000000000a 00000000 00000003 00000009
 00 17 00 00000001 61000000 00000005 00000009
 01 17 00 00000009
 01 01 00 00000000 00000001 00000001 00000007 00000001 6f000000 00000000 00000005 00000000 00000000 00000009
 01 01 00 00000000 00000008 00000009
+01 01 00 00000000 00000003 00000009
 01 05 00 00000001 6b000000 00000003 00000009
 01 14 00 00000000 00000009 ffffffff 00000009";
 
@@ -77,9 +79,10 @@ fn is_unlock(args: &UnlockArgs) -> bool {
     args.cookie == b"k".as_slice() && is_nameless(&args.lock)
 }
 
+/// Whether it is that of the vectors, whose mode is of reading where it is a reclaim, and of both where it is none.
 fn is_share(args: &ShareArgs) -> bool {
     [args.cookie, args.caller_name, args.fh, args.oh] == [&[], &[], &[], b"o".as_slice()]
-        && (args.mode.read, args.mode.write, args.reclaim) == (true, false, true)
+        && (args.mode.read, args.mode.write) == (true, !args.reclaim)
         && (args.access.read, args.access.write) == (false, true)
 }
 
@@ -107,7 +110,7 @@ fn is_held(held: &Holder) -> bool {
 fn is_tested(answer: &TestRes) -> bool {
     match (answer.stat, &answer.holder) {
         (NlmStatus::Denied, Some(held)) => answer.cookie.is_empty() && is_held(held),
-        (NlmStatus::Fbig, None) => answer.cookie.is_empty(),
+        (NlmStatus::Fbig | NlmStatus::Blocked, None) => answer.cookie.is_empty(),
         _ => false,
     }
 }

@@ -1,5 +1,5 @@
 //! Calls and replies of ONC RPC (RFC 5531), and the items of XDR (RFC 4506).
-use crate::wire::{WORD, bytes_of, has_bytes};
+use crate::wire::{WORD, bytes_of, has_bytes, is_refused};
 use std::alloc::{AllocError, Global};
 use std::test::*;
 use xl_rpc::*;
@@ -193,10 +193,12 @@ fn has_items(xdr: &mut Xdr) -> bool {
     has_numbers(xdr) && has_texts(xdr) && xdr.left().is_empty()
 }
 
+/// Whether they are refused as a bool, and left.
 fn is_no_bool(bytes: &[u8]) -> bool {
-    match Xdr::new(bytes).boolean() {
+    let mut xdr = Xdr::new(bytes);
+    match xdr.boolean() {
         Ok(_) => false,
-        Err(fault) => fault.number() == 3,
+        Err(fault) => is_refused(fault, 3, &xdr, bytes),
     }
 }
 
