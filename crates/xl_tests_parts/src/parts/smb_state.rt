@@ -47,7 +47,7 @@ under connection 1 12,10,
 under session 6 11,13,
 under tree 4 12,10,
 under tree 5 
-# Requests wait: for a lock of open 13, and to make open 14 of file 2 under a key.
+# Requests wait: for a lock of open 13, and to make open 14 of file 2 under a key. If one goes, the others stay in their order.
 wait 20 13 7 yes
 wait 20 13 7 no
 create 21 14 8 17 5 yes
@@ -56,7 +56,10 @@ message 2 7 20
 message 1 7 none
 message 1 8 21
 waiting tree 4 21,
+wait 22 12 9 yes
 unwait 20 yes
+waiting tree 4 21,22,
+unwait 22 yes
 unwait 20 no
 # A lease goes with its last open, not with its first.
 close 12 yes
