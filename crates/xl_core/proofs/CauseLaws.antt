@@ -22,10 +22,11 @@ use Rattle.xl_table.specs.Held.{is_range, spans_of, IsShareOrLock}
 use Rattle.xl_table.specs.Least.{least}
 use Rattle.xl_table.specs.Relock.{most_claims, holds_byte, granted_claims}
 use Rattle.xl_wait.specs.declared.waiter.Rooms.{Rooms}
+use Rattle.xl_wait.specs.declared.waiter.Waiter.{Waiter}
 use Rattle.xl_core.specs.State.{CoreState}
 use Rattle.xl_core.specs.Askers.{both_entered, asked_whats, alone, asked_what, asked_claim, asked_claims, known_claim, is_client, is_named, may_hold, may_ask, IsFitAct, IsFit, IsOrdered, AreMore, may_hold_all, range_what, known_owner}
 use Rattle.xl_core.specs.Blockers.{test_blockers, blockers, is_stopped, cache_against}
-use Rattle.xl_core.specs.Causes.{limits_of_grant, limits_of_wait, may_wait, IsClaimDue, stands_against, IsTestDue, HasNoByte, HasByte, left_by_unlock, IsUnlockDue, IsElementDue, IsEachDue, IsWishBy, IsWishDue}
+use Rattle.xl_core.specs.Causes.{limits_of_grant, limits_of_wait, may_wait, IsClaimDue, stands_against, IsTestDue, HasNoByte, HasByte, left_by_unlock, IsUnlockDue, IsElementDue, IsEachBehind, IsEachDue, IsWishBy, IsWishDue}
 use Rattle.xl_core.specs.Decide.{Answered, plea_of, answered, claims_asked, test_answered, tested, unlocked_claims, unlocked_bytes, unlocked, wish_by, wish_asked, acted, decided, unlocked_one, freed}
 use Rattle.xl_core.specs.Good.{IsGood}
 use Rattle.xl_core.specs.Judge.{Ruled, judged, check_held, held_by, kept_off_by, check_caches, room_by, check_room, held_with, waits, does_wait, at_once, or_else, unless, row}
@@ -113,17 +114,17 @@ lock_timely n left s a claim e =
     go None None None b u w e f g = refl
 
 -- who is stopped for good may wait where it blocks, and who isn't where it awaits answers
-may_stopped : (held : List Claim) (a : Ask) (claim : Claim) → is_stopped held claim ≡ true → a.blocking ≡ true → may_wait held a claim ≡ true
-may_stopped held a claim stops blocking = rw stops blocking
+may_stopped : (earlier : List Waiter) (s : CoreState) (a : Ask) (claim : Claim) → is_stopped earlier s claim ≡ true → a.blocking ≡ true → may_wait earlier s a claim ≡ true
+may_stopped earlier s a claim stops blocking = rw stops blocking
 
-may_moves : (held : List Claim) (a : Ask) (claim : Claim) → is_stopped held claim ≡ false → a.awaits ≡ true → may_wait held a claim ≡ true
-may_moves held a claim moves waits = ap (λ (b : Bool). if b then a.blocking else a.awaits) moves ∙ waits
+may_moves : (earlier : List Waiter) (s : CoreState) (a : Ask) (claim : Claim) → is_stopped earlier s claim ≡ false → a.awaits ≡ true → may_wait earlier s a claim ≡ true
+may_moves earlier s a claim moves waits = ap (λ (b : Bool). if b then a.blocking else a.awaits) moves ∙ waits
 
-stopped_may : (held : List Claim) (a : Ask) (claim : Claim) → is_stopped held claim ≡ true → may_wait held a claim ≡ true → a.blocking ≡ true
-stopped_may held a claim stops may = sym (ap (λ (b : Bool). if b then a.blocking else a.awaits) stops) ∙ may
+stopped_may : (earlier : List Waiter) (s : CoreState) (a : Ask) (claim : Claim) → is_stopped earlier s claim ≡ true → may_wait earlier s a claim ≡ true → a.blocking ≡ true
+stopped_may earlier s a claim stops may = sym (ap (λ (b : Bool). if b then a.blocking else a.awaits) stops) ∙ may
 
-moves_may : (held : List Claim) (a : Ask) (claim : Claim) → is_stopped held claim ≡ false → may_wait held a claim ≡ true → a.awaits ≡ true
-moves_may held a claim moves may = sym (ap (λ (b : Bool). if b then a.blocking else a.awaits) moves) ∙ may
+moves_may : (earlier : List Waiter) (s : CoreState) (a : Ask) (claim : Claim) → is_stopped earlier s claim ≡ false → may_wait earlier s a claim ≡ true → a.awaits ≡ true
+moves_may earlier s a claim moves may = sym (ap (λ (b : Bool). if b then a.blocking else a.awaits) moves) ∙ may
 
 lock_forth : (left : Rooms) (s : CoreState) (a : Ask) (claim : Claim) → a.reclaim ≡ false → IsClaimDue left s a claim (told_now left s a claim)
 lock_forth left s a claim timely =
@@ -132,19 +133,19 @@ lock_forth left s a claim timely =
     go : (o k : Option Claim) (l : Option ℕ) (b u : Bool) (w : Option ℕ) → least_blocker s.waiters s claim ≡ o → cache_against s.claims claim ≡ k → first_passed (limits_of_grant left s a claim) ≡ l → a.blocking ≡ b → a.awaits ≡ u → first_passed (limits_of_wait left s a) ≡ w
         → IsClaimDue left s a claim (told_by s a claim o k l b u w)
     go (Some c) k l true u (Some limit) is cache grant may answers wait =
-        (timely, inr (may_stopped s.claims a claim (some_stops s.waiters s claim c is) may, some_blocks s.waiters s claim c is, wait_found left a.rows (length s.waiters) (length (both_entered a s.names)) (Some limit) wait))
+        (timely, inr (may_stopped s.waiters s a claim (some_stops s.waiters s claim c is) may, some_blocks s.waiters s claim c is, wait_found left a.rows (length s.waiters) (length (both_entered a s.names)) (Some limit) wait))
     go (Some c) k l true u None is cache grant may answers wait =
-        (refl, timely, may_stopped s.claims a claim (some_stops s.waiters s claim c is) may, some_blocks s.waiters s claim c is, wait_found left a.rows (length s.waiters) (length (both_entered a s.names)) None wait)
+        (refl, timely, may_stopped s.waiters s a claim (some_stops s.waiters s claim c is) may, some_blocks s.waiters s claim c is, wait_found left a.rows (length s.waiters) (length (both_entered a s.names)) None wait)
     go (Some c) k l false u w is cache grant may answers wait = let held = blockers_some s.waiters s claim c is in (timely, may, is, held.0, held.1)
     go None (Some c) l b true (Some limit) is cache grant may answers wait =
-        (timely, inr (may_moves s.claims a claim (blockers_none s.waiters s claim is) answers, cache_blocked s.claims claim c cache, wait_found left a.rows (length s.waiters) (length (both_entered a s.names)) (Some limit) wait))
+        (timely, inr (may_moves s.waiters s a claim (blockers_none s.waiters s claim is) answers, cache_blocked s.claims claim c cache, wait_found left a.rows (length s.waiters) (length (both_entered a s.names)) (Some limit) wait))
     go None (Some c) l b true None is cache grant may answers wait =
-        (refl, timely, may_moves s.claims a claim (blockers_none s.waiters s claim is) answers, cache_blocked s.claims claim c cache, wait_found left a.rows (length s.waiters) (length (both_entered a s.names)) None wait)
+        (refl, timely, may_moves s.waiters s a claim (blockers_none s.waiters s claim is) answers, cache_blocked s.claims claim c cache, wait_found left a.rows (length s.waiters) (length (both_entered a s.names)) None wait)
     go None (Some c) l b false w is cache grant may answers wait = let found = cache_some s.claims claim c cache in (timely, answers, blockers_none s.waiters s claim is, cache, found.0, found.1)
     go None None (Some limit) b u w is cache grant may answers wait =
-        (timely, inl (free_unless s.claims claim (blockers_none s.waiters s claim is) cache, grant_found left a.rows (length (granted_claims claim s.claims)) (length (both_entered a s.names)) (Some limit) grant))
+        (timely, inl (free_unless s.waiters s claim (blockers_none s.waiters s claim is) cache, grant_found left a.rows (length (granted_claims claim s.claims)) (length (both_entered a s.names)) (Some limit) grant))
     go None None None b u w is cache grant may answers wait =
-        (refl, timely, free_unless s.claims claim (blockers_none s.waiters s claim is) cache, grant_found left a.rows (length (granted_claims claim s.claims)) (length (both_entered a s.names)) None grant)
+        (refl, timely, free_unless s.waiters s claim (blockers_none s.waiters s claim is) cache, grant_found left a.rows (length (granted_claims claim s.claims)) (length (both_entered a s.names)) None grant)
 
 -- a cause of another answer than that a reclaim comes too late brings it
 lock_back : (left : Rooms) (s : CoreState) (a : Ask) (claim : Claim) (answer : Answer) → a.reclaim ≡ false → IsClaimDue left s a claim answer → told_now left s a claim ≡ answer
@@ -154,15 +155,15 @@ lock_back left s a claim answer timely due = go answer due where
   at o k l b u w e f g h i j = λ x. told_by s a claim (e x) (f x) (g x) (h x) (i x) (j x)
 
   clear : is_blocked s.claims claim ≡ false → (least_blocker s.waiters s claim ≡ None) × (cache_against s.claims claim ≡ None)
-  clear free = (none_blockers s.waiters s claim (free_moves s.claims claim free), free_clear s.claims claim free)
+  clear free = (none_blockers s.waiters s claim (free_moves s.waiters s claim free), free_clear s.claims claim free)
 
   told_wait : Option ℕ → Answer
   told_wait None = answers.Queued (s.counter + 1)
   told_wait (Some l) = answers.Full l
 
   -- who waits, by what it waits for
-  waits : (limit : Option ℕ) → may_wait s.claims a claim ≡ true → is_blocked s.claims claim ≡ true → first_passed (limits_of_wait left s a) ≡ limit → told_now left s a claim ≡ told_wait limit
-  waits limit may blocked is = by (is_stopped s.claims claim) refl where
+  waits : (limit : Option ℕ) → may_wait s.waiters s a claim ≡ true → is_blocked s.claims claim ≡ true → first_passed (limits_of_wait left s a) ≡ limit → told_now left s a claim ≡ told_wait limit
+  waits limit may blocked is = by (is_stopped s.waiters s claim) refl where
     stopped_so : (c : Claim) (o : Option ℕ) → told_by s a claim (Some c) (cache_against s.claims claim) (first_passed (limits_of_grant left s a claim)) true a.awaits o ≡ told_wait o
     stopped_so c None = refl
     stopped_so c (Some l) = refl
@@ -171,9 +172,9 @@ lock_back left s a claim answer timely due = go answer due where
     kept_so c None = refl
     kept_so c (Some l) = refl
 
-    by : (b : Bool) → is_stopped s.claims claim ≡ b → told_now left s a claim ≡ told_wait limit
-    by true stops = let found = stops_some s.waiters s claim stops in at (Some found.0) _ _ true _ limit found.1 refl refl (stopped_may s.claims a claim stops may) refl is ∙ stopped_so found.0 limit
-    by false moves = let found = moves_cache s.claims claim blocked moves in at None (Some found.0) _ _ true limit (none_blockers s.waiters s claim moves) found.1 refl refl (moves_may s.claims a claim moves may) is ∙ kept_so found.0 limit
+    by : (b : Bool) → is_stopped s.waiters s claim ≡ b → told_now left s a claim ≡ told_wait limit
+    by true stops = let found = stops_some s.waiters s claim stops in at (Some found.0) _ _ true _ limit found.1 refl refl (stopped_may s.waiters s a claim stops may) refl is ∙ stopped_so found.0 limit
+    by false moves = let found = moves_cache s.waiters s claim blocked moves in at None (Some found.0) _ _ true limit (none_blockers s.waiters s claim moves) found.1 refl refl (moves_may s.waiters s a claim moves may) is ∙ kept_so found.0 limit
 
   go : (x : Answer) → IsClaimDue left s a claim x → told_now left s a claim ≡ x
   go (answers.Granted c) due = let none = clear due.2 in at None None None _ _ _ none.0 none.1 (grant_least left a.rows (length (granted_claims claim s.claims)) (length (both_entered a s.names)) None due.3) refl refl refl ∙ ap answers.Granted (sym due.0)
@@ -545,42 +546,42 @@ tells first Waits answer = Unit {0}
 tells first (Told told) answer = answer ≡ told
 
 -- the first of these isn't waited for
-abbrev IsJudgedNow : Plea → List Claim → List Claim → Type 0
-IsJudgedNow p held [] = Unit {0}
-IsJudgedNow p held (c ∷ cs) = does_wait p held c ≡ false
+abbrev IsJudgedNow : List Waiter → Plea → CoreState → List Claim → Type 0
+IsJudgedNow earlier p s [] = Unit {0}
+IsJudgedNow earlier p s (c ∷ cs) = does_wait earlier p s c ≡ false
 
-judged_at_once : (p : Plea) (held cs : List Claim) → IsJudgedNow (at_once p) held cs
-judged_at_once p held [] = tt
-judged_at_once p held (c ∷ cs) = by (is_blocked held c) (is_stopped held c) where
+judged_at_once : (earlier : List Waiter) (p : Plea) (s : CoreState) (cs : List Claim) → IsJudgedNow earlier (at_once p) s cs
+judged_at_once earlier p s [] = tt
+judged_at_once earlier p s (c ∷ cs) = by (is_blocked s.claims c) (is_stopped earlier s c) where
   by : (x y : Bool) → (x && (if y then false else false)) ≡ false
   by true true = refl
   by true false = refl
   by false y = refl
 
-all_due : (left : Rooms) (p : Plea) (first : Claim) (cs : List Claim) (s : CoreState) (answer : Answer) → IsJudgedNow p s.claims cs → tells first (row left p cs s) answer → IsEachDue left p.rows p.kept first cs s answer
-unfolding check_held check_caches check_room held_with blockers
-all_due left p first [] s answer now is = is
-all_due left p first (c ∷ cs) s answer now is = (
+all_due : (earlier : List Waiter) (left : Rooms) (p : Plea) (first : Claim) (cs : List Claim) (s : CoreState) (answer : Answer) → IsJudgedNow earlier p s cs → tells first (row earlier left p cs s) answer → IsEachBehind earlier left p.rows p.kept first cs s answer
+unfolding check_held check_caches check_room held_with
+all_due earlier left p first [] s answer now is = is
+all_due earlier left p first (c ∷ cs) s answer now is = (
   λ d e. conflict d e,
   λ d moves e. recall d moves e,
-  λ limit free least. so None None (Some limit) (none_blockers [] s c (free_moves s.claims c free)) (free_clear s.claims c free) (grant_least left p.rows (length (granted_claims c s.claims)) p.kept (Some limit) least),
-  λ free room. all_due left (at_once p) first cs (record s { claims = granted_claims c s.claims }) answer (judged_at_once p (granted_claims c s.claims) cs) (rest free room),
+  λ limit free least. so None None (Some limit) (none_blockers earlier s c (free_moves earlier s c free)) (free_clear s.claims c free) (grant_least left p.rows (length (granted_claims c s.claims)) p.kept (Some limit) least),
+  λ free room. all_due earlier left (at_once p) first cs (record s { claims = granted_claims c s.claims }) answer (judged_at_once earlier p (record s { claims = granted_claims c s.claims }) cs) (rest free room),
 )
   where
     limits : List (ℕ × Bool)
     limits = grant_limits left p.rows (length (granted_claims c s.claims)) p.kept
 
     later : Ruling
-    later = row left (at_once p) cs (record s { claims = granted_claims c s.claims })
+    later = row earlier left (at_once p) cs (record s { claims = granted_claims c s.claims })
 
     ruling : Option Claim → Option Claim → Option ℕ → Ruling
     ruling o k l = unless (or_else (held_by p o s).0 (or_else (kept_off_by p k s).0 (room_by l s).0)) later
 
-    so : (o k : Option Claim) (l : Option ℕ) → least s.names (blockers [] s c) ≡ o → cache_against s.claims c ≡ k → first_passed limits ≡ l → tells first (ruling o k l) answer
+    so : (o k : Option Claim) (l : Option ℕ) → least s.names (blockers earlier s c) ≡ o → cache_against s.claims c ≡ k → first_passed limits ≡ l → tells first (ruling o k l) answer
     so o k l e f g =
         subst (λ (x : Option Claim). tells first (ruling x k l) answer) e
-        (subst (λ (y : Option Claim). tells first (ruling (least s.names (blockers [] s c)) y l) answer) f
-        (subst (λ (z : Option ℕ). tells first (ruling (least s.names (blockers [] s c)) (cache_against s.claims c) z) answer) g is))
+        (subst (λ (y : Option Claim). tells first (ruling (least s.names (blockers earlier s c)) y l) answer) f
+        (subst (λ (z : Option ℕ). tells first (ruling (least s.names (blockers earlier s c)) (cache_against s.claims c) z) answer) g is))
 
     hurries_so : (x y z u : Bool) → x ≡ true → y ≡ true → (x && (if y then z else u)) ≡ false → z ≡ false
     hurries_so x y z u e f g = rw (e, f) at g
@@ -588,22 +589,22 @@ all_due left p first (c ∷ cs) s answer now is = (
     moves_so : (x y z u : Bool) → x ≡ true → y ≡ false → (x && (if y then z else u)) ≡ false → u ≡ false
     moves_so x y z u e f g = rw (e, f) at g
 
-    conflict : (d : Claim) → least s.names (blockers [] s c) ≡ Some d → answer ≡ answers.Conflict d
+    conflict : (d : Claim) → least s.names (blockers earlier s c) ≡ Some d → answer ≡ answers.Conflict d
     conflict d e =
-        let hurries : p.blocking ≡ false = hurries_so (is_blocked s.claims c) (is_stopped s.claims c) p.blocking p.awaits (some_blocks [] s c d e) (some_stops [] s c d e) now in
+        let hurries : p.blocking ≡ false = hurries_so (is_blocked s.claims c) (is_stopped earlier s c) p.blocking p.awaits (some_blocks earlier s c d e) (some_stops earlier s c d e) now in
         subst (λ (b : Bool). tells first (if b then waits p.crowded else Told (answers.Conflict d)) answer) hurries (so (Some d) (cache_against s.claims c) (first_passed limits) e refl refl)
 
-    recall : (d : Claim) → is_stopped s.claims c ≡ false → cache_against s.claims c ≡ Some d → answer ≡ answers.Recall d
+    recall : (d : Claim) → is_stopped earlier s c ≡ false → cache_against s.claims c ≡ Some d → answer ≡ answers.Recall d
     recall d moves e =
-        let hurries : p.awaits ≡ false = moves_so (is_blocked s.claims c) (is_stopped s.claims c) p.blocking p.awaits (cache_blocked s.claims c d e) moves now in
-        subst (λ (b : Bool). tells first (if b then waits p.crowded else Told (answers.Recall d)) answer) hurries (so None (Some d) (first_passed limits) (none_blockers [] s c moves) e refl)
+        let hurries : p.awaits ≡ false = moves_so (is_blocked s.claims c) (is_stopped earlier s c) p.blocking p.awaits (cache_blocked s.claims c d e) moves now in
+        subst (λ (b : Bool). tells first (if b then waits p.crowded else Told (answers.Recall d)) answer) hurries (so None (Some d) (first_passed limits) (none_blockers earlier s c moves) e refl)
 
     rest : is_blocked s.claims c ≡ false → IsRoom limits → tells first later answer
-    rest free room = so None None None (none_blockers [] s c (free_moves s.claims c free)) (free_clear s.claims c free) (grant_least left p.rows (length (granted_claims c s.claims)) p.kept None room)
+    rest free room = so None None None (none_blockers earlier s c (free_moves earlier s c free)) (free_clear s.claims c free) (grant_least left p.rows (length (granted_claims c s.claims)) p.kept None room)
 
 -- each of these is judged beside those before it, where the first isn't waited for
-pub row_due : (left : Rooms) (p : Plea) (first : Claim) (cs : List Claim) (s : CoreState) (answer : Answer) (c : Claim) (rest : List Claim) → cs ≡ c ∷ rest → does_wait p s.claims c ≡ false → tells first (row left p cs s) answer → IsEachDue left p.rows p.kept first cs s answer
-row_due left p first cs s answer c rest e now is = all_due left p first cs s answer (subst (λ (ds : List Claim). IsJudgedNow p s.claims ds) (sym e) now) is
+pub row_due : (earlier : List Waiter) (left : Rooms) (p : Plea) (first : Claim) (cs : List Claim) (s : CoreState) (answer : Answer) (c : Claim) (rest : List Claim) → cs ≡ c ∷ rest → does_wait earlier p s c ≡ false → tells first (row earlier left p cs s) answer → IsEachBehind earlier left p.rows p.kept first cs s answer
+row_due earlier left p first cs s answer c rest e now is = all_due earlier left p first cs s answer (subst (λ (ds : List Claim). IsJudgedNow earlier p s ds) (sym e) now) is
 
 pub ranges_asked : (n : ℕ) (left : Rooms) (s : CoreState) (a : Ask) (ranges : List (Extent × Bool)) → a.act ≡ Ranges ranges → decided n left s a ≡ claims_asked n left s a (asked_claims a (map range_what ranges) s.names)
 unfolding decided
@@ -620,11 +621,11 @@ first_due n left s a c cs r blocked is = subst (λ (x : Answer). IsClaimDue left
   alone = judged n s.waiters left p (c ∷ []) s
 
   same : judged n s.waiters left p (c ∷ cs) s ≡ alone
-  same = elim (cases_Bool a.reclaim) [ inl late_one ↦ late n s.waiters left p (c ∷ cs) s late_one ∙ sym (late n s.waiters left p (c ∷ []) s late_one) | inr timely ↦ by timely (is_stopped s.claims c) refl ] where
-    by : a.reclaim ≡ false → (b : Bool) → is_stopped s.claims c ≡ b → judged n s.waiters left p (c ∷ cs) s ≡ alone
+  same = elim (cases_Bool a.reclaim) [ inl late_one ↦ late n s.waiters left p (c ∷ cs) s late_one ∙ sym (late n s.waiters left p (c ∷ []) s late_one) | inr timely ↦ by timely (is_stopped s.waiters s c) refl ] where
+    by : a.reclaim ≡ false → (b : Bool) → is_stopped s.waiters s c ≡ b → judged n s.waiters left p (c ∷ cs) s ≡ alone
     by timely true stops = let found = stops_some s.waiters s c stops in judged_stopped n s.waiters left p c found.0 cs s timely found.1 ∙ sym (judged_stopped n s.waiters left p c found.0 [] s timely found.1)
     by timely false moves =
-        let found = moves_cache s.claims c blocked moves in
+        let found = moves_cache s.waiters s c blocked moves in
         let none = none_blockers s.waiters s c moves in
         judged_kept_off n s.waiters left p c found.0 cs s timely none found.1 ∙ sym (judged_kept_off n s.waiters left p c found.0 [] s timely none found.1)
 
@@ -643,8 +644,8 @@ first_due n left s a c cs r blocked is = subst (λ (x : Answer). IsClaimDue left
 pub each_due : (n : ℕ) (left : Rooms) (s : CoreState) (a : Ask) (c : Claim) (cs : List Claim) (r : Answered) → a.reclaim ≡ false → is_blocked s.claims c ≡ false → r ≡ claims_asked n left s a (c ∷ cs) → IsEachDue left a.rows (length (both_entered a s.names)) c (c ∷ cs) s r.0
 unfolding claims_asked plea_of
 each_due n left s a c cs r timely free is =
-    row_due left p c (c ∷ cs) s r.0 c cs refl (ap (λ (b : Bool). b && (if is_stopped s.claims c then a.blocking else a.awaits)) free)
-    (subst (λ (x : Answer). tells c (row left p (c ∷ cs) s) x) (sym (ap first_is is ∙ ap (λ (x : Ruled). (answered a (c ∷ cs) c x.0 x.1 x.2).0) (judged_row n s.waiters left p (c ∷ cs) s timely))) (by (row left p (c ∷ cs) s) [] _))
+    row_due s.waiters left p c (c ∷ cs) s r.0 c cs refl (ap (λ (b : Bool). b && (if is_stopped s.waiters s c then a.blocking else a.awaits)) free)
+    (subst (λ (x : Answer). tells c (row s.waiters left p (c ∷ cs) s) x) (sym (ap first_is is ∙ ap (λ (x : Ruled). (answered a (c ∷ cs) c x.0 x.1 x.2).0) (judged_row n s.waiters left p (c ∷ cs) s timely))) (by (row s.waiters left p (c ∷ cs) s) [] _))
   where
     p : Plea
     p = plea_of left s a

@@ -165,7 +165,7 @@ pub data AskWay (s : CoreState) (a : Ask) (r : Answered) : Type 0 where
   Stays : (answer : Answer) → is_refusal answer ≡ true → r ≡ (answer, [], s) → AskWay s a r
   Tests : (c : Claim) → asks_to_hold a.act ≡ false → r ≡ (answers.Granted c, [], s) → AskWay s a r
   Holds : (c : Claim) (claims : List Claim) → claims ≡ asked_claims a (asked_whats a.act) s.names → asks_to_hold a.act ≡ true → r ≡ (answers.Granted c, [], named a (held_with claims s)) → AskWay s a r
-  Waits : (c : Claim) (cs : List Claim) → may_wait s.claims a c ≡ true → is_blocked s.claims c ≡ true → c ∷ cs ≡ asked_claims a (asked_whats a.act) s.names → asks_to_hold a.act ≡ true → r ≡ (answers.Queued (s.counter + 1), [], waiting a (c ∷ cs) s) → AskWay s a r
+  Waits : (c : Claim) (cs : List Claim) → may_wait s.waiters s a c ≡ true → is_blocked s.claims c ≡ true → c ∷ cs ≡ asked_claims a (asked_whats a.act) s.names → asks_to_hold a.act ≡ true → r ≡ (answers.Queued (s.counter + 1), [], waiting a (c ∷ cs) s) → AskWay s a r
   Frees : (claim : Claim) (first last : ℕ) → asks_to_hold a.act ≡ false → asks_share a.act ≡ false → claim.file ≡ a.file → claim.owner ≡ asker a s.names → r ≡ (answers.Granted claim, [], record s { claims = unlocked_claims claim first last s.claims }) → AskWay s a r
   Gives : (claim d : Claim) → asks_to_hold a.act ≡ false → asks_share a.act ≡ false → d.file ≡ a.file → d.owner ≡ asker a s.names → is_range d.what ≡ true → r ≡ (answers.Granted claim, [], record s { claims = removed d s.claims }) → AskWay s a r
 

@@ -21,11 +21,11 @@ use Rattle.xl_core.specs.Blockers.{blockers, is_stopped, first_broken, cache_by,
 
 -- ---- for good
 
-pub blockers_none : (earlier : List Waiter) (s : CoreState) (ask : Claim) → least s.names (blockers earlier s ask) ≡ None → is_stopped s.claims ask ≡ false
+pub blockers_none : (earlier : List Waiter) (s : CoreState) (ask : Claim) → least s.names (blockers earlier s ask) ≡ None → is_stopped earlier s ask ≡ false
 unfolding blockers
 blockers_none earlier s ask e = none_passes (is_final ask s.claims) s.claims (least_none s.names (filter (is_final ask s.claims) s.claims) e)
 
-pub none_blockers : (earlier : List Waiter) (s : CoreState) (ask : Claim) → is_stopped s.claims ask ≡ false → least s.names (blockers earlier s ask) ≡ None
+pub none_blockers : (earlier : List Waiter) (s : CoreState) (ask : Claim) → is_stopped earlier s ask ≡ false → least s.names (blockers earlier s ask) ≡ None
 unfolding blockers
 none_blockers earlier s ask free = least_empty s.names (filter (is_final ask s.claims) s.claims) (none_stays (is_final ask s.claims) s.claims free)
 
@@ -36,22 +36,22 @@ final_in earlier s ask c e = in_filter_from (is_final ask s.claims) c s.claims (
 pub blockers_some : (earlier : List Waiter) (s : CoreState) (ask c : Claim) → least s.names (blockers earlier s ask) ≡ Some c → IsIn c s.claims × (blocks ask c ≡ true)
 blockers_some earlier s ask c e = let found = final_in earlier s ask c e in (found.0, (and_parts (blocks ask c) _ found.1).0)
 
-pub some_stops : (earlier : List Waiter) (s : CoreState) (ask c : Claim) → least s.names (blockers earlier s ask) ≡ Some c → is_stopped s.claims ask ≡ true
+pub some_stops : (earlier : List Waiter) (s : CoreState) (ask c : Claim) → least s.names (blockers earlier s ask) ≡ Some c → is_stopped earlier s ask ≡ true
 some_stops earlier s ask c e = let found = final_in earlier s ask c e in one_passes (is_final ask s.claims) s.claims c found.0 found.1
 
 pub some_blocks : (earlier : List Waiter) (s : CoreState) (ask c : Claim) → least s.names (blockers earlier s ask) ≡ Some c → is_blocked s.claims ask ≡ true
 some_blocks earlier s ask c e = let found = blockers_some earlier s ask c e in one_passes (λ d. blocks ask d) s.claims c found.0 found.1
 
-pub stops_some : (earlier : List Waiter) (s : CoreState) (ask : Claim) → is_stopped s.claims ask ≡ true → (c : Claim) × (least s.names (blockers earlier s ask) ≡ Some c)
+pub stops_some : (earlier : List Waiter) (s : CoreState) (ask : Claim) → is_stopped earlier s ask ≡ true → (c : Claim) × (least s.names (blockers earlier s ask) ≡ Some c)
 stops_some earlier s ask stopped = go (least s.names (blockers earlier s ask)) refl where
   go : (o : Option Claim) → least s.names (blockers earlier s ask) ≡ o → (c : Claim) × (least s.names (blockers earlier s ask) ≡ Some c)
-  go None e = absurd (both_ways (is_stopped s.claims ask) (blockers_none earlier s ask e) stopped)
+  go None e = absurd (both_ways (is_stopped earlier s ask) (blockers_none earlier s ask e) stopped)
   go (Some c) e = (c, e)
 
 -- something does where there is a least
-pub stopped_is : (s : CoreState) (ask : Claim) (o : Option Claim) → ((earlier : List Waiter) → o ≡ least s.names (blockers earlier s ask)) → is_some o ≡ is_stopped s.claims ask
-stopped_is s ask None e = sym (blockers_none [] s ask (sym (e [])))
-stopped_is s ask (Some c) e = sym (some_stops [] s ask c (sym (e [])))
+pub stopped_is : (earlier : List Waiter) (s : CoreState) (ask : Claim) (o : Option Claim) → ((before : List Waiter) → o ≡ least s.names (blockers before s ask)) → is_some o ≡ is_stopped earlier s ask
+stopped_is earlier s ask None e = sym (blockers_none earlier s ask (sym (e earlier)))
+stopped_is earlier s ask (Some c) e = sym (some_stops earlier s ask c (sym (e earlier)))
 
 -- ---- caches
 
@@ -131,28 +131,28 @@ cache_none held ask c e there way =
 
 -- ---- both
 
-pub stopped_blocked : (held : List Claim) (ask : Claim) → is_stopped held ask ≡ true → is_blocked held ask ≡ true
-stopped_blocked held ask h =
-    let found = any_found (is_final ask held) held h in
-    one_passes (λ d. blocks ask d) held found.0 found.1 (and_parts (blocks ask found.0) _ found.2).0
+pub stopped_blocked : (earlier : List Waiter) (s : CoreState) (ask : Claim) → is_stopped earlier s ask ≡ true → is_blocked s.claims ask ≡ true
+stopped_blocked earlier s ask h =
+    let found = any_found (is_final ask s.claims) s.claims h in
+    one_passes (λ d. blocks ask d) s.claims found.0 found.1 (and_parts (blocks ask found.0) _ found.2).0
 
 pub cache_blocked : (held : List Claim) (ask c : Claim) → cache_against held ask ≡ Some c → is_blocked held ask ≡ true
 cache_blocked held ask c e = let found = cache_some held ask c e in obstacle_blocks ask held c found.0 found.1
 
 -- what neither blocks for good nor by a cache is free
-pub free_unless : (held : List Claim) (ask : Claim) → is_stopped held ask ≡ false → cache_against held ask ≡ None → is_blocked held ask ≡ false
-free_unless held ask moves clear =
-    any_none (blocks ask) held (λ c there.
+pub free_unless : (earlier : List Waiter) (s : CoreState) (ask : Claim) → is_stopped earlier s ask ≡ false → cache_against s.claims ask ≡ None → is_blocked s.claims ask ≡ false
+free_unless earlier s ask moves clear =
+    any_none (blocks ask) s.claims (λ c there.
     elim (cases_Bool (blocks ask c)) [
       | inr e ↦ e
-      | inl b ↦ let way = blocks_so ask held c there b (none_pass (is_final ask held) c held moves there) in absurd (cache_none held ask way.0 clear way.1 way.2)
+      | inl b ↦ let way = blocks_so ask s.claims c there b (none_pass (is_final ask s.claims) c s.claims moves there) in absurd (cache_none s.claims ask way.0 clear way.1 way.2)
     ])
 
-pub free_moves : (held : List Claim) (ask : Claim) → is_blocked held ask ≡ false → is_stopped held ask ≡ false
-free_moves held ask free =
-    elim (cases_Bool (is_stopped held ask)) [
+pub free_moves : (earlier : List Waiter) (s : CoreState) (ask : Claim) → is_blocked s.claims ask ≡ false → is_stopped earlier s ask ≡ false
+free_moves earlier s ask free =
+    elim (cases_Bool (is_stopped earlier s ask)) [
       | inr e ↦ e
-      | inl stopped ↦ absurd (both_ways (is_blocked held ask) free (stopped_blocked held ask stopped))
+      | inl stopped ↦ absurd (both_ways (is_blocked s.claims ask) free (stopped_blocked earlier s ask stopped))
     ]
 
 pub free_clear : (held : List Claim) (ask : Claim) → is_blocked held ask ≡ false → cache_against held ask ≡ None
@@ -162,8 +162,8 @@ free_clear held ask free = by (cache_against held ask) refl where
   by (Some c) e = absurd (both_ways (is_blocked held ask) free (cache_blocked held ask c e))
 
 -- what blocks, and not for good, is a cache's doing
-pub moves_cache : (held : List Claim) (ask : Claim) → is_blocked held ask ≡ true → is_stopped held ask ≡ false → (c : Claim) × (cache_against held ask ≡ Some c)
-moves_cache held ask blocked moves = by (cache_against held ask) refl where
-  by : (o : Option Claim) → cache_against held ask ≡ o → (c : Claim) × (cache_against held ask ≡ Some c)
-  by None e = absurd (both_ways (is_blocked held ask) (free_unless held ask moves e) blocked)
+pub moves_cache : (earlier : List Waiter) (s : CoreState) (ask : Claim) → is_blocked s.claims ask ≡ true → is_stopped earlier s ask ≡ false → (c : Claim) × (cache_against s.claims ask ≡ Some c)
+moves_cache earlier s ask blocked moves = by (cache_against s.claims ask) refl where
+  by : (o : Option Claim) → cache_against s.claims ask ≡ o → (c : Claim) × (cache_against s.claims ask ≡ Some c)
+  by None e = absurd (both_ways (is_blocked s.claims ask) (free_unless earlier s ask moves e) blocked)
   by (Some c) e = (c, e)

@@ -125,7 +125,7 @@ served_behind t (Begun c to call ∷ told) effects caches none = served_behind t
 served_behind t (Cancelled id ∷ told) effects caches none = served_behind t told effects caches none
 served_behind t (Expired text ∷ told) effects caches none = served_behind t told effects caches none
 
-first_caches : (left : Rooms) (s : CoreState) (turn : Turned) → IsGood s → IsFirst left s s.waiters turn → caches_of turn.1.claims ≡ caches_served (next_way s).1 turn.0 (caches_of (next_way s).1.claims)
+first_caches : (left : Rooms) (s : CoreState) (turn : Turned) → IsGood s → IsFirst left s [] s.waiters turn → caches_of turn.1.claims ≡ caches_served (next_way s).1 turn.0 (caches_of (next_way s).1.claims)
 first_caches left s turn good first =
     subst (λ (way : Turned). caches_of turn.1.claims ≡ caches_served way.1 turn.0 (caches_of way.1.claims)) (sym next) (by first.moved)
   where
@@ -133,7 +133,7 @@ first_caches left s turn good first =
     w = first.waiter
 
     way : Turned
-    way = way_again s w
+    way = way_again first.before s w
 
     t : CoreState
     t = way.1
@@ -142,10 +142,10 @@ first_caches left s turn good first =
     all = first.claim ∷ first.claims
 
     next : next_way s ≡ way
-    next = next_is s first.before w first.behind first.stood first.blocked (ap (holds_up s.claims w) first.asked ∙ first.free)
+    next = next_is s first.before w first.behind first.stood first.blocked (ap (holds_up first.before s w) first.asked ∙ first.free)
 
     stood : t.waiters ≡ first.before ++ w ∷ first.behind
-    stood = way_waiters (plea_again s w) w.asked s ∙ first.stood
+    stood = way_waiters first.before (plea_again s w) w.asked s ∙ first.stood
 
     apart : Pairwise are_apart (first.before ++ w ∷ first.behind)
     apart = subst (λ (ws : List Waiter). Pairwise are_apart ws) first.stood good.apart
@@ -156,17 +156,17 @@ first_caches left s turn good first =
     wishes : wish_by_number w.id t.waiters ≡ w.wish
     wishes = ap (wish_by_number w.id) stood ∙ wished_there first.before w first.behind apart
 
-    by : IsMoved left s w first.claim first.claims turn → caches_of turn.1.claims ≡ caches_served t turn.0 (caches_of t.claims)
+    by : IsMoved left first.before s w first.claim first.claims turn → caches_of turn.1.claims ≡ caches_served t turn.0 (caches_of t.claims)
     by (Answers answer told new due pass clear) =
         let u = once_answered t w all answer in
         let once : once_served t w.id answer ≡ u = ap (λ (cs : List Claim). once_answered t w cs answer) there in
         ap (λ (x : CoreState). caches_of x.claims) new ∙ wish_for_caches w.wish answer u (served_good left s turn first good answer pass).0
         ∙ ap (caches_wished w.wish answer u) (once_cases (λ cs. caches_of cs ≡ caches_of t.claims) all t.claims answer refl (all_granted_caches all t.claims))
-        ∙ sym (ap (λ (effects : List Effect). caches_served t effects (caches_of t.claims)) told ∙ served_behind t way.0 (Served w.id answer ∷ []) (caches_of t.claims) (way_serves (plea_again s w) w.asked s)
+        ∙ sym (ap (λ (effects : List Effect). caches_served t effects (caches_of t.claims)) told ∙ served_behind t way.0 (Served w.id answer ∷ []) (caches_of t.claims) (way_serves first.before (plea_again s w) w.asked s)
         ∙ (λ i. caches_wished (wishes i) answer (once i) (caches_of t.claims)))
     by (Rests e up) =
         ap (λ (x : Turned). caches_of x.1.claims) e
-        ∙ sym (ap (λ (x : Turned). caches_served t x.0 (caches_of t.claims)) e ∙ ap (λ (effects : List Effect). caches_served t effects (caches_of t.claims)) (sym (append-nil way.0)) ∙ served_behind t way.0 [] (caches_of t.claims) (way_serves (plea_again s w) w.asked s))
+        ∙ sym (ap (λ (x : Turned). caches_served t x.0 (caches_of t.claims)) e ∙ ap (λ (effects : List Effect). caches_served t effects (caches_of t.claims)) (sym (append-nil way.0)) ∙ served_behind t way.0 [] (caches_of t.claims) (way_serves first.before (plea_again s w) w.asked s))
 
 turned_caches : (n : ℕ) (left : Rooms) (s : CoreState) (o : Option Turned) → settle n left s ≡ o → IfSome o (λ r. caches_of r.1.claims ≡ caches_served (next_way s).1 r.0 (caches_of (next_way s).1.claims)) → caches_of (turned s o).2.claims ≡ caches_served (next_way s).1 (turned s o).1 (caches_of (next_way s).1.claims)
 turned_caches n left s None e each = sym (ap (λ (way : Turned). caches_of way.1.claims) (next_none s (none_settled n left s e)))
@@ -224,11 +224,11 @@ begun_stays : (ask c : Claim) (s : CoreState) → IsIn c s.claims → is_running
 unfolding breaks_begun
 begun_stays ask c s there runs = running_stand (moment_after s.clock s.times.break_time) ask s.claims c there runs
 
-way_stays : (p : Plea) (asked : List Claim) (s : CoreState) (c : Claim) → IsIn c (caches_of s.claims) → is_running c.what ≡ true → IsIn c (caches_of (made_way p asked s).1.claims)
-way_stays p asked s c there runs =
+way_stays : (earlier : List Waiter) (p : Plea) (asked : List Claim) (s : CoreState) (c : Claim) → IsIn c (caches_of s.claims) → is_running c.what ≡ true → IsIn c (caches_of (made_way earlier p asked s).1.claims)
+way_stays earlier p asked s c there runs =
     let held = in_filter_from (λ x. is_cache x.what) c s.claims there in
-    in_filter (λ x. is_cache x.what) c (made_way p asked s).1.claims
-    (elim (way_is p asked s) [
+    in_filter (λ x. is_cache x.what) c (made_way earlier p asked s).1.claims
+    (elim (way_is earlier p asked s) [
       | NoWay e ↦ subst (λ (way : List Effect × CoreState). IsIn c way.1.claims) (sym e) held.0
       | Begins ask cs is does e ↦ subst (λ (way : List Effect × CoreState). IsIn c way.1.claims) (sym e) (begun_stays ask c s held.0 runs)
     ]) held.1
@@ -261,24 +261,24 @@ ask_stays n left s a c good fit there runs = by (does_wish a.act) where
   r = before_wish n left s a
 
   still : IsIn c r.2.claims
-  still = cache_stays (way left s a).1.claims r.2.claims c (before_caches n left s a good fit) (way_stays (plea_of left s a) (asked_claims a (asked_whats a.act) s.names) s c there runs)
+  still = cache_stays (way left s a).1.claims r.2.claims c (before_caches n left s a good fit) (way_stays s.waiters (plea_of left s a) (asked_claims a (asked_whats a.act) s.names) s c there runs)
 
   by : (b : Bool) → IsIn c (if b then wish_for a.wish r.0 r.2 else r.2).claims
   by true = for_stays a.wish r.0 r.2 c still runs
   by false = still
 
-first_stays : (left : Rooms) (s : CoreState) (turn : Turned) (c : Claim) → IsFirst left s s.waiters turn → IsIn c (caches_of s.claims) → is_running c.what ≡ true → IsIn c turn.1.claims
+first_stays : (left : Rooms) (s : CoreState) (turn : Turned) (c : Claim) → IsFirst left s [] s.waiters turn → IsIn c (caches_of s.claims) → is_running c.what ≡ true → IsIn c turn.1.claims
 first_stays left s turn c first there runs = by first.moved where
   w : Waiter
   w = first.waiter
 
   t : CoreState
-  t = (way_again s w).1
+  t = (way_again first.before s w).1
 
   still : IsIn c (caches_of t.claims)
-  still = way_stays (plea_again s w) w.asked s c there runs
+  still = way_stays first.before (plea_again s w) w.asked s c there runs
 
-  by : IsMoved left s w first.claim first.claims turn → IsIn c turn.1.claims
+  by : IsMoved left first.before s w first.claim first.claims turn → IsIn c turn.1.claims
   by (Answers answer told new due pass clear) =
       let all = first.claim ∷ first.claims in
       let u = once_answered t w all answer in

@@ -512,7 +512,7 @@ queue_behind (Expired text ∷ told) effects ws none = queue_behind told effects
 abbrev turn_makes : CoreState → List Effect × CoreState → List Effect → Place → Option (List What)
 turn_makes s way told p = then_entered (then_entered (broken_at s way.0 p) (told_at way.1 told p)) (wished_then way.1 told p)
 
-first_made : (left : Rooms) (s : CoreState) (turn : List Effect × CoreState) (p : Place) → IsGood s → IsFirst left s s.waiters turn → held_at turn.1 p ≡ else_was (turn_makes s (next_way s) turn.0 p) (held_at s p)
+first_made : (left : Rooms) (s : CoreState) (turn : List Effect × CoreState) (p : Place) → IsGood s → IsFirst left s [] s.waiters turn → held_at turn.1 p ≡ else_was (turn_makes s (next_way s) turn.0 p) (held_at s p)
 first_made left s turn p good first =
     subst (λ (way : List Effect × CoreState). held_at turn.1 p ≡ else_was (turn_makes s way turn.0 p) (held_at s p)) (sym next) (by first.moved)
   where
@@ -520,7 +520,7 @@ first_made left s turn p good first =
     w = first.waiter
 
     way : List Effect × CoreState
-    way = way_again s w
+    way = way_again first.before s w
 
     t : CoreState
     t = way.1
@@ -529,30 +529,30 @@ first_made left s turn p good first =
     all = first.claim ∷ first.claims
 
     next : next_way s ≡ way
-    next = next_is s first.before w first.behind first.stood first.blocked (ap (holds_up s.claims w) first.asked ∙ first.free)
+    next = next_is s first.before w first.behind first.stood first.blocked (ap (holds_up first.before s w) first.asked ∙ first.free)
 
     sound : IsGood t
-    sound = way_good (plea_again s w) w.asked s good (known_no_cache s.names w.asked first.is.1)
+    sound = way_good first.before (plea_again s w) w.asked s good (known_no_cache s.names w.asked first.is.1)
 
     named : t.names ≡ s.names
-    named = way_names (plea_again s w) w.asked s
+    named = way_names first.before (plea_again s w) w.asked s
 
     known : AllByRecursion (IsKnown t.names) all
     known = subst (λ (names : List Name). AllByRecursion (IsKnown names) all) (sym named) (subst (λ (cs : List Claim). AllByRecursion (IsKnown s.names) cs) first.asked first.is.1)
 
     there : asked_by w.id t.waiters ≡ all
     there =
-        ap (asked_by w.id) (way_waiters (plea_again s w) w.asked s ∙ first.stood)
+        ap (asked_by w.id) (way_waiters first.before (plea_again s w) w.asked s ∙ first.stood)
         ∙ asked_there first.before w first.behind (subst (λ (ws : List Waiter). Pairwise are_apart ws) first.stood good.apart) ∙ first.asked
 
     wishes : wish_by_number w.id t.waiters ≡ w.wish
     wishes =
-        ap (wish_by_number w.id) (way_waiters (plea_again s w) w.asked s ∙ first.stood)
+        ap (wish_by_number w.id) (way_waiters first.before (plea_again s w) w.asked s ∙ first.stood)
         ∙ wished_there first.before w first.behind (subst (λ (ws : List Waiter). Pairwise are_apart ws) first.stood good.apart)
 
     -- behind the way
     behind : held_at t p ≡ else_was (broken_at s way.0 p) (held_at s p)
-    behind = way_made (plea_again s w) w.asked s p good
+    behind = way_made first.before (plea_again s w) w.asked s p good
 
     whole : (later wish : Option (List What)) → held_at turn.1 p ≡ else_was wish (else_was later (held_at t p)) → told_at t turn.0 p ≡ later → wished_then t turn.0 p ≡ wish → held_at turn.1 p ≡ else_was (turn_makes s way turn.0 p) (held_at s p)
     whole later wish is told wished =
@@ -560,7 +560,7 @@ first_made left s turn p good first =
         ∙ sym (then_else (then_entered (broken_at s way.0 p) later) wish (held_at s p) ∙ ap (else_was wish) (then_else (broken_at s way.0 p) later (held_at s p)))
         ∙ (λ i. else_was (then_entered (then_entered (broken_at s way.0 p) (sym told i)) (sym wished i)) (held_at s p))
 
-    by : IsMoved left s w first.claim first.claims turn → held_at turn.1 p ≡ else_was (turn_makes s way turn.0 p) (held_at s p)
+    by : IsMoved left first.before s w first.claim first.claims turn → held_at turn.1 p ≡ else_was (turn_makes s way turn.0 p) (held_at s p)
     by (Answers answer told new due pass clear) =
         let u = once_answered t w all answer in
         let once : once_served t w.id answer ≡ u = ap (λ (cs : List Claim). once_answered t w cs answer) there in
@@ -568,36 +568,36 @@ first_made left s turn p good first =
         whole (served_at t.claims all answer p) (wished_for w.wish answer u p)
         (ap (λ (x : CoreState). held_at x p) new ∙ for_made w.wish answer u p (served_good left s turn first good answer pass).0
         ∙ ap (else_was (wished_for w.wish answer u p)) (once_made left t w all answer p sound known (λ d e. subst (λ (plea : Plea). AllPass left plea t.claims all) (again_named s w t named) (pass d e).1)))
-        (ap (λ (effects : List Effect). told_at t effects p) told ∙ told_behind t way.0 sole p (way_serves (plea_again s w) w.asked s) ∙ ap (λ (cs : List Claim). served_at t.claims cs answer p) there)
-        (ap (λ (effects : List Effect). wished_then t effects p) told ∙ wished_behind t way.0 sole p (way_serves (plea_again s w) w.asked s) ∙ (λ i. wished_for (wishes i) answer (once i) p))
+        (ap (λ (effects : List Effect). told_at t effects p) told ∙ told_behind t way.0 sole p (way_serves first.before (plea_again s w) w.asked s) ∙ ap (λ (cs : List Claim). served_at t.claims cs answer p) there)
+        (ap (λ (effects : List Effect). wished_then t effects p) told ∙ wished_behind t way.0 sole p (way_serves first.before (plea_again s w) w.asked s) ∙ (λ i. wished_for (wishes i) answer (once i) p))
     by (Rests e up) =
         whole None None (ap (λ (x : List Effect × CoreState). held_at x.1 p) e)
-        (ap (λ (x : List Effect × CoreState). told_at t x.0 p) e ∙ ap (λ (effects : List Effect). told_at t effects p) (sym (append-nil way.0)) ∙ told_behind t way.0 [] p (way_serves (plea_again s w) w.asked s))
-        (ap (λ (x : List Effect × CoreState). wished_then t x.0 p) e ∙ ap (λ (effects : List Effect). wished_then t effects p) (sym (append-nil way.0)) ∙ wished_behind t way.0 [] p (way_serves (plea_again s w) w.asked s))
+        (ap (λ (x : List Effect × CoreState). told_at t x.0 p) e ∙ ap (λ (effects : List Effect). told_at t effects p) (sym (append-nil way.0)) ∙ told_behind t way.0 [] p (way_serves first.before (plea_again s w) w.asked s))
+        (ap (λ (x : List Effect × CoreState). wished_then t x.0 p) e ∙ ap (λ (effects : List Effect). wished_then t effects p) (sym (append-nil way.0)) ∙ wished_behind t way.0 [] p (way_serves first.before (plea_again s w) w.asked s))
 
 turn_made : (n : ℕ) (left : Rooms) (s : CoreState) (p : Place) → (o : Option (List Effect × CoreState)) → settle n left s ≡ o → IfSome o (λ r. held_at r.1 p ≡ else_was (turn_makes s (next_way s) r.0 p) (held_at s p))
     → held_at (turned s o).2 p ≡ else_was (turn_makes s (next_way s) (turned s o).1 p) (held_at s p)
 turn_made n left s p None e made = nothing_made s p ∙ ap (λ (told : List Effect). else_was (broken_at s told p) (held_at s p)) (sym (ap (λ (way : List Effect × CoreState). way.0) (next_none s (none_settled n left s e))))
 turn_made n left s p (Some r) e made = made
 
-first_queue : (left : Rooms) (s : CoreState) (turn : List Effect × CoreState) → IsGood s → IsFirst left s s.waiters turn → turn.1.waiters ≡ queue_without turn.0 s.waiters
+first_queue : (left : Rooms) (s : CoreState) (turn : List Effect × CoreState) → IsGood s → IsFirst left s [] s.waiters turn → turn.1.waiters ≡ queue_without turn.0 s.waiters
 first_queue left s turn good first = by first.moved where
   w : Waiter
   w = first.waiter
 
   way : List Effect × CoreState
-  way = way_again s w
+  way = way_again first.before s w
 
   same : way.1.waiters ≡ s.waiters
-  same = way_waiters (plea_again s w) w.asked s
+  same = way_waiters first.before (plea_again s w) w.asked s
 
-  by : IsMoved left s w first.claim first.claims turn → turn.1.waiters ≡ queue_without turn.0 s.waiters
+  by : IsMoved left first.before s w first.claim first.claims turn → turn.1.waiters ≡ queue_without turn.0 s.waiters
   by (Answers answer told new due pass clear) =
       ap (λ (x : CoreState). x.waiters) (new ∙ wish_claims w.wish answer (once_answered way.1 w (first.claim ∷ first.claims) answer)) ∙ ap (λ (ws : List Waiter). cancelled w.id ws) same
-      ∙ sym (ap (λ (effects : List Effect). queue_without effects s.waiters) told ∙ queue_behind way.0 (Served w.id answer ∷ []) s.waiters (way_serves (plea_again s w) w.asked s))
+      ∙ sym (ap (λ (effects : List Effect). queue_without effects s.waiters) told ∙ queue_behind way.0 (Served w.id answer ∷ []) s.waiters (way_serves first.before (plea_again s w) w.asked s))
   by (Rests e up) =
       ap (λ (x : List Effect × CoreState). x.1.waiters) e ∙ same
-      ∙ sym (ap (λ (x : List Effect × CoreState). queue_without x.0 s.waiters) e ∙ ap (λ (effects : List Effect). queue_without effects s.waiters) (sym (append-nil way.0)) ∙ queue_behind way.0 [] s.waiters (way_serves (plea_again s w) w.asked s))
+      ∙ sym (ap (λ (x : List Effect × CoreState). queue_without x.0 s.waiters) e ∙ ap (λ (effects : List Effect). queue_without effects s.waiters) (sym (append-nil way.0)) ∙ queue_behind way.0 [] s.waiters (way_serves first.before (plea_again s w) w.asked s))
 
 turn_queue : (s : CoreState) (o : Option (List Effect × CoreState)) → IfSome o (λ r. r.1.waiters ≡ queue_without r.0 s.waiters) → (turned s o).2.waiters ≡ queue_without (turned s o).1 s.waiters
 turn_queue s None each = refl
@@ -672,7 +672,7 @@ before_made n left s a p good fit =
     let t = (way left s a).1 in
     let later = answered_at t.claims a.act (decided n left t a).0 p in
     act_made n left t a a.act p refl fit.act (asked_way_good left s a good) fit
-    ∙ ap (else_was later) (way_made (plea_of left s a) (asked_claims a (asked_whats a.act) s.names) s p good)
+    ∙ ap (else_was later) (way_made s.waiters (plea_of left s a) (asked_claims a (asked_whats a.act) s.names) s p good)
     ∙ sym (then_else (broken_at s (way left s a).0 p) later (held_at s p))
 
 after_made : (a : Ask) (answer : Answer) (s : CoreState) (p : Place) → IsGood s → held_at (wish_after a answer s) p ≡ else_was (if does_wish a.act then wished_for a.wish answer s p else None) (held_at s p)

@@ -7,6 +7,7 @@ use Rattle.xl_matrix.specs.declared.claim.What.{What}
 use Rattle.xl_matrix.specs.Owners.{posix}
 use Rattle.xl_table.specs.Held.{has_one_party, IsGrantable, IsShareOrLock, is_range, mode_of, IsKept}
 use Rattle.xl_wait.specs.declared.waiter.Rooms.{Rooms}
+use Rattle.xl_wait.specs.declared.waiter.Waiter.{Waiter}
 use Rattle.xl_core.specs.State.{CoreState}
 use Rattle.xl_core.specs.Askers.{is_client, may_hold, asked_claim, known_claim, IsFit, range_what, asked_claims, may_hold_all, IsFitAct}
 use Rattle.xl_core.specs.Decide.{ask}
@@ -63,8 +64,8 @@ ranges_alone p a ranges claims e good client = subst (λ (cs : List Claim). AllB
   by [] = tt
   by (range ∷ rest) = (asked_one_party (state_of p) a (range_what range) good client, by rest)
 
-pub called_row : (p : Parts) (called : Called) → IsGood (state_of p) → first_called (state_of p) p.queue ≡ Some called → IsRow called.asked
-called_row p called good e = by called.asked (called_known (state_of p) p.queue called good.waiters e).1 where
+pub called_row : (p : Parts) (called : Called) → IsGood (state_of p) → first_called (state_of p) [] p.queue ≡ Some called → IsRow called.asked
+called_row p called good e = by called.asked (called_known (state_of p) [] p.queue called good.waiters e).1 where
   by : (asked : List Claim) → IsPled asked → IsRow asked
   by [] none = absurd none
   by (c ∷ cs) some = some.0
@@ -133,12 +134,12 @@ left_stays Waits cs s h = refl
 left_stays (Told answer) cs s h = refl
 
 -- where a later one is stopped, the first stands behind the others of its open
-pub came_behind : (p q r : Parts) (left : Rooms) (plea : Plea) (cs : List Claim) (c : Claim) (rest : List Claim) (o : Option Ruling) (ruling : Ruling) → cs ≡ c ∷ rest → IsRow cs → state_of q ≡ stop_left o c (state_of p) → o ≡ None
-    → ruling ≡ row left plea rest (state_of q) → state_of r ≡ row_left ruling rest (state_of q) → gets ruling ≡ false → r.table ≡ inserted c p.table
-came_behind p q r left plea cs c rest o ruling is fits e none ruled after stopped =
+pub came_behind : (p q r : Parts) (earlier : List Waiter) (left : Rooms) (plea : Plea) (cs : List Claim) (c : Claim) (rest : List Claim) (o : Option Ruling) (ruling : Ruling) → cs ≡ c ∷ rest → IsRow cs → state_of q ≡ stop_left o c (state_of p) → o ≡ None
+    → ruling ≡ row earlier left plea rest (state_of q) → state_of r ≡ row_left ruling rest (state_of q) → gets ruling ≡ false → r.table ≡ inserted c p.table
+came_behind p q r earlier left plea cs c rest o ruling is fits e none ruled after stopped =
     ap (λ (s : CoreState). s.claims) (after ∙ left_stays ruling rest (state_of q) stopped) ∙ came p q c o e none ∙ by rest (subst IsRow is fits) ruled
   where
-    by : (ds : List Claim) → IsRow (c ∷ ds) → ruling ≡ row left plea ds (state_of q) → granted_claims c p.table ≡ inserted c p.table
+    by : (ds : List Claim) → IsRow (c ∷ ds) → ruling ≡ row earlier left plea ds (state_of q) → granted_claims c p.table ≡ inserted c p.table
     by [] h same = absurd (both_ways (gets ruling) stopped (ap gets same))
     by (d ∷ ds) h same = first_granted c d ds p.table h
 

@@ -143,29 +143,29 @@ begun_frame c s = record {
   leases = refl;
 }
 
-pub made_way_frame : (p : Plea) (asked : List Claim) (s : CoreState) → (let way = made_way p asked s in IsFrame s way.0 way.1 (calls_in way.0) s.names [])
-made_way_frame p asked s =
-    elim (way_is p asked s) [
+pub made_way_frame : (earlier : List Waiter) (p : Plea) (asked : List Claim) (s : CoreState) → (let way = made_way earlier p asked s in IsFrame s way.0 way.1 (calls_in way.0) s.names [])
+made_way_frame earlier p asked s =
+    elim (way_is earlier p asked s) [
       | NoWay e ↦ subst (λ (w : Turned). IsFrame s w.0 w.1 (calls_in w.0) s.names []) (sym e) (still s)
       | Begins c cs is does e ↦ subst (λ (w : Turned). IsFrame s w.0 w.1 (calls_in w.0) s.names []) (sym e) (begun_frame c s)
     ]
 
 -- who is told of by a way is nobody
-pub way_leaves : (p : Plea) (asked : List Claim) (s : CoreState) → who_left (made_way p asked s).0 ≡ []
-way_leaves p asked s =
-    elim (way_is p asked s) [
+pub way_leaves : (earlier : List Waiter) (p : Plea) (asked : List Claim) (s : CoreState) → who_left (made_way earlier p asked s).0 ≡ []
+way_leaves earlier p asked s =
+    elim (way_is earlier p asked s) [
       | NoWay e ↦ ap (λ (w : Turned). who_left w.0) e
       | Begins c cs is does e ↦ ap (λ (w : Turned). who_left w.0) e ∙ begun_leave s c
     ]
 
 -- a frame behind the way
-behind_frame : (p : Plea) (asked : List Claim) (s u : CoreState) (told : List Effect) (given : ℕ) (known : List Name) (come : List Waiter)
-    → (let way = made_way p asked s in IsFrame way.1 told u given known come → calls_in told ≡ 0 → IsFrame s (way.0 ++ told) u (given + calls_in (way.0 ++ told)) known come)
-behind_frame p asked s u told given known come frame quiet =
-    let way = made_way p asked s in
-    let first = made_way_frame p asked s in
-    let same : way.1.waiters ≡ s.waiters = way_waiters p asked s in
-    let ids : who_left (way.0 ++ told) ≡ who_left told = told_both way.0 told ∙ ap (λ (xs : List ℕ). xs ++ who_left told) (way_leaves p asked s) in
+behind_frame : (earlier : List Waiter) (p : Plea) (asked : List Claim) (s u : CoreState) (told : List Effect) (given : ℕ) (known : List Name) (come : List Waiter)
+    → (let way = made_way earlier p asked s in IsFrame way.1 told u given known come → calls_in told ≡ 0 → IsFrame s (way.0 ++ told) u (given + calls_in (way.0 ++ told)) known come)
+behind_frame earlier p asked s u told given known come frame quiet =
+    let way = made_way earlier p asked s in
+    let first = made_way_frame earlier p asked s in
+    let same : way.1.waiters ≡ s.waiters = way_waiters earlier p asked s in
+    let ids : who_left (way.0 ++ told) ≡ who_left told = told_both way.0 told ∙ ap (λ (xs : List ℕ). xs ++ who_left told) (way_leaves earlier p asked s) in
     record {
       stable = frame.stable ∙ first.stable;
       clock = frame.clock ∙ first.clock;
@@ -191,22 +191,22 @@ for_frame kinds answer s t told given known come frame = same_frame s t (wish_fo
 none_more : (n : ℕ) → 0 + n ≡ n
 none_more n = omega arith
 
-first_frame : (left : Rooms) (s : CoreState) (turn : Turned) → IsFirst left s s.waiters turn → IsFrame s turn.0 turn.1 (calls_in turn.0) s.names []
+first_frame : (left : Rooms) (s : CoreState) (turn : Turned) → IsFirst left s [] s.waiters turn → IsFrame s turn.0 turn.1 (calls_in turn.0) s.names []
 first_frame left s turn first = by first.moved where
   w : Waiter
   w = first.waiter
 
   way : Turned
-  way = way_again s w
+  way = way_again first.before s w
 
   t : CoreState
   t = way.1
 
   same : t.waiters ≡ s.waiters
-  same = way_waiters (plea_again s w) w.asked s
+  same = way_waiters first.before (plea_again s w) w.asked s
 
   named : t.names ≡ s.names
-  named = way_names (plea_again s w) w.asked s
+  named = way_names first.before (plea_again s w) w.asked s
 
   waits : is_waiting w.id t.waiters ≡ true
   waits = subst (λ (ws : List Waiter). is_waiting w.id ws ≡ true) (sym (same ∙ first.stood)) (stands_waiting first.before w first.behind)
@@ -214,9 +214,9 @@ first_frame left s turn first = by first.moved where
   whole : (told : List Effect) (u : CoreState) → turn.0 ≡ way.0 ++ told → turn.1 ≡ u → calls_in told ≡ 0 → IsFrame t told u 0 s.names [] → IsFrame s turn.0 turn.1 (calls_in turn.0) s.names []
   whole told u e f quiet frame =
       subst (λ (x : List Effect). IsFrame s x turn.1 (calls_in x) s.names []) (sym e)
-      (subst (λ (x : CoreState). IsFrame s (way.0 ++ told) x (calls_in (way.0 ++ told)) s.names []) (sym f) (subst (λ (given : ℕ). IsFrame s (way.0 ++ told) u given s.names []) (none_more (calls_in (way.0 ++ told))) (behind_frame (plea_again s w) w.asked s u told 0 s.names [] frame quiet)))
+      (subst (λ (x : CoreState). IsFrame s (way.0 ++ told) x (calls_in (way.0 ++ told)) s.names []) (sym f) (subst (λ (given : ℕ). IsFrame s (way.0 ++ told) u given s.names []) (none_more (calls_in (way.0 ++ told))) (behind_frame first.before (plea_again s w) w.asked s u told 0 s.names [] frame quiet)))
 
-  by : IsMoved left s w first.claim first.claims turn → IsFrame s turn.0 turn.1 (calls_in turn.0) s.names []
+  by : IsMoved left first.before s w first.claim first.claims turn → IsFrame s turn.0 turn.1 (calls_in turn.0) s.names []
   by (Answers answer told new due pass clear) =
       let u = once_answered t w (first.claim ∷ first.claims) answer in
       whole (Served w.id answer ∷ []) (wish_for w.wish answer u) told new refl
@@ -246,8 +246,8 @@ ask_frame n left s a good client =
     let frame = decided_frame n left t a sound client in
     let whole = before_wish n left s a in
     same_frame s whole.2 (wish_after a whole.0 whole.2) whole.1 (drawn_by whole.0 + calls_in whole.1) (names_after a whole.0 s.names) (come_by a whole.0 s.names) (after_claims a whole.0 whole.2)
-    (behind_frame p asked s r.2 r.1 (drawn_by r.0) (names_after a r.0 s.names) (come_by a r.0 s.names)
-    (subst (λ (names : List Name). IsFrame t r.1 r.2 (drawn_by r.0) (names_after a r.0 names) (come_by a r.0 names)) (way_names p asked s) frame)
+    (behind_frame s.waiters p asked s r.2 r.1 (drawn_by r.0) (names_after a r.0 s.names) (come_by a r.0 s.names)
+    (subst (λ (names : List Name). IsFrame t r.1 r.2 (drawn_by r.0) (names_after a r.0 names) (come_by a r.0 names)) (way_names s.waiters p asked s) frame)
     (ap calls_in (decided_quiet n left t a sound client)))
 
 -- ---- who leaves, and a number

@@ -1,5 +1,5 @@
 -- The state stays good: by each ask, each turn, each cancel, and when a party leaves.
-use Rattle.std.proofs.Common.{◌≡◌, ℕ, ◌+◌, ◌≤◌, Bool, true, false, not, ◌&&◌, ◌||◌, ◌==◌, nat_le, inl, inr, List, [], ◌∷◌, ◌++◌, length, append-nil, Option, Some, None, IfSome, refl, sym, ap, subst, ◌∙◌, arith, zero, suc, map, if◌then◌else◌}
+use Rattle.std.proofs.Common.{◌≡◌, ℕ, ◌+◌, ◌≤◌, Bool, true, false, not, ◌&&◌, ◌||◌, ◌==◌, nat_le, inl, inr, List, [], ◌∷◌, ◌++◌, length, append-nil, append_assoc, Option, Some, None, IfSome, refl, sym, ap, subst, ◌∙◌, arith, zero, suc, map, if◌then◌else◌}
 use Rattle.std.specs.List.{AllByRecursion, filter, list_any}
 use Rattle.std.proofs.lemmas.Bool.{cases_Bool, both_ways, and_parts, ne_eqb, not-true, not_from_false, leb-true}
 use Rattle.std.proofs.lemmas.List.{length-append}
@@ -44,9 +44,9 @@ use Rattle.xl_core.specs.Askers.{party_named, who_entered, asking_party, may_hav
 use Rattle.xl_core.specs.declared.lease.Times.{Times}
 use Rattle.xl_names.specs.declared.name.Name.TheVariants.{NfsParty}
 use Rattle.xl_core.specs.Askers.{both_entered, asked_whats, asked_claim, asked_claims, known_claim, is_client, may_ask, IsFitAct, IsFit}
-use Rattle.xl_core.specs.Causes.{limits_of_wait, may_wait, left_by_unlock, IsEachDue, held_once}
+use Rattle.xl_core.specs.Causes.{limits_of_wait, may_wait, left_by_unlock, IsEachBehind, held_once}
 use Rattle.xl_core.specs.Decide.{Answered, plea_of, waiter_of, waiting, named, answered, claims_asked, unlocked_claims, unlocked_bytes, unlocked, wish_by, wish_asked, acted, decided, way, before_wish, does_wish, ask, freed, unlocked_one}
-use Rattle.xl_core.specs.Good.{are_kept, IsKnown, IsHeld, is_single, are_apart, IsPled, IsWished, IsWaiter, IsGood, is_held_up, holds_up}
+use Rattle.xl_core.specs.Good.{are_kept, IsKnown, IsHeld, is_single, are_apart, IsPled, IsWished, IsWaiter, IsGood, AllBehind, is_held_up, holds_up, IsUp}
 use Rattle.xl_core.specs.Blockers.{is_stopped, all_run}
 use Rattle.xl_core.specs.Ways.{made_way}
 use Rattle.xl_core.specs.Wishes.{wish_for}
@@ -143,7 +143,7 @@ unlocked_one_party s a extent exclusive good client =
 -- what becomes of an ask for these claims: it has all of them, it waits, or it is refused
 pub data AskCase (left : Rooms) (s : CoreState) (a : Ask) (claims : List Claim) (first : Claim) (r : Answered) : Type 0 where
   Goes : AllPass left (plea_of left s a) s.claims claims → r ≡ (answers.Granted first, [], named a (held_with claims s)) → AskCase left s a claims first r
-  Queues : may_wait s.claims a first ≡ true → is_blocked s.claims first ≡ true → first_passed (limits_of_wait left s a) ≡ None → r ≡ (answers.Queued (s.counter + 1), [], waiting a claims s) → AskCase left s a claims first r
+  Queues : may_wait s.waiters s a first ≡ true → is_blocked s.claims first ≡ true → first_passed (limits_of_wait left s a) ≡ None → r ≡ (answers.Queued (s.counter + 1), [], waiting a claims s) → AskCase left s a claims first r
   Refuses : (answer : Answer) → is_refusal answer ≡ true → r ≡ (answer, [], s) → AskCase left s a claims first r
 
 pub ask_case : (n : ℕ) (left : Rooms) (s : CoreState) (a : Ask) (c : Claim) (cs : List Claim) → AskCase left s a (c ∷ cs) c (claims_asked n left s a (c ∷ cs))
@@ -155,9 +155,9 @@ ask_case n left s a c cs = by r.0 r.1 r.2 (judged_ruled n s.waiters left (plea_o
   waits_so : (x y z u : Bool) → (x && (if y then z else u)) ≡ true → (x ≡ true) × ((if y then z else u) ≡ true)
   waits_so x y z u e = and_parts x (if y then z else u) e
 
-  by : (ruling : Ruling) (told : List Effect) (t : CoreState) → IsRuled left (plea_of left s a) (c ∷ cs) s ruling told t → AskCase left s a (c ∷ cs) c (answered a (c ∷ cs) c ruling told t)
+  by : (ruling : Ruling) (told : List Effect) (t : CoreState) → IsRuled s.waiters left (plea_of left s a) (c ∷ cs) s ruling told t → AskCase left s a (c ∷ cs) c (answered a (c ∷ cs) c ruling told t)
   by Gets told t is = Goes is.2 (λ i. answered a (c ∷ cs) c Gets (is.0 i) (is.1 i))
-  by Waits told t is = let both = waits_so (is_blocked s.claims c) (is_stopped s.claims c) a.blocking a.awaits is.3 in Queues both.1 both.0 is.2 (λ i. answered a (c ∷ cs) c Waits (is.0 i) (is.1 i))
+  by Waits told t is = let both = waits_so (is_blocked s.claims c) (is_stopped s.waiters s c) a.blocking a.awaits is.3 in Queues both.1 both.0 is.2 (λ i. answered a (c ∷ cs) c Waits (is.0 i) (is.1 i))
   by (Told answer) told t is = Refuses answer is.2 (λ i. answered a (c ∷ cs) c (Told answer) (is.0 i) (is.1 i))
 
 -- claims that pass, one behind another, leave the claims good
@@ -193,8 +193,8 @@ waiting_good left s a c cs good known row wished room =
     (omega (arith, fits.1, length-append s.waiters (new ∷ [])))
 
 -- who may wait asks to wait for one thing or the other
-waits_then : (s : CoreState) (a : Ask) (c : Claim) → may_wait s.claims a c ≡ true → (a.blocking || a.awaits) ≡ true
-waits_then s a c may = by (is_stopped s.claims c) a.blocking a.awaits may where
+waits_then : (s : CoreState) (a : Ask) (c : Claim) → may_wait s.waiters s a c ≡ true → (a.blocking || a.awaits) ≡ true
+waits_then s a c may = by (is_stopped s.waiters s c) a.blocking a.awaits may where
   by : (x y z : Bool) → (if x then y else z) ≡ true → (y || z) ≡ true
   by true true z h = refl
   by true false z h = absurd (both_ways false refl h)
@@ -331,7 +331,7 @@ asks_no_cache a names (Unlock extent) = tt
 asks_no_cache a names Wish = tt
 
 pub asked_way_good : (left : Rooms) (s : CoreState) (a : Ask) → IsGood s → IsGood (way left s a).1
-asked_way_good left s a good = way_good (plea_of left s a) (asked_claims a (asked_whats a.act) s.names) s good (asks_no_cache a s.names a.act)
+asked_way_good left s a good = way_good s.waiters (plea_of left s a) (asked_claims a (asked_whats a.act) s.names) s good (asks_no_cache a s.names a.act)
 
 -- so it is before the wish is granted
 pub before_good : (n : ℕ) (left : Rooms) (s : CoreState) (a : Ask) → IsGood s → IsFit a → IsGood (before_wish n left s a).2
@@ -404,14 +404,14 @@ Turned = List Effect × CoreState
 
 -- What becomes of a waiter for these that isn't held up, once the breaks run that it begins: it is held up by them, or each is
 -- judged beside those before it, and it has all of them or is refused.
-pub data IsMoved (left : Rooms) (s : CoreState) (w : Waiter) (c : Claim) (cs : List Claim) (turn : Turned) : Type 0 where
-  Answers : (answer : Answer) → turn.0 ≡ (way_again s w).0 ++ Served w.id answer ∷ []
-      → turn.1 ≡ wish_for w.wish answer (record (way_again s w).1 { claims = held_once (c ∷ cs) answer (way_again s w).1.claims; waiters = cancelled w.id (way_again s w).1.waiters })
-      → IsEachDue left w.rows (length s.names) c (c ∷ cs) (way_again s w).1 answer
-      → ((d : Claim) → answer ≡ answers.Granted d → (d ≡ c) × AllPass left (plea_again s w) (way_again s w).1.claims (c ∷ cs))
-      → is_held_up (way_again s w).1.claims w c ≡ false
-      → IsMoved left s w c cs turn
-  Rests : turn ≡ way_again s w → is_held_up (way_again s w).1.claims w c ≡ true → IsMoved left s w c cs turn
+pub data IsMoved (left : Rooms) (earlier : List Waiter) (s : CoreState) (w : Waiter) (c : Claim) (cs : List Claim) (turn : Turned) : Type 0 where
+  Answers : (answer : Answer) → turn.0 ≡ (way_again earlier s w).0 ++ Served w.id answer ∷ []
+      → turn.1 ≡ wish_for w.wish answer (record (way_again earlier s w).1 { claims = held_once (c ∷ cs) answer (way_again earlier s w).1.claims; waiters = cancelled w.id (way_again earlier s w).1.waiters })
+      → IsEachBehind earlier left w.rows (length s.names) c (c ∷ cs) (way_again earlier s w).1 answer
+      → ((d : Claim) → answer ≡ answers.Granted d → (d ≡ c) × AllPass left (plea_again s w) (way_again earlier s w).1.claims (c ∷ cs))
+      → is_held_up earlier (way_again earlier s w).1 w c ≡ false
+      → IsMoved left earlier s w c cs turn
+  Rests : turn ≡ way_again earlier s w → is_held_up earlier (way_again earlier s w).1 w c ≡ true → IsMoved left earlier s w c cs turn
 
 -- a refusal leaves what is held
 refused_once : (asked : List Claim) (answer : Answer) (held : List Claim) → is_refusal answer ≡ true → held_once asked answer held ≡ held
@@ -427,15 +427,15 @@ refused_once asked answers.NotHeld held h = refl
 refused_once asked answers.StoreFailed held h = refl
 
 -- where the first of its claims is waited for once the breaks run, it is held up
-waits_up : (s : CoreState) (w : Waiter) (c : Claim) (cs : List Claim) → w.asked ≡ c ∷ cs → is_held_up s.claims w c ≡ false → does_wait (plea_again s w) (way_again s w).1.claims c ≡ true → is_held_up (way_again s w).1.claims w c ≡ true
+waits_up : (earlier : List Waiter) (s : CoreState) (w : Waiter) (c : Claim) (cs : List Claim) → w.asked ≡ c ∷ cs → is_held_up earlier s w c ≡ false → does_wait earlier (plea_again s w) (way_again earlier s w).1 c ≡ true → is_held_up earlier (way_again earlier s w).1 w c ≡ true
 unfolding plea_again
-waits_up s w c cs asked free waits = by (is_stopped s.claims c) refl where
+waits_up earlier s w c cs asked free waits = by (is_stopped earlier s c) refl where
   t : CoreState
-  t = (way_again s w).1
+  t = (way_again earlier s w).1
 
   -- where what blocks it for good was there, nothing began
-  same : is_stopped s.claims c ≡ true → t ≡ s
-  same stops = ap (λ (x : List Effect × CoreState). x.1) (ap (λ (ds : List Claim). made_way (plea_again s w) ds s) asked ∙ way_stopped (plea_again s w) c cs s stops)
+  same : is_stopped earlier s c ≡ true → t ≡ s
+  same stops = ap (λ (x : List Effect × CoreState). x.1) (ap (λ (ds : List Claim). made_way earlier (plea_again s w) ds s) asked ∙ way_stopped earlier (plea_again s w) c cs s stops)
 
   up : (x y z r : Bool) → (x && (if y then z else true)) ≡ true → (y ≡ false → r ≡ true) → (x && (if y then z else r)) ≡ true
   up true true z r e run = e
@@ -447,41 +447,41 @@ waits_up s w c cs asked free waits = by (is_stopped s.claims c) refl where
   firm true false z r h e = absurd (both_ways false refl h)
   firm false y z r h e = e
 
-  by : (b : Bool) → is_stopped s.claims c ≡ b → is_held_up t.claims w c ≡ true
+  by : (b : Bool) → is_stopped earlier s c ≡ b → is_held_up earlier t w c ≡ true
   by true stops =
-      let now : (is_blocked s.claims c && (if is_stopped s.claims c then w.blocking else true)) ≡ true = subst (λ (x : CoreState). (is_blocked x.claims c && (if is_stopped x.claims c then w.blocking else true)) ≡ true) (same stops) waits in
-      absurd (both_ways (is_held_up s.claims w c) free (firm (is_blocked s.claims c) (is_stopped s.claims c) w.blocking (all_run s.claims c) stops now))
+      let now : (is_blocked s.claims c && (if is_stopped earlier s c then w.blocking else true)) ≡ true = subst (λ (x : CoreState). (is_blocked x.claims c && (if is_stopped earlier x c then w.blocking else true)) ≡ true) (same stops) waits in
+      absurd (both_ways (is_held_up earlier s w c) free (firm (is_blocked s.claims c) (is_stopped earlier s c) w.blocking (all_run s.claims c) stops now))
   by false moves =
-      up (is_blocked t.claims c) (is_stopped t.claims c) w.blocking (all_run t.claims c) waits
-      (λ clear. ap (λ (ds : List Claim). all_run (made_way (plea_again s w) ds s).1.claims c) asked ∙ way_runs (plea_again s w) c cs s refl refl moves)
+      up (is_blocked t.claims c) (is_stopped earlier t c) w.blocking (all_run t.claims c) waits
+      (λ clear. ap (λ (ds : List Claim). all_run (made_way earlier (plea_again s w) ds s).1.claims c) asked ∙ way_runs earlier (plea_again s w) c cs s refl refl moves)
 
 -- and where it isn't waited for, it isn't held up
-not_up : (s : CoreState) (w : Waiter) (held : List Claim) (c : Claim) → does_wait (plea_again s w) held c ≡ false → is_held_up held w c ≡ false
+not_up : (earlier : List Waiter) (s t : CoreState) (w : Waiter) (c : Claim) → does_wait earlier (plea_again s w) t c ≡ false → is_held_up earlier t w c ≡ false
 unfolding plea_again
-not_up s w held c clear = by (is_blocked held c) (is_stopped held c) w.blocking (all_run held c) clear where
+not_up earlier s t w c clear = by (is_blocked t.claims c) (is_stopped earlier t c) w.blocking (all_run t.claims c) clear where
   by : (x y z r : Bool) → (x && (if y then z else true)) ≡ false → (x && (if y then z else r)) ≡ false
   by true true z r e = e
   by true false z r e = absurd (both_ways true e refl)
   by false y z r e = e
 
-moved : (n : ℕ) (left : Rooms) (s : CoreState) (earlier : List Waiter) (w : Waiter) (c : Claim) (cs : List Claim) → w.asked ≡ c ∷ cs → is_held_up s.claims w c ≡ false → (let r = again n left s earlier w in IsMoved left s w c cs (turned w r.0 r.1 r.2))
+moved : (n : ℕ) (left : Rooms) (s : CoreState) (earlier : List Waiter) (w : Waiter) (c : Claim) (cs : List Claim) → w.asked ≡ c ∷ cs → is_held_up earlier s w c ≡ false → (let r = again n left s earlier w in IsMoved left earlier s w c cs (turned w r.0 r.1 r.2))
 unfolding plea_again held_with
 moved n left s earlier w c cs asked free =
-    subst (λ (ds : List Claim). let r = judged n earlier left p ds t in IsMoved left s w c cs (turned w r.0 (way.0 ++ r.1) r.2)) (sym asked)
-    (elim (cases_Bool (does_wait p t.claims c)) [
+    subst (λ (ds : List Claim). let r = judged n earlier left p ds t in IsMoved left earlier s w c cs (turned w r.0 (way.0 ++ r.1) r.2)) (sym asked)
+    (elim (cases_Bool (does_wait earlier p t c)) [
       | inl waits ↦
-          subst (λ (r : Ruled). IsMoved left s w c cs (turned w r.0 (way.0 ++ r.1) r.2)) (sym (waits_now n left s t earlier w c cs waits))
-          (Rests (λ i. (append-nil way.0 i, t)) (waits_up s w c cs asked free waits))
+          subst (λ (r : Ruled). IsMoved left earlier s w c cs (turned w r.0 (way.0 ++ r.1) r.2)) (sym (waits_now n left s t earlier w c cs waits))
+          (Rests (λ i. (append-nil way.0 i, t)) (waits_up earlier s w c cs asked free waits))
       | inr clear ↦
           by r.0 r.1 r.2 (judged_ruled n earlier left p (c ∷ cs) t)
-          (row_due left p c (c ∷ cs) t (answer_by r.0) c cs refl clear (subst (λ (x : Ruling). tells c (row left p (c ∷ cs) t) (answer_by x)) (sym (ap (λ (x : Ruled). x.0) whole)) (tells_by (row left p (c ∷ cs) t)))) clear
+          (row_due earlier left p c (c ∷ cs) t (answer_by r.0) c cs refl clear (subst (λ (x : Ruling). tells c (row earlier left p (c ∷ cs) t) (answer_by x)) (sym (ap (λ (x : Ruled). x.0) whole)) (tells_by (row earlier left p (c ∷ cs) t)))) clear
     ])
   where
     p : Plea
     p = plea_again s w
 
     way : List Effect × CoreState
-    way = way_again s w
+    way = way_again earlier s w
 
     t : CoreState
     t = way.1
@@ -489,7 +489,7 @@ moved n left s earlier w c cs asked free =
     r : Ruled
     r = judged n earlier left p (c ∷ cs) t
 
-    whole : r ≡ (row left p (c ∷ cs) t, [], row_left (row left p (c ∷ cs) t) (c ∷ cs) t)
+    whole : r ≡ (row earlier left p (c ∷ cs) t, [], row_left (row earlier left p (c ∷ cs) t) (c ∷ cs) t)
     whole = judged_row n earlier left p (c ∷ cs) t refl
 
     answer_by : Ruling → Answer
@@ -508,46 +508,46 @@ moved n left s earlier w c cs asked free =
     behind : (told : List Effect) (answer : Answer) → told ≡ [] → (way.0 ++ told) ++ Served w.id answer ∷ [] ≡ way.0 ++ Served w.id answer ∷ []
     behind told answer none = ap (λ (xs : List Effect). (way.0 ++ xs) ++ Served w.id answer ∷ []) none ∙ ap (λ (xs : List Effect). xs ++ Served w.id answer ∷ []) (append-nil way.0)
 
-    by : (ruling : Ruling) (told : List Effect) (u : CoreState) → IsRuled left p (c ∷ cs) t ruling told u → IsEachDue left w.rows (length s.names) c (c ∷ cs) t (answer_by ruling) → does_wait p t.claims c ≡ false → IsMoved left s w c cs (turned w ruling (way.0 ++ told) u)
+    by : (ruling : Ruling) (told : List Effect) (u : CoreState) → IsRuled earlier left p (c ∷ cs) t ruling told u → IsEachBehind earlier left w.rows (length s.names) c (c ∷ cs) t (answer_by ruling) → does_wait earlier p t c ≡ false → IsMoved left earlier s w c cs (turned w ruling (way.0 ++ told) u)
     by Gets told u is due clear = Answers (answers.Granted c)
         (behind told (all_of w.asked) is.0 ∙ ap (λ (ds : List Claim). way.0 ++ Served w.id (all_of ds) ∷ []) asked)
         (λ i. wish_for w.wish (all_of (asked i)) (record (is.1 i) { waiters = cancelled w.id (is.1 i).waiters }))
         due
         (λ d e. (same_claim c d e, is.2))
-        (not_up s w t.claims c clear)
-    by Waits told u is due clear = absurd (both_ways (does_wait p t.claims c) clear is.3)
+        (not_up earlier s t w c clear)
+    by Waits told u is due clear = absurd (both_ways (does_wait earlier p t c) clear is.3)
     by (Told answer) told u is due clear = Answers answer
         (behind told answer is.0)
         (ap (λ (x : CoreState). record x { waiters = cancelled w.id x.waiters }) is.1 ∙ ap (λ (held : List Claim). record t { claims = held; waiters = cancelled w.id t.waiters }) (sym (refused_once (c ∷ cs) answer t.claims is.2))
         ∙ sym (refused_wish w.wish answer (record t { claims = held_once (c ∷ cs) answer t.claims; waiters = cancelled w.id t.waiters }) is.2))
         due
         (λ d e. absurd (both_ways (is_refusal answer) (ap is_refusal e) is.2))
-        (not_up s w t.claims c clear)
+        (not_up earlier s t w c clear)
 
 -- the first waiter that has a turn
-pub record IsFirst (left : Rooms) (s : CoreState) (ws : List Waiter) (turn : Turned) : Type 0 where
+pub record IsFirst (left : Rooms) (s : CoreState) (earlier ws : List Waiter) (turn : Turned) : Type 0 where
   pub before : List Waiter
   pub waiter : Waiter
   pub behind : List Waiter
   pub claim : Claim
   pub claims : List Claim
   pub stood : ws ≡ before ++ waiter ∷ behind
-  pub blocked : AllByRecursion (λ w. holds_up s.claims w w.asked ≡ true) before
+  pub blocked : AllBehind (IsUp s) earlier before
   pub is : IsWaiter s.names s.counter waiter
   pub asked : waiter.asked ≡ claim ∷ claims
-  pub free : is_held_up s.claims waiter claim ≡ false
-  pub moved : IsMoved left s waiter claim claims turn
+  pub free : is_held_up (earlier ++ before) s waiter claim ≡ false
+  pub moved : IsMoved left (earlier ++ before) s waiter claim claims turn
 
 same_turn : (a b : Turned) → Some a ≡ Some b → a ≡ b
 same_turn a b e = cc
 
-pub first_is : (n : ℕ) (left : Rooms) (s : CoreState) (earlier ws : List Waiter) (turn : Turned) → AllByRecursion (IsWaiter s.names s.counter) ws → first_turn n left s earlier ws ≡ Some turn → IsFirst left s ws turn
+pub first_is : (n : ℕ) (left : Rooms) (s : CoreState) (earlier ws : List Waiter) (turn : Turned) → AllByRecursion (IsWaiter s.names s.counter) ws → first_turn n left s earlier ws ≡ Some turn → IsFirst left s earlier ws turn
 first_is n left s earlier [] turn all e = absurd cc
 first_is n left s earlier (w ∷ ws) turn all e =
     let r = again n left s earlier w in
     let later = first_turn n left s (earlier ++ w ∷ []) ws in
     let one = pled w.asked all.0.2 in
-    elim (cases_Bool (is_held_up s.claims w one.0)) [
+    elim (cases_Bool (is_held_up earlier s w one.0)) [
       | inl up ↦
           let rest = held_rests n left s earlier w one.0 one.1 one.2 up in
           let found = first_is n left s (earlier ++ w ∷ []) ws turn all.1 (sym (ap (λ (x : Ruled). turn_or w x later) rest) ∙ e) in
@@ -561,11 +561,11 @@ first_is n left s earlier (w ∷ ws) turn all e =
             blocked = ((rests_held n left s earlier w (ap (λ (x : Ruled). rests x.0 x.1) rest)).1, found.blocked);
             is = found.is;
             asked = found.asked;
-            free = found.free;
-            moved = found.moved;
+            free = subst (λ (before : List Waiter). is_held_up before s found.waiter found.claim ≡ false) (append_assoc earlier (w ∷ []) found.before) found.free;
+            moved = subst (λ (before : List Waiter). IsMoved left before s found.waiter found.claim found.claims turn) (append_assoc earlier (w ∷ []) found.before) found.moved;
           }
       | inr free ↦
-          let clear : holds_up s.claims w w.asked ≡ false = ap (holds_up s.claims w) one.2 ∙ free in
+          let clear : holds_up earlier s w w.asked ≡ false = ap (holds_up earlier s w) one.2 ∙ free in
           record {
             before = [];
             waiter = w;
@@ -576,8 +576,8 @@ first_is n left s earlier (w ∷ ws) turn all e =
             blocked = tt;
             is = all.0;
             asked = one.2;
-            free = free;
-            moved = subst (IsMoved left s w one.0 one.1) (same_turn (turned w r.0 r.1 r.2) turn (sym (move_first w r later (free_moves n left s earlier w clear)) ∙ e)) (moved n left s earlier w one.0 one.1 one.2 free);
+            free = subst (λ (before : List Waiter). is_held_up before s w one.0 ≡ false) (sym (append-nil earlier)) free;
+            moved = subst (λ (before : List Waiter). IsMoved left before s w one.0 one.1 turn) (sym (append-nil earlier)) (subst (IsMoved left earlier s w one.0 one.1) (same_turn (turned w r.0 r.1 r.2) turn (sym (move_first w r later (free_moves n left s earlier w clear)) ∙ e)) (moved n left s earlier w one.0 one.1 one.2 free));
           }
     ]
   where
@@ -638,8 +638,8 @@ waiter_may names counter w c cs asked is = (kinds w.wish (subst (λ (ds : List C
   kinds (k ∷ ks) all = (all.0.0, kinds ks all.1)
 
 -- one who is served is so in a good state, in which it may wish
-pub served_good : (left : Rooms) (s : CoreState) (turn : Turned) (first : IsFirst left s s.waiters turn) → IsGood s → (answer : Answer) → ((d : Claim) → answer ≡ answers.Granted d → (d ≡ first.claim) × AllPass left (plea_again s first.waiter) (way_again s first.waiter).1.claims (first.claim ∷ first.claims))
-    → (let u = once_answered (way_again s first.waiter).1 first.waiter (first.claim ∷ first.claims) answer in IsGood u × MayWish u first.waiter.wish answer)
+pub served_good : (left : Rooms) (s : CoreState) (turn : Turned) (first : IsFirst left s [] s.waiters turn) → IsGood s → (answer : Answer) → ((d : Claim) → answer ≡ answers.Granted d → (d ≡ first.claim) × AllPass left (plea_again s first.waiter) (way_again first.before s first.waiter).1.claims (first.claim ∷ first.claims))
+    → (let u = once_answered (way_again first.before s first.waiter).1 first.waiter (first.claim ∷ first.claims) answer in IsGood u × MayWish u first.waiter.wish answer)
 served_good left s turn first good answer pass = (
   good_from (once_answered t w (first.claim ∷ first.claims) answer)
       (once_good left t w (first.claim ∷ first.claims) answer sound known (λ d e. subst (λ (p : Plea). AllPass left p t.claims (first.claim ∷ first.claims)) (again_named s w t same) (pass d e).1)) sound.distinct sound.few
@@ -651,26 +651,26 @@ served_good left s turn first good answer pass = (
   w = first.waiter
 
   t : CoreState
-  t = (way_again s w).1
+  t = (way_again first.before s w).1
 
   sound : IsGood t
-  sound = way_good (plea_again s w) w.asked s good (known_no_cache s.names w.asked first.is.1)
+  sound = way_good first.before (plea_again s w) w.asked s good (known_no_cache s.names w.asked first.is.1)
 
   same : t.names ≡ s.names
-  same = way_names (plea_again s w) w.asked s
+  same = way_names first.before (plea_again s w) w.asked s
 
   known : AllByRecursion (IsKnown t.names) (first.claim ∷ first.claims)
   known = subst (λ (names : List Name). AllByRecursion (IsKnown names) (first.claim ∷ first.claims)) (sym same) (subst (λ (cs : List Claim). AllByRecursion (IsKnown s.names) cs) first.asked first.is.1)
 
-turn_good : (left : Rooms) (s : CoreState) (turn : Turned) (first : IsFirst left s s.waiters turn) → IsGood s → IsGood turn.1
+turn_good : (left : Rooms) (s : CoreState) (turn : Turned) (first : IsFirst left s [] s.waiters turn) → IsGood s → IsGood turn.1
 turn_good left s turn first good = by first.moved where
-  by : IsMoved left s first.waiter first.claim first.claims turn → IsGood turn.1
+  by : IsMoved left first.before s first.waiter first.claim first.claims turn → IsGood turn.1
   by (Answers answer told new due pass clear) =
       let is = served_good left s turn first good answer pass in
-      subst IsGood (sym new) (wish_for_good first.waiter.wish answer (once_answered (way_again s first.waiter).1 first.waiter (first.claim ∷ first.claims) answer) is.0 is.1)
-  by (Rests e up) = subst (λ (x : Turned). IsGood x.1) (sym e) (way_good (plea_again s first.waiter) first.waiter.asked s good (known_no_cache s.names first.waiter.asked first.is.1))
+      subst IsGood (sym new) (wish_for_good first.waiter.wish answer (once_answered (way_again first.before s first.waiter).1 first.waiter (first.claim ∷ first.claims) answer) is.0 is.1)
+  by (Rests e up) = subst (λ (x : Turned). IsGood x.1) (sym e) (way_good first.before (plea_again s first.waiter) first.waiter.asked s good (known_no_cache s.names first.waiter.asked first.is.1))
 
-pub each_turn : (n : ℕ) (left : Rooms) (s : CoreState) (P : Turned → Type 0) → IsGood s → ((turn : Turned) → IsFirst left s s.waiters turn → P turn) → IfSome (settle n left s) P
+pub each_turn : (n : ℕ) (left : Rooms) (s : CoreState) (P : Turned → Type 0) → IsGood s → ((turn : Turned) → IsFirst left s [] s.waiters turn → P turn) → IfSome (settle n left s) P
 unfolding settle
 each_turn n left s P good holds = by (first_turn n left s [] s.waiters) refl where
   by : (o : Option Turned) → first_turn n left s [] s.waiters ≡ o → IfSome o P

@@ -16,7 +16,7 @@ use Rattle.std.proofs.Common.{◌≡◌, ℕ, ◌+◌, Bool, true, false, not, �
 use Rattle.std.specs.List.{AllByRecursion, filter, list_any}
 use Rattle.std.proofs.lemmas.Bool.{cases_Bool, both_ways, or_parts, eqb-true, eq-eqb}
 use Rattle.xl_base.specs.Lists.{placed, Pairwise}
-use Rattle.xl_base.proofs.Members.{all_from, all_weaker, all_append}
+use Rattle.xl_base.proofs.Members.{all_weaker, all_append}
 use Rattle.xl_base.specs.declared.name.Owner.{Owner}
 use Rattle.xl_base.specs.declared.name.Party.{Party}
 use Rattle.xl_matrix.proofs.EqualLaws.{same_claims-true, eqb-sym}
@@ -45,12 +45,12 @@ use Rattle.xl_wait.specs.declared.waiter.Waiter.{Waiter}
 use Rattle.xl_core.specs.State.{CoreState, step_begun, drawn}
 use Rattle.xl_core.specs.Askers.{both_entered, asked_whats, asked_claims, IsFit}
 use Rattle.xl_core.specs.Causes.{IsClaimDue, IsServed, Answered as TurnAnswered, WaitsOn, IsTurn, may_wait, held_once}
-use Rattle.xl_core.specs.Decide.{Answered, plea_of, waiter_of, claims_asked, acted, decided, way, before_wish, does_wish, wish_after, ask}
+use Rattle.xl_core.specs.Decide.{Answered, plea_of, waiter_of, named, waiting, unlocked_claims, claims_asked, acted, decided, way, before_wish, does_wish, wish_after, ask}
 use Rattle.xl_core.specs.Wishes.{wish_granted, wish_of, wish_for}
 use Rattle.xl_cache.specs.declared.wish.Wish.{Wish}
 use Rattle.xl_core.proofs.WishLaws.{wish_elsewhere}
 use Rattle.xl_core.proofs.AskWishLaws.{wished_waiters}
-use Rattle.xl_core.specs.Good.{are_apart, IsWaiter, IsGood, IsSettled, is_held_up, holds_up, IsPled}
+use Rattle.xl_core.specs.Good.{are_apart, IsWaiter, IsGood, AllBehind, IsUp, IsSettled, is_held_up, holds_up, IsPled}
 use Rattle.xl_core.specs.Judge.{all_granted, held_with}
 use Rattle.xl_core.specs.Settle.{plea_again, way_again, settle, cancel, give_back, weaken}
 use Rattle.xl_core.specs.BreakAnswers.{with_rest, ack}
@@ -183,8 +183,12 @@ pub any_of : (p : Claim → Bool) (cs : List Claim) → list_any p cs ≡ is_fil
 any_of p [] = refl
 any_of p (c ∷ cs) = elim (cases_Bool (p c)) [ inl e ↦ rw e refl | inr e ↦ rw e (any_of p cs) ]
 
-stopped_here : (c : Claim) (held : List Claim) → is_stopped (on_file c.file held) c ≡ is_stopped held c
-stopped_here c held = any_of (is_final c (on_file c.file held)) (on_file c.file held) ∙ ap is_filled (final_here c held) ∙ sym (any_of (is_final c held) held)
+-- the state in which what is held on this file is held alone
+abbrev here : ℕ → CoreState → CoreState
+here file s = record s { claims = on_file file s.claims }
+
+stopped_here : (earlier : List Waiter) (s : CoreState) (c : Claim) → is_stopped earlier (here c.file s) c ≡ is_stopped earlier s c
+stopped_here earlier s c = any_of (is_final c (on_file c.file s.claims)) (on_file c.file s.claims) ∙ ap is_filled (final_here c s.claims) ∙ sym (any_of (is_final c s.claims) s.claims)
 
 run_here : (c : Claim) (held : List Claim) → all_run (on_file c.file held) c ≡ all_run held c
 run_here c held = ap (λ (p : BreakPlan). not (is_some (first_broken p.breaks))) (planned_here c held)
@@ -192,11 +196,12 @@ run_here c held = ap (λ (p : BreakPlan). not (is_some (first_broken p.breaks)))
 blocked_here : (c : Claim) (held : List Claim) → is_blocked (on_file c.file held) c ≡ is_blocked held c
 blocked_here c held = any_within (blocks c) (λ d. d.file == c.file) held (λ d apart. blocks_elsewhere c d apart)
 
-held_up_here : (w : Waiter) (c : Claim) (held : List Claim) → is_held_up (on_file c.file held) w c ≡ is_held_up held w c
-held_up_here w c held = λ i. blocked_here c held i && (if stopped_here c held i then w.blocking else run_here c held i)
+held_up_here : (earlier : List Waiter) (s : CoreState) (w : Waiter) (c : Claim) → is_held_up earlier (here c.file s) w c ≡ is_held_up earlier s w c
+held_up_here earlier s w c = λ i. blocked_here c s.claims i && (if stopped_here earlier s c i then w.blocking else run_here c s.claims i)
 
-pub held_up_still : (w : Waiter) (c : Claim) (old new : List Claim) → on_file c.file new ≡ on_file c.file old → is_held_up new w c ≡ is_held_up old w c
-held_up_still w c old new e = sym (held_up_here w c new) ∙ ap (λ (cs : List Claim). is_held_up cs w c) e ∙ held_up_here w c old
+-- and by nothing else
+pub held_up_still : (earlier : List Waiter) (s t : CoreState) (w : Waiter) (c : Claim) → on_file c.file t.claims ≡ on_file c.file s.claims → is_held_up earlier t w c ≡ is_held_up earlier s w c
+held_up_still earlier s t w c e = sym (held_up_here earlier t w c) ∙ ap (λ (cs : List Claim). is_held_up earlier (record t { claims = cs }) w c) e ∙ held_up_here earlier s w c
 
 -- ---- the unsettled files
 
@@ -208,19 +213,41 @@ both_apart file other All e = absurd (both_ways true e refl)
 abbrev StaysElsewhere : Unsettled → Unsettled → List Claim → List Claim → Type 0
 StaysElsewhere u v old new = (file : ℕ) → is_among v file ≡ false → (is_among u file ≡ false) × (on_file file new ≡ on_file file old)
 
-still_up : (u v : Unsettled) (old new : List Claim) (w : Waiter) (asked : List Claim) → StaysElsewhere u v old new → IsHeldUp u old w asked → IsHeldUp v new w asked
-still_up u v old new w [] on up = up
-still_up u v old new w (c ∷ cs) on up = λ e. let same = on c.file e in held_up_still w c old new same.1 ∙ up same.0
+still_up : (u v : Unsettled) (earlier : List Waiter) (s t : CoreState) (w : Waiter) (asked : List Claim) → StaysElsewhere u v s.claims t.claims → IsHeldUp u earlier s w asked → IsHeldUp v earlier t w asked
+still_up u v earlier s t w [] on up = tt
+still_up u v earlier s t w (c ∷ cs) on up = λ e. let same = on c.file e in held_up_still earlier s t w c same.1 ∙ up same.0
 
-pub all_still_up : (u v : Unsettled) (old new : List Claim) (ws : List Waiter) → StaysElsewhere u v old new → AllByRecursion (λ w. IsHeldUp u old w w.asked) ws → AllByRecursion (λ w. IsHeldUp v new w w.asked) ws
-all_still_up u v old new ws on all = all_weaker (λ (w : Waiter). IsHeldUp u old w w.asked) (λ w. IsHeldUp v new w w.asked) ws (λ w up. still_up u v old new w w.asked on up) all
+-- each of these is held up, or its file is one of these; who waits before it has no part in that
+abbrev pub AreUp : Unsettled → CoreState → List Waiter → Type 0
+AreUp u s ws = AllByRecursion (λ w. IsHeldUp u [] s w w.asked) ws
+
+pub each_up : (u : Unsettled) (s : CoreState) (earlier ws : List Waiter) → AllBehind (λ before w. IsHeldUp u before s w w.asked) earlier ws → AreUp u s ws
+each_up u s earlier [] all = tt
+each_up u s earlier (w ∷ ws) all = (all.0, each_up u s (earlier ++ w ∷ []) ws all.1)
+
+pub up_each : (u : Unsettled) (s : CoreState) (earlier ws : List Waiter) → AreUp u s ws → AllBehind (λ before w. IsHeldUp u before s w w.asked) earlier ws
+up_each u s earlier [] all = tt
+up_each u s earlier (w ∷ ws) all = (all.0, up_each u s (earlier ++ w ∷ []) ws all.1)
+
+-- these alone wait then
+few_up : (u v : Unsettled) (s t : CoreState) (ws : List Waiter) → t.waiters ≡ ws → StaysElsewhere u v s.claims t.claims → AreUp u s ws → AreHeldUp v t
+few_up u v s t ws are on all =
+    up_each v t [] t.waiters (subst (AreUp v t) (sym are) (all_weaker (λ (w : Waiter). IsHeldUp u [] s w w.asked) (λ w. IsHeldUp v [] t w w.asked) ws (λ w up. still_up u v [] s t w w.asked on up) all))
+
+-- the same wait
+pub all_still_up : (u v : Unsettled) (s t : CoreState) → t.waiters ≡ s.waiters → StaysElsewhere u v s.claims t.claims → AreHeldUp u s → AreHeldUp v t
+all_still_up u v s t same on all = few_up u v s t s.waiters same on (each_up u s [] s.waiters all)
 
 -- where all files are unsettled nothing is said of anyone
 pub any_up : (s : CoreState) → AreHeldUp All s
-any_up s = all_from (λ (w : Waiter). IsHeldUp All s.claims w w.asked) s.waiters (λ w h. by w w.asked) where
-  by : (w : Waiter) (asked : List Claim) → IsHeldUp All s.claims w asked
-  by w [] = tt
-  by w (c ∷ cs) = λ e. absurd (both_ways true e refl)
+any_up s = by [] s.waiters where
+  one : (earlier : List Waiter) (w : Waiter) (asked : List Claim) → IsHeldUp All earlier s w asked
+  one earlier w [] = tt
+  one earlier w (c ∷ cs) = λ e. absurd (both_ways true e refl)
+
+  by : (earlier ws : List Waiter) → AllBehind (λ before w. IsHeldUp All before s w w.asked) earlier ws
+  by earlier [] = tt
+  by earlier (w ∷ ws) = (one earlier w w.asked, by (earlier ++ w ∷ []) ws)
 
 -- ---- an ask
 
@@ -245,28 +272,28 @@ refused_not_given answers.StoreFailed refused given = absurd (both_ways false re
 way_up : (u : Unsettled) (s : CoreState) (a : Ask) (answer : Answer) (t : CoreState) → AskWay s a (answer, [], t) → is_granted answer ≡ true → AreHeldUp u s → AreHeldUp (with_file a.file u) t
 unfolding held_with
 way_up u s a answer t (Stays other refused e) given all = absurd (refused_not_given other refused (ap (λ (x : Answered). is_granted x.0) (sym e) ∙ given))
-way_up u s a answer t (Tests c holds e) given all = subst (λ (x : Answered). AreHeldUp (with_file a.file u) x.2) (sym e) (all_still_up u (with_file a.file u) s.claims s.claims s.waiters (λ file n. ((both_apart a.file file u n).0, refl)) all)
+way_up u s a answer t (Tests c holds e) given all = subst (λ (x : Answered). AreHeldUp (with_file a.file u) x.2) (sym e) (all_still_up u (with_file a.file u) s s refl (λ file n. ((both_apart a.file file u n).0, refl)) all)
 way_up u s a answer t (Holds c claims is holds e) given all =
     let there = subst (λ (cs : List Claim). AllByRecursion (λ d. d.file ≡ a.file) cs) (sym is) (asked_there a (asked_whats a.act) s.names) in
     subst (λ (x : Answered). AreHeldUp (with_file a.file u) x.2) (sym e)
-    (all_still_up u (with_file a.file u) s.claims (all_granted claims s.claims) s.waiters (λ file n. let apart = both_apart a.file file u n in (apart.0, there_all_granted file a.file claims s.claims there apart.1)) all)
+    (all_still_up u (with_file a.file u) s (named a (record s { claims = all_granted claims s.claims })) refl (λ file n. let apart = both_apart a.file file u n in (apart.0, there_all_granted file a.file claims s.claims there apart.1)) all)
 way_up u s a answer t (Waits c cs may blocked is holds e) given all = absurd (both_ways (is_granted answer) (ap (λ (x : Answered). is_granted x.0) e) given)
 way_up u s a answer t (Frees claim first last holds act at owner e) given all =
     subst (λ (x : Answered). AreHeldUp (with_file a.file u) x.2) (sym e)
-    (all_still_up u (with_file a.file u) s.claims _ s.waiters
+    (all_still_up u (with_file a.file u) s (record s { claims = unlocked_claims claim first last s.claims }) refl
     (λ file n. let apart = both_apart a.file file u n in (apart.0, there_relocked file claim.file claim.owner claim.party first last None s.claims (subst (λ (f : ℕ). IsElsewhere f file) (sym at) apart.1))) all)
 way_up u s a answer t (Gives claim d holds act at owner range e) given all =
     subst (λ (x : Answered). AreHeldUp (with_file a.file u) x.2) (sym e)
-    (all_still_up u (with_file a.file u) s.claims _ s.waiters
+    (all_still_up u (with_file a.file u) s (record s { claims = removed d s.claims }) refl
     (λ file n. let apart = both_apart a.file file u n in (apart.0, there_removed file d s.claims (subst (λ (f : ℕ). IsElsewhere f file) (sym at) apart.1))) all)
 
 -- where one is told to wait for answers to breaks, all of these run
 abbrev Runs : CoreState → Ask → Answer → Type 0
-Runs s a answer = (id : ℕ) (c : Claim) (cs : List Claim) → answer ≡ answers.Queued id → c ∷ cs ≡ asked_claims a (asked_whats a.act) s.names → asks_to_hold a.act ≡ true → is_blocked s.claims c ≡ true → is_stopped s.claims c ≡ false → all_run s.claims c ≡ true
+Runs s a answer = (id : ℕ) (c : Claim) (cs : List Claim) → answer ≡ answers.Queued id → c ∷ cs ≡ asked_claims a (asked_whats a.act) s.names → asks_to_hold a.act ≡ true → is_blocked s.claims c ≡ true → is_stopped s.waiters s c ≡ false → all_run s.claims c ≡ true
 
 -- who comes to wait is held up
-comes_up : (u : Unsettled) (s : CoreState) (a : Ask) (c : Claim) (cs : List Claim) → may_wait s.claims a c ≡ true → is_blocked s.claims c ≡ true → (is_stopped s.claims c ≡ false → all_run s.claims c ≡ true) → IsHeldUp u s.claims (waiter_of (s.counter + 1) a (c ∷ cs)) (c ∷ cs)
-comes_up u s a c cs may blocked run = λ e. by (is_blocked s.claims c) (is_stopped s.claims c) a.blocking a.awaits (all_run s.claims c) may blocked run where
+comes_up : (u : Unsettled) (s : CoreState) (a : Ask) (c : Claim) (cs : List Claim) → may_wait s.waiters s a c ≡ true → is_blocked s.claims c ≡ true → (is_stopped s.waiters s c ≡ false → all_run s.claims c ≡ true) → IsHeldUp u [] s (waiter_of (s.counter + 1) a (c ∷ cs)) (c ∷ cs)
+comes_up u s a c cs may blocked run = λ e. by (is_blocked s.claims c) (is_stopped s.waiters s c) a.blocking a.awaits (all_run s.claims c) may blocked run where
   by : (x y z v r : Bool) → (if y then z else v) ≡ true → x ≡ true → (y ≡ false → r ≡ true) → (x && (if y then z else r)) ≡ true
   by true true z v r m b run = m
   by true false z v r m b run = run refl
@@ -278,7 +305,9 @@ same_up u s a answer t (Tests c holds e) given runs all = subst (λ (x : Answere
 same_up u s a answer t (Holds c claims of holds e) given runs all = absurd (both_ways (is_granted answer) given (ap (λ (x : Answered). is_granted x.0) e))
 same_up u s a answer t (Gives claim d holds act file owner range e) given runs all = absurd (both_ways (is_granted answer) given (ap (λ (x : Answered). is_granted x.0) e))
 same_up u s a answer t (Waits c cs may blocked is holds e) given runs all =
-    subst (λ (x : Answered). AreHeldUp u x.2) (sym e) (all_append (λ (w : Waiter). IsHeldUp u s.claims w w.asked) s.waiters (waiter_of (s.counter + 1) a (c ∷ cs) ∷ []) all (comes_up u s a c cs may blocked (runs (s.counter + 1) c cs (ap (λ (x : Answered). x.0) e) is holds blocked), tt))
+    subst (λ (x : Answered). AreHeldUp u x.2) (sym e)
+    (few_up u u s (waiting a (c ∷ cs) s) (s.waiters ++ waiter_of (s.counter + 1) a (c ∷ cs) ∷ []) refl (λ file n. (n, refl))
+    (all_append (λ (w : Waiter). IsHeldUp u [] s w w.asked) s.waiters (waiter_of (s.counter + 1) a (c ∷ cs) ∷ []) (each_up u s [] s.waiters all) (comes_up u s a c cs may blocked (runs (s.counter + 1) c cs (ap (λ (x : Answered). x.0) e) is holds blocked), tt)))
 same_up u s a answer t (Frees claim first last holds act file owner e) given runs all = absurd (both_ways (is_granted answer) given (ap (λ (x : Answered). is_granted x.0) e))
 
 decided_up : (u : Unsettled) (left : Rooms) (s t : CoreState) (a : Ask) (answer : Answer) → decided 0 left s a ≡ (answer, [], t) → IsGood s → IsFit a → Runs s a answer → AreHeldUp u s → AreHeldUp (if may_free a.act answer then with_file a.file u else u) t
@@ -326,19 +355,19 @@ way_all_run left s a id c cs at is holds blocked moves =
     let pleads = plea_waits left t a c id due in
     let same : plea_of left t a ≡ plea_of left s a = same_plea left s t a names (ask_way_waiters left s a) in
     let asked : asked_claims a (asked_whats a.act) s.names ≡ c ∷ cs = ap (λ (ns : List Name). asked_claims a (asked_whats a.act) ns) (sym names) ∙ sym is in
-    let made : way left s a ≡ made_way (plea_of left s a) (c ∷ cs) s = ap (λ (ds : List Claim). made_way (plea_of left s a) ds s) asked in
-    elim (cases_Bool (is_stopped s.claims c)) [
+    let made : way left s a ≡ made_way s.waiters (plea_of left s a) (c ∷ cs) s = ap (λ (ds : List Claim). made_way s.waiters (plea_of left s a) ds s) asked in
+    elim (cases_Bool (is_stopped s.waiters s c)) [
       | inl stops ↦
-          let stays : t ≡ s = ap (λ (w : List Effect × CoreState). w.1) (made ∙ way_stopped (plea_of left s a) c cs s stops) in
-          absurd (both_ways (is_stopped t.claims c) moves (subst (λ (x : CoreState). is_stopped x.claims c ≡ true) (sym stays) stops))
+          let stays : t ≡ s = ap (λ (w : List Effect × CoreState). w.1) (made ∙ way_stopped s.waiters (plea_of left s a) c cs s stops) in
+          absurd (both_ways (is_stopped t.waiters t c) moves (subst (λ (x : CoreState). is_stopped x.waiters x c ≡ true) (sym stays) stops))
       | inr moved ↦
           ap (λ (w : List Effect × CoreState). all_run w.1.claims c) made
-          ∙ way_runs (plea_of left s a) c cs s (ap (λ (p : Plea). p.reclaim) (sym same) ∙ pleads.0) (ap (λ (p : Plea). p.crowded) (sym same) ∙ pleads.1) moved
+          ∙ way_runs s.waiters (plea_of left s a) c cs s (ap (λ (p : Plea). p.reclaim) (sym same) ∙ pleads.0) (ap (λ (p : Plea). p.crowded) (sym same) ∙ pleads.1) moved
     ]
 
 -- who waits on a file that isn't among more of them is held up, where all are that don't wait on these
-pub wider_up : (u v : Unsettled) (held : List Claim) (ws : List Waiter) → IsWider u v → AllByRecursion (λ w. IsHeldUp u held w w.asked) ws → AllByRecursion (λ w. IsHeldUp v held w w.asked) ws
-wider_up u v held ws wider all = all_still_up u v held held ws (λ file n. (wider file n, refl)) all
+wider_up : (u v : Unsettled) (s : CoreState) → IsWider u v → AreHeldUp u s → AreHeldUp v s
+wider_up u v s wider all = all_still_up u v s s refl (λ file n. (wider file n, refl)) all
 
 same_file : (f : ℕ) (u : Unsettled) → IsWider (with_file f (with_file f u)) (with_file f u)
 same_file f (Files files) file n = let apart = both_apart f file (Files files) n in rw (eqb-sym file f ∙ apart.1, apart.0) refl
@@ -347,7 +376,7 @@ same_file f All file n = n
 -- what an ask begins it begins on its own file
 way_elsewhere : (left : Rooms) (s : CoreState) (a : Ask) (file : ℕ) → (a.file == file) ≡ false → on_file file (way left s a).1.claims ≡ on_file file s.claims
 way_elsewhere left s a file apart =
-    elim (way_is (plea_of left s a) (asked_claims a (asked_whats a.act) s.names) s) [
+    elim (way_is s.waiters (plea_of left s a) (asked_claims a (asked_whats a.act) s.names) s) [
       | NoWay e ↦ ap (λ (w : List Effect × CoreState). on_file file w.1.claims) e
       | Begins c cs is does e ↦
           let here = (subst (λ (ds : List Claim). AllByRecursion (λ d. d.file ≡ a.file) ds) is (asked_there a (asked_whats a.act) s.names)).0 in
@@ -366,8 +395,7 @@ other_file u file other there apart =
 -- who waits on a file that isn't unsettled stays held up where a wish is granted on one that is
 granted_up : (v : Unsettled) (wanted : Wish) (s : CoreState) → is_among v wanted.file ≡ true → AreHeldUp v s → AreHeldUp v (wish_granted wanted s)
 granted_up v wanted s there all =
-    subst (λ (ws : List Waiter). AllByRecursion (λ w. IsHeldUp v (wish_granted wanted s).claims w w.asked) ws) (sym (wished_waiters wanted s))
-    (all_still_up v v s.claims (wish_granted wanted s).claims s.waiters (λ file n. (n, wish_elsewhere wanted s file (other_file v wanted.file file there n))) all)
+    all_still_up v v s (wish_granted wanted s) (wished_waiters wanted s) (λ file n. (n, wish_elsewhere wanted s file (other_file v wanted.file file there n))) all
 
 for_up : (v : Unsettled) (kinds : List CacheKind) (answer : Answer) (s : CoreState) → ((d : Claim) → answer ≡ answers.Granted d → is_among v d.file ≡ true) → AreHeldUp v s → AreHeldUp v (wish_for kinds answer s)
 for_up v kinds (answers.Granted c) s there all = granted_up v (wish_of kinds c) s (there c refl) all
@@ -433,25 +461,24 @@ ask_up u left s t a answer told e good fit all =
 
     on_its_file : AreHeldUp (with_file a.file u) way_state
     on_its_file =
-        subst (λ (ws : List Waiter). AllByRecursion (λ w. IsHeldUp (with_file a.file u) way_state.claims w w.asked) ws) (sym (ask_way_waiters left s a))
-        (all_still_up u (with_file a.file u) s.claims way_state.claims s.waiters (λ file n. let apart = both_apart a.file file u n in (apart.0, way_elsewhere left s a file apart.1)) all)
+        all_still_up u (with_file a.file u) s way_state (ask_way_waiters left s a) (λ file n. let apart = both_apart a.file file u n in (apart.0, way_elsewhere left s a file apart.1)) all
 
     by : (xs : List Effect) → (way left s a).0 ≡ xs → AreHeldUp (left_by_ask a answer xs u) before
     by [] none =
-        let quiet : way left s a ≡ ([], s) = way_quiet (plea_of left s a) (asked_claims a (asked_whats a.act) s.names) s none in
+        let quiet : way left s a ≡ ([], s) = way_quiet s.waiters (plea_of left s a) (asked_claims a (asked_whats a.act) s.names) s none in
         decided_up u left way_state before a answer judged_so sound fit runs (subst (λ (w : List Effect × CoreState). AreHeldUp u w.1) (sym quiet) all)
     by (x ∷ xs) some =
         both (may_free a.act answer) (decided_up (with_file a.file u) left way_state before a answer judged_so sound fit runs on_its_file)
       where
         both : (b : Bool) → AreHeldUp (if b then with_file a.file (with_file a.file u) else with_file a.file u) before → AreHeldUp (with_file a.file u) before
-        both true up = wider_up (with_file a.file (with_file a.file u)) (with_file a.file u) before.claims before.waiters (same_file a.file u) up
+        both true up = wider_up (with_file a.file (with_file a.file u)) (with_file a.file u) before (same_file a.file u) up
         both false up = up
 
 -- ---- who leaves
 
 pub cancel_up : (u : Unsettled) (s : CoreState) (id : ℕ) → AreHeldUp u s → AreHeldUp u (cancel s id).1
 unfolding cancel
-cancel_up u s id all = cancelled_all (λ (w : Waiter). IsHeldUp u s.claims w w.asked) id s.waiters all
+cancel_up u s id all = few_up u u s (cancel s id).1 (cancelled id s.waiters) refl (λ file n. (n, refl)) (cancelled_all (λ (w : Waiter). IsHeldUp u [] s w w.asked) id s.waiters (each_up u s [] s.waiters all))
 
 pub renew_up : (u : Unsettled) (s : CoreState) (client : List ℕ) → AreHeldUp u s → AreHeldUp u (renew s client).1
 unfolding renew
@@ -460,12 +487,12 @@ renew_up u s client all = all
 pub give_back_up : (u : Unsettled) (s : CoreState) (claim : Claim) → AreHeldUp u s → AreHeldUp (with_file claim.file u) (give_back s claim).1
 unfolding give_back
 give_back_up u s claim all =
-    all_still_up u (with_file claim.file u) s.claims (removed claim s.claims) s.waiters (λ file n. let apart = both_apart claim.file file u n in (apart.0, there_removed file claim s.claims apart.1)) all
+    all_still_up u (with_file claim.file u) s (give_back s claim).1 refl (λ file n. let apart = both_apart claim.file file u n in (apart.0, there_removed file claim s.claims apart.1)) all
 
 pub weaken_up : (u : Unsettled) (s : CoreState) (share : Claim) (access deny : Rwd) → AreHeldUp u s → AreHeldUp (with_file share.file u) (weaken s share access deny).1
 unfolding weaken
 weaken_up u s share access deny all =
-    all_still_up u (with_file share.file u) s.claims (changed share (Share access deny) s.claims) s.waiters
+    all_still_up u (with_file share.file u) s (weaken s share access deny).1 refl
     (λ file n. let apart = both_apart share.file file u n in (apart.0, there_changed file share (Share access deny) s.claims apart.1)) all
 
 -- what is left of a cache stands on its file alone
@@ -476,7 +503,7 @@ there_rest file cache (Some kind) cs apart = there_changed file cache (Cache kin
 pub ack_up : (u : Unsettled) (s : CoreState) (cache : Claim) (to : Option CacheKind) → AreHeldUp u s → AreHeldUp (with_file cache.file u) (ack s cache to).1
 unfolding ack
 ack_up u s cache to all =
-    all_still_up u (with_file cache.file u) s.claims (with_rest cache to s.claims) s.waiters (λ file n. let apart = both_apart cache.file file u n in (apart.0, there_rest file cache to s.claims apart.1)) all
+    all_still_up u (with_file cache.file u) s (ack s cache to).1 refl (λ file n. let apart = both_apart cache.file file u n in (apart.0, there_rest file cache to s.claims apart.1)) all
 
 pub begun_up : (u : Unsettled) (s : CoreState) → AreHeldUp u s → AreHeldUp u (step_begun s)
 unfolding step_begun
@@ -494,18 +521,17 @@ none_among (Files []) file e = refl
 none_among (Files (f ∷ fs)) file e = absurd (both_ways false refl e)
 none_among All file e = absurd (both_ways false refl e)
 
-held_one : (u : Unsettled) (held : List Claim) (w : Waiter) (asked : List Claim) → IsPled asked → ((c : Claim) (cs : List Claim) → asked ≡ c ∷ cs → is_among u c.file ≡ false) → IsHeldUp u held w asked → holds_up held w asked ≡ true
-held_one u held w [] none apart up = absurd none
-held_one u held w (c ∷ cs) some apart up = up (apart c cs refl)
+held_one : (u : Unsettled) (earlier : List Waiter) (s : CoreState) (w : Waiter) (asked : List Claim) → IsPled asked → ((c : Claim) (cs : List Claim) → asked ≡ c ∷ cs → is_among u c.file ≡ false) → IsHeldUp u earlier s w asked → holds_up earlier s w asked ≡ true
+held_one u earlier s w [] none apart up = absurd none
+held_one u earlier s w (c ∷ cs) some apart up = up (apart c cs refl)
 
-idle_all : (u : Unsettled) (held : List Claim) (names : List Name) (counter : ℕ) (ws : List Waiter) → AllByRecursion (IsWaiter names counter) ws → is_none u ≡ true → AllByRecursion (λ w. IsHeldUp u held w w.asked) ws
-    → AllByRecursion (λ w. holds_up held w w.asked ≡ true) ws
-idle_all u held names counter [] are e all = tt
-idle_all u held names counter (w ∷ ws) are e all =
-    (held_one u held w w.asked are.0.2 (λ c cs asked. none_among u c.file e) all.0, idle_all u held names counter ws are.1 e all.1)
+idle_all : (u : Unsettled) (s : CoreState) (earlier ws : List Waiter) → AllByRecursion (IsWaiter s.names s.counter) ws → is_none u ≡ true → AllBehind (λ before w. IsHeldUp u before s w w.asked) earlier ws → AllBehind (IsUp s) earlier ws
+idle_all u s earlier [] are e all = tt
+idle_all u s earlier (w ∷ ws) are e all =
+    (held_one u earlier s w w.asked are.0.2 (λ c cs asked. none_among u c.file e) all.0, idle_all u s (earlier ++ w ∷ []) ws are.1 e all.1)
 
 idle_settled : (u : Unsettled) (s : CoreState) → IsGood s → is_none u ≡ true → AreHeldUp u s → IsSettled s
-idle_settled u s good e all = idle_all u s.claims s.names s.counter s.waiters good.waiters e all
+idle_settled u s good e all = idle_all u s [] s.waiters good.waiters e all
 
 settled_none : (n : ℕ) (left : Rooms) (s : CoreState) → IsSettled s → settle n left s ≡ None
 settled_none n left s is = (settle_rests n left s).1 ((settled_is n left s).1 is)
@@ -514,19 +540,22 @@ pub idle_none : (u : Unsettled) (left : Rooms) (s : CoreState) → IsGood s → 
 idle_none u left s good e all n = settled_none n left s (idle_settled u s good e all)
 
 -- once all are found held up no file is unsettled
-one_up : (held : List Claim) (w : Waiter) (asked : List Claim) → holds_up held w asked ≡ true → IsHeldUp (Files []) held w asked
-one_up held w [] up = tt
-one_up held w (c ∷ cs) up = λ none. up
+one_up : (earlier : List Waiter) (s : CoreState) (w : Waiter) (asked : List Claim) → holds_up earlier s w asked ≡ true → IsHeldUp (Files []) earlier s w asked
+one_up earlier s w [] up = tt
+one_up earlier s w (c ∷ cs) up = λ none. up
 
 settled_up : (s : CoreState) → IsSettled s → AreHeldUp (Files []) s
-settled_up s is = all_weaker (λ (w : Waiter). holds_up s.claims w w.asked ≡ true) (λ w. IsHeldUp (Files []) s.claims w w.asked) s.waiters (λ w up. one_up s.claims w w.asked up) is
+settled_up s is = by [] s.waiters is where
+  by : (earlier ws : List Waiter) → AllBehind (IsUp s) earlier ws → AllBehind (λ before w. IsHeldUp (Files []) before s w w.asked) earlier ws
+  by earlier [] all = tt
+  by earlier (w ∷ ws) all = (one_up earlier s w w.asked all.0, by (earlier ++ w ∷ []) ws all.1)
 
 -- who has a turn waited on an unsettled file, and only what is held there changes
-on_unsettled : (u : Unsettled) (held : List Claim) (w : Waiter) (asked : List Claim) (claim : Claim) (claims : List Claim) → asked ≡ claim ∷ claims → is_held_up held w claim ≡ false → IsHeldUp u held w asked → is_among u claim.file ≡ true
-on_unsettled u held w asked claim claims is free up =
+on_unsettled : (u : Unsettled) (earlier : List Waiter) (s : CoreState) (w : Waiter) (asked : List Claim) (claim : Claim) (claims : List Claim) → asked ≡ claim ∷ claims → is_held_up earlier s w claim ≡ false → IsHeldUp u earlier s w asked → is_among u claim.file ≡ true
+on_unsettled u earlier s w asked claim claims is free up =
     elim (cases_Bool (is_among u claim.file)) [
       | inl there ↦ there
-      | inr apart ↦ let stays : is_held_up held w claim ≡ true = subst (λ (cs : List Claim). IsHeldUp u held w cs) is up apart in absurd (both_ways (is_held_up held w claim) free stays)
+      | inr apart ↦ let stays : is_held_up earlier s w claim ≡ true = subst (λ (cs : List Claim). IsHeldUp u earlier s w cs) is up apart in absurd (both_ways (is_held_up earlier s w claim) free stays)
     ]
 
 once_there : (file at : ℕ) (asked held : List Claim) (answer : Answer) → AllByRecursion (λ c. c.file ≡ at) asked → IsElsewhere at file → on_file file (held_once asked answer held) ≡ on_file file held
@@ -536,9 +565,9 @@ others_in : (P : Waiter → Type 0) (before : List Waiter) (w : Waiter) (behind 
 others_in P [] w behind all = (all.1, all.0)
 others_in P (v ∷ vs) w behind all = let rest = others_in P vs w behind all.1 in ((all.0, rest.0), rest.1)
 
-next_elsewhere : (s : CoreState) (w : Waiter) (claim : Claim) (claims : List Claim) (file : ℕ) → w.asked ≡ claim ∷ claims → IsElsewhere claim.file file → on_file file (way_again s w).1.claims ≡ on_file file s.claims
-next_elsewhere s w claim claims file asked apart =
-    elim (way_is (plea_again s w) w.asked s) [
+next_elsewhere : (earlier : List Waiter) (s : CoreState) (w : Waiter) (claim : Claim) (claims : List Claim) (file : ℕ) → w.asked ≡ claim ∷ claims → IsElsewhere claim.file file → on_file file (way_again earlier s w).1.claims ≡ on_file file s.claims
+next_elsewhere earlier s w claim claims file asked apart =
+    elim (way_is earlier (plea_again s w) w.asked s) [
       | NoWay e ↦ ap (λ (x : List Effect × CoreState). on_file file x.1.claims) e
       | Begins c cs is does e ↦
           let two : c ∷ cs ≡ claim ∷ claims = sym is ∙ asked in
@@ -552,21 +581,21 @@ turn_up u left s effects t good turn all = by turn.served where
   w = turn.waiter
 
   way_state : CoreState
-  way_state = (way_again s w).1
+  way_state = (way_again turn.before s w).1
 
-  parts : AllByRecursion (λ v. IsHeldUp u s.claims v v.asked) (turn.before ++ turn.behind) × IsHeldUp u s.claims w w.asked
-  parts = others_in (λ v. IsHeldUp u s.claims v v.asked) turn.before w turn.behind (subst (λ (ws : List Waiter). AllByRecursion (λ v. IsHeldUp u s.claims v v.asked) ws) turn.stood all)
+  parts : AreUp u s (turn.before ++ turn.behind) × IsHeldUp u [] s w w.asked
+  parts = others_in (λ v. IsHeldUp u [] s v v.asked) turn.before w turn.behind (subst (AreUp u s) turn.stood (each_up u s [] s.waiters all))
 
   there : is_among u turn.claim.file ≡ true
-  there = on_unsettled u s.claims w w.asked turn.claim turn.claims turn.asked turn.free parts.1
+  there = on_unsettled u [] s w w.asked turn.claim turn.claims turn.asked turn.free parts.1
 
   files : AllByRecursion (λ c. c.file ≡ turn.claim.file) w.asked
   files = subst (λ (cs : List Claim). AllByRecursion (λ c. c.file ≡ turn.claim.file) cs) (sym turn.asked) (refl, (subst IsPled turn.asked (turn_is_known left s effects t good turn).1).1)
 
   same : way_state.waiters ≡ s.waiters
-  same = way_waiters (plea_again s w) w.asked s
+  same = way_waiters turn.before (plea_again s w) w.asked s
 
-  by : IsServed left way_state w turn.claim turn.told t → AreHeldUp u t
+  by : IsServed left turn.before way_state w turn.claim turn.told t → AreHeldUp u t
   by (TurnAnswered answer told is due new clear) =
       let before : CoreState = record way_state { claims = held_once w.asked answer way_state.claims; waiters = cancelled w.id way_state.waiters } in
       let gone : before.waiters ≡ turn.before ++ turn.behind =
@@ -574,15 +603,13 @@ turn_up u left s effects t good turn all = by turn.served where
       ∙ without turn.before w turn.behind (subst (λ (ws : List Waiter). Pairwise are_apart ws) turn.stood good.apart) in
       subst (AreHeldUp u) (sym new)
       (for_up u w.wish answer before (λ d e. subst (λ (c : Claim). is_among u c.file ≡ true) (sym (is d e)) there)
-      (subst (λ (ws : List Waiter). AllByRecursion (λ v. IsHeldUp u before.claims v v.asked) ws) (sym gone)
-      (all_still_up u u s.claims before.claims (turn.before ++ turn.behind)
+      (few_up u u s before (turn.before ++ turn.behind) gone
       (λ file n.
       let apart = other_file u turn.claim.file file there n in
-      (n, once_there file turn.claim.file w.asked way_state.claims answer files apart ∙ next_elsewhere s w turn.claim turn.claims file turn.asked apart)) parts.0)))
+      (n, once_there file turn.claim.file w.asked way_state.claims answer files apart ∙ next_elsewhere turn.before s w turn.claim turn.claims file turn.asked apart)) parts.0))
   by (WaitsOn told up new) =
       subst (λ (x : CoreState). AreHeldUp u x) (sym new)
-      (subst (λ (ws : List Waiter). AllByRecursion (λ v. IsHeldUp u way_state.claims v v.asked) ws) (sym same)
-      (all_still_up u u s.claims way_state.claims s.waiters (λ file n. (n, next_elsewhere s w turn.claim turn.claims file turn.asked (other_file u turn.claim.file file there n))) all))
+      (all_still_up u u s way_state same (λ file n. (n, next_elsewhere turn.before s w turn.claim turn.claims file turn.asked (other_file u turn.claim.file file there n))) all)
 
 pub settle_up : (u : Unsettled) (left : Rooms) (s t : CoreState) (r : Option (List Effect)) → ((n : ℕ) → settle n left s ≡ option_map (λ effects. (effects, t)) r) → (r ≡ None → t ≡ s) → IsGood s → AreHeldUp u s → AreHeldUp (if is_some r then u else Files []) t
 settle_up u left s t None e same good all = subst (λ (x : CoreState). AreHeldUp (Files []) x) (sym (same refl)) (settled_up s (none_settled 0 left s (e 0)))

@@ -155,9 +155,9 @@ unfolding breaks_begun once_broken planned
 begun_numbers s c good = omega (arith, fewer s.names (moment_after s.clock s.times.break_time) c s.claims s.claims good.known)
 
 -- a way takes the numbers of the delegations that it recalls
-way_numbers : (p : Plea) (asked : List Claim) (s : CoreState) → IsGood s → numbers_of (made_way p asked s).1 ≤ numbers_of s
-way_numbers p asked s good =
-    elim (way_is p asked s) [
+way_numbers : (earlier : List Waiter) (p : Plea) (asked : List Claim) (s : CoreState) → IsGood s → numbers_of (made_way earlier p asked s).1 ≤ numbers_of s
+way_numbers earlier p asked s good =
+    elim (way_is earlier p asked s) [
       | NoWay e ↦ subst (λ (w : Told). numbers_of w.1 ≤ numbers_of s) (sym e) (omega arith)
       | Begins c cs is does e ↦ subst (λ (w : Told). numbers_of w.1 ≤ numbers_of s) (sym e) (begun_numbers s c good)
     ]
@@ -242,8 +242,8 @@ granted_decided n left s a d good fit at = omega (arith, others, same_left s.cla
 at_once_numbers : (n : ℕ) (left : Rooms) (s : CoreState) (a : Ask) → IsGood s → IsFit a → a.blocking ≡ false → a.awaits ≡ false → numbers_of (decided n left s a).2 ≤ numbers_of s
 unfolding held_with
 at_once_numbers n left s a good fit hurries stays = omega (arith, others, same_left s.claims (decided n left s a).2.claims (decided_caches n left s a good fit.party)) where
-  no_wait : (c : Claim) → may_wait s.claims a c ≡ false
-  no_wait c = by (is_stopped s.claims c) where
+  no_wait : (c : Claim) → may_wait s.waiters s a c ≡ false
+  no_wait c = by (is_stopped s.waiters s c) where
     by : (b : Bool) → (if b then a.blocking else a.awaits) ≡ false
     by true = hurries
     by false = stays
@@ -252,7 +252,7 @@ at_once_numbers n left s a good fit hurries stays = omega (arith, others, same_l
   by r (Stays answer refused e) = subst (λ (x : Answered). x.2.counter + length x.2.waiters ≤ s.counter + length s.waiters) (sym e) (omega arith)
   by r (Tests c holds e) = subst (λ (x : Answered). x.2.counter + length x.2.waiters ≤ s.counter + length s.waiters) (sym e) (omega arith)
   by r (Holds c claims is holds e) = subst (λ (x : Answered). x.2.counter + length x.2.waiters ≤ s.counter + length s.waiters) (sym e) (omega arith)
-  by r (Waits c cs may blocked is holds e) = absurd (both_ways (may_wait s.claims a c) (no_wait c) may)
+  by r (Waits c cs may blocked is holds e) = absurd (both_ways (may_wait s.waiters s a c) (no_wait c) may)
   by r (Frees c first last holds act file owner e) = subst (λ (x : Answered). x.2.counter + length x.2.waiters ≤ s.counter + length s.waiters) (sym e) (omega arith)
   by r (Gives c d holds act file owner range e) = subst (λ (x : Answered). x.2.counter + length x.2.waiters ≤ s.counter + length s.waiters) (sym e) (omega arith)
 
@@ -261,7 +261,7 @@ at_once_numbers n left s a good fit hurries stays = omega (arith, others, same_l
 
 -- the state that its way left
 ask_way_numbers : (left : Rooms) (s : CoreState) (a : Ask) → IsGood s → numbers_of (way left s a).1 ≤ numbers_of s
-ask_way_numbers left s a good = way_numbers (plea_of left s a) (asked_claims a (asked_whats a.act) s.names) s good
+ask_way_numbers left s a good = way_numbers s.waiters (plea_of left s a) (asked_claims a (asked_whats a.act) s.names) s good
 
 -- a wish that is granted may bring one delegation
 after_numbers : (a : Ask) (answer : Answer) (s : CoreState) → numbers_of (wish_after a answer s) ≤ numbers_of s + 1
@@ -332,24 +332,24 @@ for_same_left (kind ∷ kinds) answer s c cs wished is = by (grants_or_not answe
       let other : is_recalled does.0.party ≡ false = ap (λ (x : Claim). is_recalled x.party) (is does.0 does.1) ∙ unrecalled c.party kind wished.0.0 wished.0.2 in
       ap (λ (x : Answer). delegations_left (wish_for (kind ∷ kinds) x s).claims) does.1 ∙ granted_same_left (wish_of (kind ∷ kinds) does.0) s other
 
-first_numbers : (left : Rooms) (s : CoreState) (turn : Turned) → IsGood s → IsFirst left s s.waiters turn → numbers_of turn.1 + length (who_left turn.0) ≤ numbers_of s
+first_numbers : (left : Rooms) (s : CoreState) (turn : Turned) → IsGood s → IsFirst left s [] s.waiters turn → numbers_of turn.1 + length (who_left turn.0) ≤ numbers_of s
 first_numbers left s turn good first = by first.moved where
   w : Waiter
   w = first.waiter
 
   t : CoreState
-  t = (way_again s w).1
+  t = (way_again first.before s w).1
 
   fell : numbers_of t ≤ numbers_of s
-  fell = way_numbers (plea_again s w) w.asked s good
+  fell = way_numbers first.before (plea_again s w) w.asked s good
 
   waiters : t.waiters ≡ s.waiters
-  waiters = way_waiters (plea_again s w) w.asked s
+  waiters = way_waiters first.before (plea_again s w) w.asked s
 
-  leave : (told : List Effect) → turn.0 ≡ (way_again s w).0 ++ told → who_left turn.0 ≡ who_left told
-  leave told e = ap who_left e ∙ told_both (way_again s w).0 told ∙ ap (λ (ids : List ℕ). ids ++ who_left told) (way_leaves (plea_again s w) w.asked s)
+  leave : (told : List Effect) → turn.0 ≡ (way_again first.before s w).0 ++ told → who_left turn.0 ≡ who_left told
+  leave told e = ap who_left e ∙ told_both (way_again first.before s w).0 told ∙ ap (λ (ids : List ℕ). ids ++ who_left told) (way_leaves first.before (plea_again s w) w.asked s)
 
-  by : IsMoved left s w first.claim first.claims turn → numbers_of turn.1 + length (who_left turn.0) ≤ numbers_of s
+  by : IsMoved left first.before s w first.claim first.claims turn → numbers_of turn.1 + length (who_left turn.0) ≤ numbers_of s
   by (Answers answer told new due pass clear) =
       let u = once_answered t w (first.claim ∷ first.claims) answer in
       let caches : delegations_left u.claims ≡ delegations_left t.claims = same_left t.claims u.claims
@@ -358,7 +358,7 @@ first_numbers left s turn good first = by first.moved where
       let gone : turn.1.waiters ≡ first.before ++ first.behind = ap (λ (x : CoreState). x.waiters) (new ∙ wish_claims w.wish answer u) ∙ ap (λ (ws : List Waiter). cancelled w.id ws) waiters ∙ waiters_left left s turn first good in
       let one : length t.waiters ≡ length (first.before ++ w ∷ first.behind) = ap (λ (ws : List Waiter). length ws) (waiters ∙ first.stood) in
       omega (arith, fell, caches, wished, ap (λ (x : CoreState). delegations_left x.claims) new, ap (λ (x : CoreState). x.counter) (new ∙ wish_claims w.wish answer u), ap (λ (ws : List Waiter). length ws) gone, one, length-append first.before first.behind, length-append first.before (w ∷ first.behind), ap (λ (ids : List ℕ). length ids) (leave (Served w.id answer ∷ []) told))
-  by (Rests e up) = omega (arith, fell, ap (λ (x : Turned). numbers_of x.1) e, ap (λ (x : Turned). length (who_left x.0)) e, ap (λ (ids : List ℕ). length ids) (way_leaves (plea_again s w) w.asked s))
+  by (Rests e up) = omega (arith, fell, ap (λ (x : Turned). numbers_of x.1) e, ap (λ (x : Turned). length (who_left x.0)) e, ap (λ (ids : List ℕ). length ids) (way_leaves first.before (plea_again s w) w.asked s))
 
 -- who was served waits no more, so that a call may tell of it
 pub turn_numbers : (n : ℕ) (left : Rooms) (s : CoreState) → IsGood s → IfSome (settle n left s) (λ r. numbers_of r.1 + length (who_left r.0) ≤ numbers_of s)

@@ -64,27 +64,31 @@ is_refusal (Queued number) = false
 is_refusal _ = true
 
 -- the first of these waits
-abbrev pub first_waits : Plea → List Claim → List Claim → Type 0
-first_waits p held [] = ⊥
-first_waits p held (c ∷ cs) = does_wait p held c ≡ true
+abbrev pub first_waits : List Waiter → Plea → CoreState → List Claim → Type 0
+first_waits earlier p s [] = ⊥
+first_waits earlier p s (c ∷ cs) = does_wait earlier p s c ≡ true
 
--- of a plea for all of these, of which the rest is still to be judged beside what counts as held
-abbrev IsRuledFrom : Rooms → Plea → List Claim → CoreState → List Claim → List Claim → Ending
-IsRuledFrom left p asked s held rest Gets told t = (told ≡ []) × (t ≡ held_with asked s) × AllPass left p held rest
-IsRuledFrom left p asked s held rest Waits told t = (told ≡ []) × (t ≡ s) × (p.crowded ≡ None) × first_waits p held rest
-IsRuledFrom left p asked s held rest (Told answer) told t = (told ≡ []) × (t ≡ s) × (is_refusal answer ≡ true)
+-- the state in which these count as held
+abbrev beside : List Claim → CoreState → CoreState
+beside claims s = record s { claims = all_granted claims s.claims }
 
-abbrev pub IsRuled : Rooms → Plea → List Claim → CoreState → Ending
-IsRuled left p asked s ruling told t = IsRuledFrom left p asked s s.claims asked ruling told t
+-- of a plea for all of these, of which the rest is still to be judged where what stands there is held
+abbrev IsRuledFrom : List Waiter → Rooms → Plea → List Claim → CoreState → CoreState → List Claim → Ending
+IsRuledFrom earlier left p asked s there rest Gets told t = (told ≡ []) × (t ≡ held_with asked s) × AllPass left p there.claims rest
+IsRuledFrom earlier left p asked s there rest Waits told t = (told ≡ []) × (t ≡ s) × (p.crowded ≡ None) × first_waits earlier p there rest
+IsRuledFrom earlier left p asked s there rest (Told answer) told t = (told ≡ []) × (t ≡ s) × (is_refusal answer ≡ true)
+
+abbrev pub IsRuled : List Waiter → Rooms → Plea → List Claim → CoreState → Ending
+IsRuled earlier left p asked s ruling told t = IsRuledFrom earlier left p asked s s asked ruling told t
 
 -- nothing was told, and nothing changed
 abbrev IsYet : CoreState → Between
 IsYet s told t = (told ≡ []) × (t ≡ s)
 
-grace_passes : (left : Rooms) (p : Plea) (asked : List Claim) (s : CoreState) → Steps (IsYet s) (IsRuled left p asked s) (check_grace p) [] s
+grace_passes : (earlier : List Waiter) (left : Rooms) (p : Plea) (asked : List Claim) (s : CoreState) → Steps (IsYet s) (IsRuled earlier left p asked s) (check_grace p) [] s
 unfolding check_grace
-grace_passes left p asked s = by p.reclaim where
-  by : (b : Bool) → (let r : Option Ruling × List Effect × CoreState = if b then (Some (Told (NoGrace s.clock)), [], s) else (None, [], s) in Passes (IsYet s) (IsRuled left p asked s) r.0 r.1 r.2)
+grace_passes earlier left p asked s = by p.reclaim where
+  by : (b : Bool) → (let r : Option Ruling × List Effect × CoreState = if b then (Some (Told (NoGrace s.clock)), [], s) else (None, [], s) in Passes (IsYet s) (IsRuled earlier left p asked s) r.0 r.1 r.2)
   by true = (refl, refl, refl)
   by false = (refl, refl)
 
@@ -93,28 +97,28 @@ granted_behind [] c held = refl
 granted_behind (b ∷ bs) c held = granted_behind bs c (granted_claims b held)
 
 -- nothing was told or changed, and no break is wanted for this claim beside what counts as held
-abbrev MovesYet : CoreState → List Claim → Claim → Between
-MovesYet s held c told t = IsYet s told t × (is_stopped held c ≡ false)
+abbrev MovesYet : List Waiter → CoreState → CoreState → Claim → Between
+MovesYet earlier s there c told t = IsYet s told t × (is_stopped earlier there c ≡ false)
 
-waits_stopped : (p : Plea) (held : List Claim) (c : Claim) → is_blocked held c ≡ true → is_stopped held c ≡ true → p.blocking ≡ true → does_wait p held c ≡ true
-waits_stopped p held c blocked stopped waits = rw (blocked, stopped) waits
+waits_stopped : (earlier : List Waiter) (p : Plea) (s : CoreState) (c : Claim) → is_blocked s.claims c ≡ true → is_stopped earlier s c ≡ true → p.blocking ≡ true → does_wait earlier p s c ≡ true
+waits_stopped earlier p s c blocked stopped waits = rw (blocked, stopped) waits
 
-waits_kept_off : (p : Plea) (held : List Claim) (c : Claim) → is_blocked held c ≡ true → is_stopped held c ≡ false → p.awaits ≡ true → does_wait p held c ≡ true
-waits_kept_off p held c blocked moves waits = rw (blocked, moves) waits
+waits_kept_off : (earlier : List Waiter) (p : Plea) (s : CoreState) (c : Claim) → is_blocked s.claims c ≡ true → is_stopped earlier s c ≡ false → p.awaits ≡ true → does_wait earlier p s c ≡ true
+waits_kept_off earlier p s c blocked moves waits = rw (blocked, moves) waits
 
 held_passes : (earlier : List Waiter) (left : Rooms) (p : Plea) (asked : List Claim) (s : CoreState) (before : List Claim) (c : Claim) (rest : List Claim)
-    → Steps (MovesYet s (all_granted before s.claims) c) (IsRuledFrom left p asked s (all_granted before s.claims) (c ∷ rest)) (check_held earlier p before c) [] s
+    → Steps (MovesYet earlier s (beside before s) c) (IsRuledFrom earlier left p asked s (beside before s) (c ∷ rest)) (check_held earlier p before c) [] s
 unfolding check_held held_with
 held_passes earlier left p asked s before c rest = by (least s.names (blockers earlier there c)) refl where
   there : CoreState
-  there = record s { claims = all_granted before s.claims }
+  there = beside before s
 
-  stops : (d : Claim) → is_stopped there.claims c ≡ true → (b : Bool) (o : Option ℕ) → p.blocking ≡ b → p.crowded ≡ o → IsRuledFrom left p asked s there.claims (c ∷ rest) (if b then waits o else Told (Conflict d)) [] s
-  stops d stopped true None waits room = (refl, refl, room, waits_stopped p there.claims c (stopped_blocked there.claims c stopped) stopped waits)
+  stops : (d : Claim) → is_stopped earlier there c ≡ true → (b : Bool) (o : Option ℕ) → p.blocking ≡ b → p.crowded ≡ o → IsRuledFrom earlier left p asked s there (c ∷ rest) (if b then waits o else Told (Conflict d)) [] s
+  stops d stopped true None waits room = (refl, refl, room, waits_stopped earlier p there c (stopped_blocked earlier there c stopped) stopped waits)
   stops d stopped true (Some limit) waits room = (refl, refl, refl)
   stops d stopped false o waits room = (refl, refl, refl)
 
-  by : (o : Option Claim) → least s.names (blockers earlier there c) ≡ o → (let r = held_by p o s in Passes (MovesYet s there.claims c) (IsRuledFrom left p asked s there.claims (c ∷ rest)) r.0 r.1 r.2)
+  by : (o : Option Claim) → least s.names (blockers earlier there c) ≡ o → (let r = held_by p o s in Passes (MovesYet earlier s there c) (IsRuledFrom earlier left p asked s there (c ∷ rest)) r.0 r.1 r.2)
   by None e = ((refl, refl), blockers_none earlier there c e)
   by (Some d) e = stops d (some_stops earlier there c d e) p.blocking p.crowded refl refl
 
@@ -122,76 +126,76 @@ held_passes earlier left p asked s before c rest = by (least s.names (blockers e
 abbrev IsFreeYet : CoreState → List Claim → Claim → Between
 IsFreeYet s held c told t = IsYet s told t × (is_blocked held c ≡ false)
 
-caches_pass : (left : Rooms) (p : Plea) (asked : List Claim) (s : CoreState) (before : List Claim) (c : Claim) (rest : List Claim) → is_stopped (all_granted before s.claims) c ≡ false
-    → Steps (IsFreeYet s (all_granted before s.claims) c) (IsRuledFrom left p asked s (all_granted before s.claims) (c ∷ rest)) (check_caches p before c) [] s
+caches_pass : (earlier : List Waiter) (left : Rooms) (p : Plea) (asked : List Claim) (s : CoreState) (before : List Claim) (c : Claim) (rest : List Claim) → is_stopped earlier (beside before s) c ≡ false
+    → Steps (IsFreeYet s (all_granted before s.claims) c) (IsRuledFrom earlier left p asked s (beside before s) (c ∷ rest)) (check_caches p before c) [] s
 unfolding check_caches held_with
-caches_pass left p asked s before c rest moves = by (cache_against held c) refl where
+caches_pass earlier left p asked s before c rest moves = by (cache_against held c) refl where
   held : List Claim
   held = all_granted before s.claims
 
-  keeps : (d : Claim) → is_blocked held c ≡ true → (b : Bool) (o : Option ℕ) → p.awaits ≡ b → p.crowded ≡ o → IsRuledFrom left p asked s held (c ∷ rest) (if b then waits o else Told (Recall d)) [] s
-  keeps d blocked true None waits room = (refl, refl, room, waits_kept_off p held c blocked moves waits)
+  keeps : (d : Claim) → is_blocked held c ≡ true → (b : Bool) (o : Option ℕ) → p.awaits ≡ b → p.crowded ≡ o → IsRuledFrom earlier left p asked s (beside before s) (c ∷ rest) (if b then waits o else Told (Recall d)) [] s
+  keeps d blocked true None waits room = (refl, refl, room, waits_kept_off earlier p (beside before s) c blocked moves waits)
   keeps d blocked true (Some limit) waits room = (refl, refl, refl)
   keeps d blocked false o waits room = (refl, refl, refl)
 
-  by : (o : Option Claim) → cache_against held c ≡ o → (let r = kept_off_by p o s in Passes (IsFreeYet s held c) (IsRuledFrom left p asked s held (c ∷ rest)) r.0 r.1 r.2)
-  by None e = ((refl, refl), free_unless held c moves e)
+  by : (o : Option Claim) → cache_against held c ≡ o → (let r = kept_off_by p o s in Passes (IsFreeYet s held c) (IsRuledFrom earlier left p asked s (beside before s) (c ∷ rest)) r.0 r.1 r.2)
+  by None e = ((refl, refl), free_unless earlier (beside before s) c moves e)
   by (Some d) e = keeps d (cache_blocked held c d e) p.awaits p.crowded refl refl
 
 -- and passes no limit
 abbrev HasRoomYet : Rooms → Plea → CoreState → List Claim → Claim → Between
 HasRoomYet left p s held c told t = IsFreeYet s held c told t × (first_passed (grant_limits left p.rows (length (granted_claims c held)) p.kept) ≡ None)
 
-room_passes : (left : Rooms) (p : Plea) (asked : List Claim) (s : CoreState) (before : List Claim) (c : Claim) (rest : List Claim) → is_blocked (all_granted before s.claims) c ≡ false
-    → Steps (HasRoomYet left p s (all_granted before s.claims) c) (IsRuledFrom left p asked s (all_granted before s.claims) (c ∷ rest)) (check_room left p before c) [] s
+room_passes : (earlier : List Waiter) (left : Rooms) (p : Plea) (asked : List Claim) (s : CoreState) (before : List Claim) (c : Claim) (rest : List Claim) → is_blocked (all_granted before s.claims) c ≡ false
+    → Steps (HasRoomYet left p s (all_granted before s.claims) c) (IsRuledFrom earlier left p asked s (beside before s) (c ∷ rest)) (check_room left p before c) [] s
 unfolding check_room held_with
-room_passes left p asked s before c rest free = by (first_passed (grant_limits left p.rows (length (granted_claims c held)) p.kept)) refl where
+room_passes earlier left p asked s before c rest free = by (first_passed (grant_limits left p.rows (length (granted_claims c held)) p.kept)) refl where
   held : List Claim
   held = all_granted before s.claims
 
-  by : (o : Option ℕ) → first_passed (grant_limits left p.rows (length (granted_claims c held)) p.kept) ≡ o → (let r = room_by o s in Passes (HasRoomYet left p s held c) (IsRuledFrom left p asked s held (c ∷ rest)) r.0 r.1 r.2)
+  by : (o : Option ℕ) → first_passed (grant_limits left p.rows (length (granted_claims c held)) p.kept) ≡ o → (let r = room_by o s in Passes (HasRoomYet left p s held c) (IsRuledFrom earlier left p asked s (beside before s) (c ∷ rest)) r.0 r.1 r.2)
   by None e = (((refl, refl), free), e)
   by (Some limit) e = (refl, refl, refl)
 
-end_passes : (n : ℕ) (left : Rooms) (q p : Plea) (asked : List Claim) (s : CoreState) (held : List Claim) → Ends (IsRuledFrom left p asked s held []) (after (record_name n q) (enter_all asked)) [] s
+end_passes : (n : ℕ) (earlier : List Waiter) (left : Rooms) (q p : Plea) (asked : List Claim) (s there : CoreState) → Ends (IsRuledFrom earlier left p asked s there []) (after (record_name n q) (enter_all asked)) [] s
 unfolding record_name enter_all
-end_passes n left q p asked s held = (refl, refl, tt)
+end_passes n earlier left q p asked s there = (refl, refl, tt)
 
 pass_at_once : (left : Rooms) (p : Plea) (held cs : List Claim) → AllPass left (at_once p) held cs → AllPass left p held cs
 pass_at_once left p held [] pass = tt
 pass_at_once left p held (c ∷ cs) pass = (pass.0, pass.1, pass_at_once left p (granted_claims c held) cs pass.2)
 
 -- none of those behind the first waits
-waits_not : (p : Plea) (held cs : List Claim) → first_waits (at_once p) held cs → ⊥
-waits_not p held [] h = h
-waits_not p held (c ∷ cs) h = by (is_blocked held c) (is_stopped held c) h where
+waits_not : (earlier : List Waiter) (p : Plea) (s : CoreState) (cs : List Claim) → first_waits earlier (at_once p) s cs → ⊥
+waits_not earlier p s [] h = h
+waits_not earlier p s (c ∷ cs) h = by (is_blocked s.claims c) (is_stopped earlier s c) h where
   by : (x y : Bool) → (x && (if y then false else false)) ≡ true → ⊥
   by true true e = both_ways false refl e
   by true false e = both_ways false refl e
   by false y e = both_ways false refl e
 
 -- what stands once more counts as held, stands before
-ruled_before : (left : Rooms) (p : Plea) (asked : List Claim) (s : CoreState) (held : List Claim) (c : Claim) (rest : List Claim) → is_blocked held c ≡ false → first_passed (grant_limits left p.rows (length (granted_claims c held)) p.kept) ≡ None
-    → (ruling : Ruling) (told : List Effect) (t : CoreState) → IsRuledFrom left (at_once p) asked s (granted_claims c held) rest ruling told t → IsRuledFrom left p asked s held (c ∷ rest) ruling told t
-ruled_before left p asked s held c rest free room Gets told t is = (is.0, is.1, (free, room, pass_at_once left p (granted_claims c held) rest is.2))
-ruled_before left p asked s held c rest free room Waits told t is = absurd (waits_not p (granted_claims c held) rest is.3)
-ruled_before left p asked s held c rest free room (Told answer) told t is = is
+ruled_before : (earlier : List Waiter) (left : Rooms) (p : Plea) (asked : List Claim) (s there : CoreState) (c : Claim) (rest : List Claim) → is_blocked there.claims c ≡ false → first_passed (grant_limits left p.rows (length (granted_claims c there.claims)) p.kept) ≡ None
+    → (ruling : Ruling) (told : List Effect) (t : CoreState) → IsRuledFrom earlier left (at_once p) asked s (record there { claims = granted_claims c there.claims }) rest ruling told t → IsRuledFrom earlier left p asked s there (c ∷ rest) ruling told t
+ruled_before earlier left p asked s there c rest free room Gets told t is = (is.0, is.1, (free, room, pass_at_once left p (granted_claims c there.claims) rest is.2))
+ruled_before earlier left p asked s there c rest free room Waits told t is = absurd (waits_not earlier p (record there { claims = granted_claims c there.claims }) rest is.3)
+ruled_before earlier left p asked s there c rest free room (Told answer) told t is = is
 
 each_passes : (n : ℕ) (earlier : List Waiter) (left : Rooms) (q p : Plea) (asked : List Claim) (s : CoreState) (before rest : List Claim)
-    → Ends (IsRuledFrom left p asked s (all_granted before s.claims) rest) (each earlier left p before rest (after (record_name n q) (enter_all asked))) [] s
-each_passes n earlier left q p asked s before [] = end_passes n left q p asked s (all_granted before s.claims)
+    → Ends (IsRuledFrom earlier left p asked s (beside before s) rest) (each earlier left p before rest (after (record_name n q) (enter_all asked))) [] s
+each_passes n earlier left q p asked s before [] = end_passes n earlier left q p asked s (beside before s)
 each_passes n earlier left q p asked s before (c ∷ cs) =
-    after_passes (MovesYet s held c) E (check_held earlier p before c) _ [] s (held_passes earlier left p asked s before c cs) (λ told t moves.
+    after_passes (MovesYet earlier s (beside before s) c) E (check_held earlier p before c) _ [] s (held_passes earlier left p asked s before c cs) (λ told t moves.
     at told t moves.0 (λ told t. Ends E (after (check_caches p before c) (after (check_room left p before c) rest)) told t)
-    (after_passes (IsFreeYet s held c) E (check_caches p before c) _ [] s (caches_pass left p asked s before c cs moves.1) (λ more u free. at more u free.0 (λ more u. Ends E (after (check_room left p before c) rest) more u)
-    (after_passes (HasRoomYet left p s held c) E (check_room left p before c) rest [] s (room_passes left p asked s before c cs free.1) (λ last v room. at last v room.0.0 (λ last v. Ends E rest last v)
+    (after_passes (IsFreeYet s held c) E (check_caches p before c) _ [] s (caches_pass earlier left p asked s before c cs moves.1) (λ more u free. at more u free.0 (λ more u. Ends E (after (check_room left p before c) rest) more u)
+    (after_passes (HasRoomYet left p s held c) E (check_room left p before c) rest [] s (room_passes earlier left p asked s before c cs free.1) (λ last v room. at last v room.0.0 (λ last v. Ends E rest last v)
     (later last v room (each_passes n earlier left q (at_once p) asked s (before ++ c ∷ []) cs)))))))
   where
     held : List Claim
     held = all_granted before s.claims
 
     E : Ending
-    E = IsRuledFrom left p asked s held (c ∷ cs)
+    E = IsRuledFrom earlier left p asked s (beside before s) (c ∷ cs)
 
     rest : CoreState → Ruled
     rest = each earlier left (at_once p) (before ++ c ∷ []) cs (after (record_name n q) (enter_all asked))
@@ -199,18 +203,18 @@ each_passes n earlier left q p asked s before (c ∷ cs) =
     at : (told : List Effect) (t : CoreState) → IsYet s told t → (P : List Effect → CoreState → Type 0) → P [] s → P told t
     at told t yet P h = subst (λ (x : List Effect). P x t) (sym yet.0) (subst (λ (x : CoreState). P [] x) (sym yet.1) h)
 
-    later : (told : List Effect) (t : CoreState) → HasRoomYet left p s held c told t → Ends (IsRuledFrom left (at_once p) asked s (all_granted (before ++ c ∷ []) s.claims) cs) rest [] s → Ends E rest [] s
+    later : (told : List Effect) (t : CoreState) → HasRoomYet left p s held c told t → Ends (IsRuledFrom earlier left (at_once p) asked s (beside (before ++ c ∷ []) s) cs) rest [] s → Ends E rest [] s
     later told t room behind =
-        ruled_before left p asked s held c cs room.0.1 room.1 (rest s).0 (rest s).1 (rest s).2
-        (subst (λ (x : List Claim). Ends (IsRuledFrom left (at_once p) asked s x cs) rest [] s) (granted_behind before c s.claims) behind)
+        ruled_before earlier left p asked s (beside before s) c cs room.0.1 room.1 (rest s).0 (rest s).1 (rest s).2
+        (subst (λ (x : List Claim). Ends (IsRuledFrom earlier left (at_once p) asked s (record s { claims = x }) cs) rest [] s) (granted_behind before c s.claims) behind)
 
 -- each ruling has its cause, tells nothing, and leaves what it says
-pub judged_ruled : (n : ℕ) (earlier : List Waiter) (left : Rooms) (p : Plea) (asked : List Claim) (s : CoreState) → Ends (IsRuled left p asked s) (judged n earlier left p asked) [] s
+pub judged_ruled : (n : ℕ) (earlier : List Waiter) (left : Rooms) (p : Plea) (asked : List Claim) (s : CoreState) → Ends (IsRuled earlier left p asked s) (judged n earlier left p asked) [] s
 unfolding judged
 judged_ruled n earlier left p asked s =
-    after_passes (IsYet s) (IsRuled left p asked s) (check_grace p) _ [] s (grace_passes left p asked s) (λ told t yet.
-    subst (λ (x : List Effect). Ends (IsRuled left p asked s) (each earlier left p [] asked (after (record_name n p) (enter_all asked))) x t) (sym yet.0)
-    (subst (λ (x : CoreState). Ends (IsRuled left p asked s) (each earlier left p [] asked (after (record_name n p) (enter_all asked))) [] x) (sym yet.1) (each_passes n earlier left p p asked s [] asked)))
+    after_passes (IsYet s) (IsRuled earlier left p asked s) (check_grace p) _ [] s (grace_passes earlier left p asked s) (λ told t yet.
+    subst (λ (x : List Effect). Ends (IsRuled earlier left p asked s) (each earlier left p [] asked (after (record_name n p) (enter_all asked))) x t) (sym yet.0)
+    (subst (λ (x : CoreState). Ends (IsRuled earlier left p asked s) (each earlier left p [] asked (after (record_name n p) (enter_all asked))) [] x) (sym yet.1) (each_passes n earlier left p p asked s [] asked)))
 
 -- ---- the first claim: where something blocks it the ruling is a function of what is looked at
 
@@ -254,8 +258,8 @@ kept_left d asked s false o = refl
 
 -- each behind those before it, where those count as held, or where they are held
 each_row : (n : ℕ) (earlier : List Waiter) (left : Rooms) (q p : Plea) (asked : List Claim) (s : CoreState) (before rest : List Claim)
-    → each earlier left p before rest (after (record_name n q) (enter_all asked)) s ≡ comes_to asked s (row left p rest (held_with before s))
-unfolding record_name enter_all check_held check_caches check_room held_with blockers
+    → each earlier left p before rest (after (record_name n q) (enter_all asked)) s ≡ comes_to asked s (row earlier left p rest (held_with before s))
+unfolding record_name enter_all check_held check_caches check_room held_with
 each_row n earlier left q p asked s before [] = refl
 each_row n earlier left q p asked s before (c ∷ cs) =
     go (least s.names (blockers earlier there c)) (cache_against there.claims c) (first_passed (grant_limits left p.rows (length (granted_claims c there.claims)) p.kept)) refl refl refl (each_row n earlier left q (at_once p) asked s (before ++ c ∷ []) cs)
@@ -264,16 +268,16 @@ each_row n earlier left q p asked s before (c ∷ cs) =
     there = record s { claims = all_granted before s.claims }
 
     go : (o k : Option Claim) (l : Option ℕ) → least s.names (blockers earlier there c) ≡ o → cache_against there.claims c ≡ k → first_passed (grant_limits left p.rows (length (granted_claims c there.claims)) p.kept) ≡ l
-        → each earlier left (at_once p) (before ++ c ∷ []) cs (after (record_name n q) (enter_all asked)) s ≡ comes_to asked s (row left (at_once p) cs (held_with (before ++ c ∷ []) s))
-        → each earlier left p before (c ∷ cs) (after (record_name n q) (enter_all asked)) s ≡ comes_to asked s (row left p (c ∷ cs) there)
+        → each earlier left (at_once p) (before ++ c ∷ []) cs (after (record_name n q) (enter_all asked)) s ≡ comes_to asked s (row earlier left (at_once p) cs (held_with (before ++ c ∷ []) s))
+        → each earlier left p before (c ∷ cs) (after (record_name n q) (enter_all asked)) s ≡ comes_to asked s (row earlier left p (c ∷ cs) there)
     go (Some d) k l e f g later = rw e (λ i. (stopped p d, [], sym (stopped_left d asked s p.blocking p.crowded) i))
     go None (Some d) l e f g later = rw (e, f) (λ i. (kept_off p d, [], sym (kept_left d asked s p.awaits p.crowded) i))
     go None None (Some limit) e f g later = rw (e, f, g) refl
     go None None None e f g later =
-        rw (e, f, g) (subst (λ (held : List Claim). each earlier left (at_once p) (before ++ c ∷ []) cs (after (record_name n q) (enter_all asked)) s ≡ comes_to asked s (row left (at_once p) cs (record s { claims = held })))
+        rw (e, f, g) (subst (λ (held : List Claim). each earlier left (at_once p) (before ++ c ∷ []) cs (after (record_name n q) (enter_all asked)) s ≡ comes_to asked s (row earlier left (at_once p) cs (record s { claims = held })))
         (granted_behind before c s.claims) later)
 
-pub judged_row : (n : ℕ) (earlier : List Waiter) (left : Rooms) (p : Plea) (asked : List Claim) (s : CoreState) → p.reclaim ≡ false → judged n earlier left p asked s ≡ (row left p asked s, [], row_left (row left p asked s) asked s)
+pub judged_row : (n : ℕ) (earlier : List Waiter) (left : Rooms) (p : Plea) (asked : List Claim) (s : CoreState) → p.reclaim ≡ false → judged n earlier left p asked s ≡ (row earlier left p asked s, [], row_left (row earlier left p asked s) asked s)
 unfolding judged check_grace held_with
 judged_row n earlier left p asked s timely =
     let rest : CoreState → Ruled = each earlier left p [] asked (after (record_name n p) (enter_all asked)) in
@@ -283,16 +287,16 @@ judged_row n earlier left p asked s timely =
 -- ---- what most claims meet
 
 -- where nothing that is held blocks a claim neither step on what is held ends the row
-pub nothing_held : (p : Plea) (c : Claim) (s : CoreState) (later : Option Ruling) → least s.names (filter (λ held. blocks c held) s.claims) ≡ None → or_else (check_held [] p [] c s).0 (or_else (check_caches p [] c s).0 later) ≡ later
+pub nothing_held : (earlier : List Waiter) (p : Plea) (c : Claim) (s : CoreState) (later : Option Ruling) → least s.names (filter (λ held. blocks c held) s.claims) ≡ None → or_else (check_held earlier p [] c s).0 (or_else (check_caches p [] c s).0 later) ≡ later
 unfolding check_held check_caches held_with
-nothing_held p c s later e =
+nothing_held earlier p c s later e =
     let free : is_blocked s.claims c ≡ false = none_passes (λ d. blocks c d) s.claims (least_none s.names (filter (λ held. blocks c held) s.claims) e) in
-    rw (none_blockers [] s c (free_moves s.claims c free), free_clear s.claims c free) refl
+    rw (none_blockers earlier s c (free_moves earlier s c free), free_clear s.claims c free) refl
 
 -- where no cache stands on its file the least of what blocks it is what does so for good
-pub held_for_good : (p : Plea) (c d : Claim) (s : CoreState) (later : Option Ruling) → least s.names (filter (λ held. blocks c held) s.claims) ≡ Some d → list_any (λ h. (h.file == c.file) && is_cache h.what) s.claims ≡ false → or_else (check_held [] p [] c s).0 (or_else (check_caches p [] c s).0 later) ≡ Some (stopped p d)
+pub held_for_good : (earlier : List Waiter) (p : Plea) (c d : Claim) (s : CoreState) (later : Option Ruling) → least s.names (filter (λ held. blocks c held) s.claims) ≡ Some d → list_any (λ h. (h.file == c.file) && is_cache h.what) s.claims ≡ false → or_else (check_held earlier p [] c s).0 (or_else (check_caches p [] c s).0 later) ≡ Some (stopped p d)
 unfolding check_held held_with blockers
-held_for_good p c d s later e none = rw (ap (least s.names) (all_final c s.claims none) ∙ e) refl
+held_for_good earlier p c d s later e none = rw (ap (least s.names) (all_final c s.claims none) ∙ e) refl
 
 -- ---- one claim
 

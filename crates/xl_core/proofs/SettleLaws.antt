@@ -20,8 +20,8 @@ use Rattle.xl_wait.specs.declared.waiter.Waiter.{Waiter}
 use Rattle.xl_core.specs.declared.ask.Effect.{Effect}
 use Rattle.xl_core.specs.State.{CoreState}
 use Rattle.xl_core.specs.BreaksBegun.{idle_caches, breaks_begun}
-use Rattle.xl_core.specs.Causes.{IsEachDue, held_once, IsServed, Answered, WaitsOn, IsTurn}
-use Rattle.xl_core.specs.Good.{are_apart, caches_of, caches_beside, caches_but, IsKnown, IsPled, IsGood, IsWaiter, is_held_up, holds_up, IsSettled}
+use Rattle.xl_core.specs.Causes.{IsEachBehind, held_once, IsServed, Answered, WaitsOn, IsTurn}
+use Rattle.xl_core.specs.Good.{are_apart, caches_of, caches_beside, caches_but, IsKnown, IsPled, IsGood, IsWaiter, is_held_up, IsUp, AllBehind, IsSettled}
 use Rattle.xl_core.specs.Judge.{Ruled, all_granted}
 use Rattle.xl_table.specs.Leaving.{goes}
 use Rattle.xl_table.specs.declared.leaver.Leaver.{Leaver}
@@ -62,11 +62,11 @@ settle_rests n left s = (none_rests n left s [] s.waiters, rests_none n left s [
 
 -- ---- who rests is held up
 
-pub rest_held : (n : ℕ) (left : Rooms) (s : CoreState) (earlier ws : List Waiter) → AllRest n left s earlier ws → AllByRecursion (λ w. holds_up s.claims w w.asked ≡ true) ws
+pub rest_held : (n : ℕ) (left : Rooms) (s : CoreState) (earlier ws : List Waiter) → AllRest n left s earlier ws → AllBehind (IsUp s) earlier ws
 rest_held n left s earlier [] all = tt
 rest_held n left s earlier (w ∷ ws) all = ((rests_held n left s earlier w (ap (λ (x : Ruled). rests x.0 x.1) all.0)).1, rest_held n left s (earlier ++ w ∷ []) ws all.1)
 
-held_rest : (n : ℕ) (left : Rooms) (s : CoreState) (earlier ws : List Waiter) → AllByRecursion (λ w. holds_up s.claims w w.asked ≡ true) ws → AllRest n left s earlier ws
+held_rest : (n : ℕ) (left : Rooms) (s : CoreState) (earlier ws : List Waiter) → AllBehind (IsUp s) earlier ws → AllRest n left s earlier ws
 held_rest n left s earlier [] all = tt
 held_rest n left s earlier (w ∷ ws) all = (up_rests n left s earlier w all.0, held_rest n left s (earlier ++ w ∷ []) ws all.1)
 
@@ -98,26 +98,26 @@ once_cases P asked held (Full limit) same all = same
 once_cases P asked held NotHeld same all = same
 once_cases P asked held StoreFailed same all = same
 
-pub waiters_left : (left : Rooms) (s : CoreState) (turn : Turned) (first : IsFirst left s s.waiters turn) → IsGood s → cancelled first.waiter.id s.waiters ≡ first.before ++ first.behind
+pub waiters_left : (left : Rooms) (s : CoreState) (turn : Turned) (first : IsFirst left s [] s.waiters turn) → IsGood s → cancelled first.waiter.id s.waiters ≡ first.before ++ first.behind
 waiters_left left s turn first good =
     ap (λ (ws : List Waiter). cancelled first.waiter.id ws) first.stood ∙ without first.before first.waiter first.behind (subst (λ (ws : List Waiter). Pairwise are_apart ws) first.stood good.apart)
 
-first_turn_is : (left : Rooms) (s : CoreState) (turn : Turned) → IsGood s → IsFirst left s s.waiters turn → IsTurn left s turn.0 turn.1
+first_turn_is : (left : Rooms) (s : CoreState) (turn : Turned) → IsGood s → IsFirst left s [] s.waiters turn → IsTurn left s turn.0 turn.1
 first_turn_is left s turn good first = by first.moved where
   w : Waiter
   w = first.waiter
 
   t : CoreState
-  t = (way_again s w).1
+  t = (way_again first.before s w).1
 
   all : List Claim
   all = first.claim ∷ first.claims
 
   -- each waiter's way leaves what no break changes
   same : {A : Type 0} (f : CoreState → A) → ((c : Claim) → f (breaks_begun c s).1 ≡ f s) → f t ≡ f s
-  same f keeps = way_keeps f (plea_again s w) w.asked s keeps
+  same f keeps = way_keeps f first.before (plea_again s w) w.asked s keeps
 
-  turned_so : (told : List Effect) → turn.0 ≡ (way_again s w).0 ++ told → IsServed left t w first.claim told turn.1
+  turned_so : (told : List Effect) → turn.0 ≡ (way_again first.before s w).0 ++ told → IsServed left first.before t w first.claim told turn.1
       → turn.1.names ≡ s.names
       → ((file : ℕ) (owner : Owner) → AllByRecursion (λ c. (file ≡ c.file) × (owner ≡ c.owner) × (is_share c.what ≡ false) → ⊥) w.asked → spans_of file owner turn.1.claims ≡ spans_of file owner t.claims)
       → ((file : ℕ) (owner : Owner) → AllByRecursion (λ c. (file ≡ c.file) × (owner ≡ c.owner) × (is_share c.what ≡ true) → ⊥) w.asked → shares_of file owner turn.1.claims ≡ shares_of file owner t.claims)
@@ -142,14 +142,14 @@ first_turn_is left s turn good first = by first.moved where
     unwished = unwished;
   }
 
-  by : IsMoved left s w first.claim first.claims turn → IsTurn left s turn.0 turn.1
+  by : IsMoved left first.before s w first.claim first.claims turn → IsTurn left s turn.0 turn.1
   by (Answers answer told new due pass clear) =
       let u = once_answered t w all answer in
       let once_caches : caches_of u.claims ≡ caches_of t.claims = once_cases (λ cs. caches_of cs ≡ caches_of t.claims) all t.claims answer refl (all_granted_caches all t.claims) in
       let same_asked : u ≡ once_answered t w w.asked answer = ap (λ (cs : List Claim). once_answered t w cs answer) (sym first.asked) in
-      let due_here : IsEachDue left w.rows (length t.names) first.claim w.asked t answer =
-      subst (λ (cs : List Claim). IsEachDue left w.rows (length t.names) first.claim cs t answer) (sym first.asked)
-      (subst (λ (names : List Name). IsEachDue left w.rows (length names) first.claim all t answer) (sym (same (λ x. x.names) (λ c. begun_names c s))) due) in
+      let due_here : IsEachBehind first.before left w.rows (length t.names) first.claim w.asked t answer =
+      subst (λ (cs : List Claim). IsEachBehind first.before left w.rows (length t.names) first.claim cs t answer) (sym first.asked)
+      (subst (λ (names : List Name). IsEachBehind first.before left w.rows (length names) first.claim all t answer) (sym (same (λ x. x.names) (λ c. begun_names c s))) due) in
       turned_so (Served w.id answer ∷ []) told
       (Answered answer refl (λ d e. (pass d e).0) due_here (new ∙ ap (wish_for w.wish answer) same_asked) clear)
       (ap (λ (x : CoreState). x.names) new ∙ ap (λ (x : CoreState). x.names) (wish_claims w.wish answer u) ∙ same (λ x. x.names) (λ c. begun_names c s))
@@ -165,7 +165,7 @@ first_turn_is left s turn good first = by first.moved where
       ∙ ap (λ (cs : List Claim). caches_but first.claim.file first.claim.party cs) once_caches)
       (λ none. ap (λ (x : CoreState). caches_of x.claims) (new ∙ empty_wish w.wish answer u none) ∙ once_caches)
   by (Rests e up) =
-      turned_so [] (ap (λ (x : Turned). x.0) e ∙ sym (append-nil (way_again s w).0)) (WaitsOn refl up (ap (λ (x : Turned). x.1) e))
+      turned_so [] (ap (λ (x : Turned). x.0) e ∙ sym (append-nil (way_again first.before s w).0)) (WaitsOn refl up (ap (λ (x : Turned). x.1) e))
       (ap (λ (x : Turned). x.1.names) e ∙ same (λ x. x.names) (λ c. begun_names c s))
       (λ file owner apart. ap (λ (x : Turned). spans_of file owner x.1.claims) e)
       (λ file owner apart. ap (λ (x : Turned). shares_of file owner x.1.claims) e)
@@ -192,34 +192,34 @@ idle_by (c ∷ cs) =
 same_idle : (old new : List Claim) → caches_of new ≡ caches_of old → idle_caches new ≡ idle_caches old
 same_idle old new e = idle_by new ∙ ap (λ (cs : List Claim). length (filter (λ c. not (is_running c.what)) cs)) e ∙ sym (idle_by old)
 
-fewer_by : (left : Rooms) (s : CoreState) (turn : Turned) → IsGood s → IsFirst left s s.waiters turn → turns_left turn.1 + 1 ≤ turns_left s
+fewer_by : (left : Rooms) (s : CoreState) (turn : Turned) → IsGood s → IsFirst left s [] s.waiters turn → turns_left turn.1 + 1 ≤ turns_left s
 fewer_by left s turn good first = by first.moved where
   w : Waiter
   w = first.waiter
 
   t : CoreState
-  t = (way_again s w).1
+  t = (way_again first.before s w).1
 
   waiters : t.waiters ≡ s.waiters
-  waiters = way_keeps (λ x. x.waiters) (plea_again s w) w.asked s (λ c. begun_waiters c s)
+  waiters = way_keeps (λ x. x.waiters) first.before (plea_again s w) w.asked s (λ c. begun_waiters c s)
 
-  no_more : (way_again s w ≡ ([], s)) ⊎ (idle_caches t.claims + 1 ≤ idle_caches s.claims) → idle_caches t.claims ≤ idle_caches s.claims
+  no_more : (way_again first.before s w ≡ ([], s)) ⊎ (idle_caches t.claims + 1 ≤ idle_caches s.claims) → idle_caches t.claims ≤ idle_caches s.claims
   no_more (inl e) = omega (arith, ap (λ (x : Turned). idle_caches x.1.claims) e)
   no_more (inr fewer) = omega (arith, fewer)
 
-  fell : is_held_up t.claims w first.claim ≡ true → (way_again s w ≡ ([], s)) ⊎ (idle_caches t.claims + 1 ≤ idle_caches s.claims) → idle_caches t.claims + 1 ≤ idle_caches s.claims
-  fell up (inl e) = absurd (both_ways (is_held_up s.claims w first.claim) first.free (subst (λ (x : Turned). is_held_up x.1.claims w first.claim ≡ true) e up))
+  fell : is_held_up first.before t w first.claim ≡ true → (way_again first.before s w ≡ ([], s)) ⊎ (idle_caches t.claims + 1 ≤ idle_caches s.claims) → idle_caches t.claims + 1 ≤ idle_caches s.claims
+  fell up (inl e) = absurd (both_ways (is_held_up first.before s w first.claim) first.free (subst (λ (x : Turned). is_held_up first.before x.1 w first.claim ≡ true) e up))
   fell up (inr fewer) = fewer
 
-  by : IsMoved left s w first.claim first.claims turn → turns_left turn.1 + 1 ≤ turns_left s
+  by : IsMoved left first.before s w first.claim first.claims turn → turns_left turn.1 + 1 ≤ turns_left s
   by (Answers answer told new due pass clear) =
       let u = once_answered t w (first.claim ∷ first.claims) answer in
       let idle : idle_caches u.claims ≡ idle_caches t.claims = same_idle t.claims u.claims
       (once_cases (λ cs. caches_of cs ≡ caches_of t.claims) (first.claim ∷ first.claims) t.claims answer refl (all_granted_caches (first.claim ∷ first.claims) t.claims)) in
       let gone : turn.1.waiters ≡ first.before ++ first.behind = ap (λ (x : CoreState). x.waiters) (new ∙ wish_claims w.wish answer u) ∙ ap (λ (ws : List Waiter). cancelled w.id ws) waiters ∙ waiters_left left s turn first good in
-      omega (arith, idle, ap (λ (x : CoreState). idle_caches x.claims) new, wish_for_idle w.wish answer u, no_more (way_idle (plea_again s w) w.asked s), ap (λ (ws : List Waiter). length ws) gone, ap (λ (ws : List Waiter). length ws) first.stood, length-append first.before first.behind, length-append first.before (w ∷ first.behind))
+      omega (arith, idle, ap (λ (x : CoreState). idle_caches x.claims) new, wish_for_idle w.wish answer u, no_more (way_idle first.before (plea_again s w) w.asked s), ap (λ (ws : List Waiter). length ws) gone, ap (λ (ws : List Waiter). length ws) first.stood, length-append first.before first.behind, length-append first.before (w ∷ first.behind))
   by (Rests e up) =
-      omega (arith, ap (λ (x : Turned). idle_caches x.1.claims) e, ap (λ (x : Turned). length x.1.waiters) e, ap (λ (ws : List Waiter). length ws) waiters, fell up (way_idle (plea_again s w) w.asked s))
+      omega (arith, ap (λ (x : Turned). idle_caches x.1.claims) e, ap (λ (x : Turned). length x.1.waiters) e, ap (λ (ws : List Waiter). length ws) waiters, fell up (way_idle first.before (plea_again s w) w.asked s))
 
 pub turn_fewer : (n : ℕ) (left : Rooms) (s : CoreState) → IsGood s → IfSome (settle n left s) (λ r. turns_left r.1 + 1 ≤ turns_left s)
 turn_fewer n left s good = each_turn n left s (λ r. turns_left r.1 + 1 ≤ turns_left s) good (λ turn first. fewer_by left s turn good first)

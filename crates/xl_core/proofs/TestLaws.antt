@@ -130,7 +130,7 @@ test_foretells n left s test lock first last exclusive good client has same test
   alike : (d : Claim) → IsIn d s.claims → is_cache d.what ≡ false → stands_against known d ≡ blocks asked d
   alike d h other = meets_both s test lock first last exclusive d good client has same h other
 
-  refused : lock.reclaim ≡ false → is_stopped s.claims asked ≡ true → IsConflict (decided n left s lock).0
+  refused : lock.reclaim ≡ false → is_stopped s.waiters s asked ≡ true → IsConflict (decided n left s lock).0
   refused fresh stops =
       let found = stops_some s.waiters s asked stops in
       let held = blockers_some s.waiters s asked found.0 found.1 in

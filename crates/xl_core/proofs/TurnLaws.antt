@@ -38,52 +38,52 @@ kept_waits : (p : Plea) (d : Claim) → p.awaits ≡ true → p.crowded ≡ None
 kept_waits p d waits room = rw (waits, room) refl
 
 -- what it pleads for is ruled so on the state that the way left
-again_is : (n : ℕ) (left : Rooms) (s : CoreState) (earlier : List Waiter) (w : Waiter) (told : List Effect) (t : CoreState) → way_again s w ≡ (told, t) → again n left s earlier w ≡ ruled_behind told (judged n earlier left (plea_again s w) w.asked t)
+again_is : (n : ℕ) (left : Rooms) (s : CoreState) (earlier : List Waiter) (w : Waiter) (told : List Effect) (t : CoreState) → way_again earlier s w ≡ (told, t) → again n left s earlier w ≡ ruled_behind told (judged n earlier left (plea_again s w) w.asked t)
 again_is n left s earlier w told t e = ap (λ (way : List Effect × CoreState). ruled_behind way.0 (judged n earlier left (plea_again s w) w.asked way.1)) e
 
 -- one that is held up begins nothing
-pub way_up : (s : CoreState) (w : Waiter) (c : Claim) (cs : List Claim) → w.asked ≡ c ∷ cs → is_held_up s.claims w c ≡ true → way_again s w ≡ ([], s)
-way_up s w c cs asked up = ap (λ (ds : List Claim). made_way (plea_again s w) ds s) asked ∙ by (is_stopped s.claims c) refl where
-  run : is_stopped s.claims c ≡ false → all_run s.claims c ≡ true
-  run moves = sym (ap (λ (b : Bool). if b then w.blocking else all_run s.claims c) moves) ∙ (and_parts (is_blocked s.claims c) (if is_stopped s.claims c then w.blocking else all_run s.claims c) up).1
+pub way_up : (earlier : List Waiter) (s : CoreState) (w : Waiter) (c : Claim) (cs : List Claim) → w.asked ≡ c ∷ cs → is_held_up earlier s w c ≡ true → way_again earlier s w ≡ ([], s)
+way_up earlier s w c cs asked up = ap (λ (ds : List Claim). made_way earlier (plea_again s w) ds s) asked ∙ by (is_stopped earlier s c) refl where
+  run : is_stopped earlier s c ≡ false → all_run s.claims c ≡ true
+  run moves = sym (ap (λ (b : Bool). if b then w.blocking else all_run s.claims c) moves) ∙ (and_parts (is_blocked s.claims c) (if is_stopped earlier s c then w.blocking else all_run s.claims c) up).1
 
-  by : (b : Bool) → is_stopped s.claims c ≡ b → made_way (plea_again s w) (c ∷ cs) s ≡ ([], s)
-  by true stops = way_stopped (plea_again s w) c cs s stops
-  by false moves = way_unbroken (plea_again s w) c cs s (unbroken s.claims c (run moves))
+  by : (b : Bool) → is_stopped earlier s c ≡ b → made_way earlier (plea_again s w) (c ∷ cs) s ≡ ([], s)
+  by true stops = way_stopped earlier (plea_again s w) c cs s stops
+  by false moves = way_unbroken earlier (plea_again s w) c cs s (unbroken s.claims c (run moves))
 
 -- one that waits for what is in the way of the first of its claims is ruled to wait
-pub waits_now : (n : ℕ) (left : Rooms) (s t : CoreState) (earlier : List Waiter) (w : Waiter) (c : Claim) (cs : List Claim) → does_wait (plea_again s w) t.claims c ≡ true → judged n earlier left (plea_again s w) (c ∷ cs) t ≡ (Waits, [], t)
-waits_now n left s t earlier w c cs waits = by (is_stopped t.claims c) refl where
+pub waits_now : (n : ℕ) (left : Rooms) (s t : CoreState) (earlier : List Waiter) (w : Waiter) (c : Claim) (cs : List Claim) → does_wait earlier (plea_again s w) t c ≡ true → judged n earlier left (plea_again s w) (c ∷ cs) t ≡ (Waits, [], t)
+waits_now n left s t earlier w c cs waits = by (is_stopped earlier t c) refl where
   p : Plea
   p = plea_again s w
 
-  parts : (is_blocked t.claims c ≡ true) × ((if is_stopped t.claims c then p.blocking else p.awaits) ≡ true)
-  parts = and_parts (is_blocked t.claims c) (if is_stopped t.claims c then p.blocking else p.awaits) waits
+  parts : (is_blocked t.claims c ≡ true) × ((if is_stopped earlier t c then p.blocking else p.awaits) ≡ true)
+  parts = and_parts (is_blocked t.claims c) (if is_stopped earlier t c then p.blocking else p.awaits) waits
 
-  by : (b : Bool) → is_stopped t.claims c ≡ b → judged n earlier left p (c ∷ cs) t ≡ (Waits, [], t)
+  by : (b : Bool) → is_stopped earlier t c ≡ b → judged n earlier left p (c ∷ cs) t ≡ (Waits, [], t)
   by true stops =
       let found = stops_some earlier t c stops in
       let blocks : p.blocking ≡ true = sym (ap (λ (b : Bool). if b then p.blocking else p.awaits) stops) ∙ parts.1 in
       judged_stopped n earlier left p c found.0 cs t (plea_is s w).2 found.1 ∙ (λ i. (stopped_waits p found.0 blocks (plea_is s w).3 i, [], t))
   by false moves =
-      let found = moves_cache t.claims c parts.0 moves in
+      let found = moves_cache earlier t c parts.0 moves in
       judged_kept_off n earlier left p c found.0 cs t (plea_is s w).2 (none_blockers earlier t c moves) found.1 ∙ (λ i. (kept_waits p found.0 (plea_is s w).1 (plea_is s w).3 i, [], t))
 
 -- so does one that is held up
-pub up_waits : (s t : CoreState) (w : Waiter) (c : Claim) → is_held_up t.claims w c ≡ true → does_wait (plea_again s w) t.claims c ≡ true
+pub up_waits : (earlier : List Waiter) (s t : CoreState) (w : Waiter) (c : Claim) → is_held_up earlier t w c ≡ true → does_wait earlier (plea_again s w) t c ≡ true
 unfolding plea_again
-up_waits s t w c up = by (is_blocked t.claims c) (is_stopped t.claims c) w.blocking (all_run t.claims c) up where
+up_waits earlier s t w c up = by (is_blocked t.claims c) (is_stopped earlier t c) w.blocking (all_run t.claims c) up where
   by : (x y z r : Bool) → (x && (if y then z else r)) ≡ true → (x && (if y then z else true)) ≡ true
   by true true z r e = e
   by true false z r e = refl
   by false y z r e = e
 
 -- the first of several claims is held up
-pub held_rests : (n : ℕ) (left : Rooms) (s : CoreState) (earlier : List Waiter) (w : Waiter) (c : Claim) (cs : List Claim) → w.asked ≡ c ∷ cs → is_held_up s.claims w c ≡ true → again n left s earlier w ≡ (Waits, [], s)
+pub held_rests : (n : ℕ) (left : Rooms) (s : CoreState) (earlier : List Waiter) (w : Waiter) (c : Claim) (cs : List Claim) → w.asked ≡ c ∷ cs → is_held_up earlier s w c ≡ true → again n left s earlier w ≡ (Waits, [], s)
 held_rests n left s earlier w c cs asked up =
-    again_is n left s earlier w [] s (way_up s w c cs asked up)
+    again_is n left s earlier w [] s (way_up earlier s w c cs asked up)
     ∙ ap (λ (ds : List Claim). ruled_behind [] (judged n earlier left (plea_again s w) ds s)) asked
-    ∙ ap (ruled_behind []) (waits_now n left s s earlier w c cs (up_waits s s w c up))
+    ∙ ap (ruled_behind []) (waits_now n left s s earlier w c cs (up_waits earlier s s w c up))
 
 rested : (ruling : Ruling) (told : List Effect) → rests ruling told ≡ true → (ruling ≡ Waits) × (told ≡ [])
 rested Waits [] e = (refl, refl)
@@ -91,57 +91,57 @@ rested Waits (x ∷ xs) e = absurd (both_ways false refl e)
 rested Gets told e = absurd (both_ways false refl e)
 rested (Told answer) told e = absurd (both_ways false refl e)
 
-waits_ruled : (left : Rooms) (p : Plea) (asked : List Claim) (s : CoreState) (ruling : Ruling) (told : List Effect) (t : CoreState) → IsRuled left p asked s ruling told t → ruling ≡ Waits → (told ≡ []) × (t ≡ s) × first_waits p s.claims asked
-waits_ruled left p asked s ruling told t is e = let all = subst (λ (r : Ruling). IsRuled left p asked s r told t) e is in (all.0, all.1, all.3)
+waits_ruled : (earlier : List Waiter) (left : Rooms) (p : Plea) (asked : List Claim) (s : CoreState) (ruling : Ruling) (told : List Effect) (t : CoreState) → IsRuled earlier left p asked s ruling told t → ruling ≡ Waits → (told ≡ []) × (t ≡ s) × first_waits earlier p s asked
+waits_ruled earlier left p asked s ruling told t is e = let all = subst (λ (r : Ruling). IsRuled earlier left p asked s r told t) e is in (all.0, all.1, all.3)
 
 same_ruled : (r : Ruled) (s : CoreState) → r.0 ≡ Waits → r.1 ≡ [] → r.2 ≡ s → r ≡ (Waits, [], s)
 same_ruled r s e f g = λ i. (e i, f i, g i)
 
 -- where nothing is told besides no break began
-pub quiet_runs : (s : CoreState) (w : Waiter) (c : Claim) (cs : List Claim) → made_way (plea_again s w) (c ∷ cs) s ≡ ([], s) → is_stopped s.claims c ≡ false → all_run s.claims c ≡ true
+pub quiet_runs : (earlier : List Waiter) (s : CoreState) (w : Waiter) (c : Claim) (cs : List Claim) → made_way earlier (plea_again s w) (c ∷ cs) s ≡ ([], s) → is_stopped earlier s c ≡ false → all_run s.claims c ≡ true
 unfolding plea_again made_way
-quiet_runs s w c cs quiet moves = runs s.claims c (begun_quiet c s (sym (ap (λ (b : Bool). (if not b && not (true && (false && is_some (recalled_by (planned c s.claims)))) then breaks_begun c s else ([], s)).0) moves) ∙ ap (λ (way : List Effect × CoreState). way.0) quiet))
+quiet_runs earlier s w c cs quiet moves = runs s.claims c (begun_quiet c s (sym (ap (λ (b : Bool). (if not b && not (true && (false && is_some (recalled_by (planned c s.claims)))) then breaks_begun c s else ([], s)).0) moves) ∙ ap (λ (way : List Effect × CoreState). way.0) quiet))
 
-first_held : (s : CoreState) (w : Waiter) (asked : List Claim) → made_way (plea_again s w) asked s ≡ ([], s) → first_waits (plea_again s w) s.claims asked → holds_up s.claims w asked ≡ true
+first_held : (earlier : List Waiter) (s : CoreState) (w : Waiter) (asked : List Claim) → made_way earlier (plea_again s w) asked s ≡ ([], s) → first_waits earlier (plea_again s w) s asked → holds_up earlier s w asked ≡ true
 unfolding plea_again
-first_held s w [] quiet h = absurd h
-first_held s w (c ∷ cs) quiet h = by (is_blocked s.claims c) (is_stopped s.claims c) w.blocking (all_run s.claims c) h (λ moves. quiet_runs s w c cs quiet moves) where
+first_held earlier s w [] quiet h = absurd h
+first_held earlier s w (c ∷ cs) quiet h = by (is_blocked s.claims c) (is_stopped earlier s c) w.blocking (all_run s.claims c) h (λ moves. quiet_runs earlier s w c cs quiet moves) where
   by : (x y z r : Bool) → (x && (if y then z else true)) ≡ true → (y ≡ false → r ≡ true) → (x && (if y then z else r)) ≡ true
   by true true z r e run = e
   by true false z r e run = run refl
   by false y z r e run = e
 
 -- who rests is held up, and then nothing changes
-pub rests_held : (n : ℕ) (left : Rooms) (s : CoreState) (earlier : List Waiter) (w : Waiter) → (let r = again n left s earlier w in rests r.0 r.1 ≡ true) → (again n left s earlier w ≡ (Waits, [], s)) × (holds_up s.claims w w.asked ≡ true)
+pub rests_held : (n : ℕ) (left : Rooms) (s : CoreState) (earlier : List Waiter) (w : Waiter) → (let r = again n left s earlier w in rests r.0 r.1 ≡ true) → (again n left s earlier w ≡ (Waits, [], s)) × (holds_up earlier s w w.asked ≡ true)
 rests_held n left s earlier w e =
-    let way = way_again s w in
+    let way = way_again earlier s w in
     let inner = judged n earlier left (plea_again s w) w.asked way.1 in
     let at = rested inner.0 (way.0 ++ inner.1) e in
     let none = both_empty way.0 inner.1 at.1 in
-    let quiet = way_quiet (plea_again s w) w.asked s none.0 in
+    let quiet = way_quiet earlier (plea_again s w) w.asked s none.0 in
     let r = judged n earlier left (plea_again s w) w.asked s in
     let same : inner ≡ r = ap (λ (x : List Effect × CoreState). judged n earlier left (plea_again s w) w.asked x.1) quiet in
     let waits : r.0 ≡ Waits = sym (ap (λ (x : Ruled). x.0) same) ∙ at.0 in
-    let why = waits_ruled left (plea_again s w) w.asked s r.0 r.1 r.2 (judged_ruled n earlier left (plea_again s w) w.asked s) waits in
-    (again_is n left s earlier w [] s quiet ∙ ap (ruled_behind []) (same_ruled r s waits why.0 why.1), first_held s w w.asked quiet why.2)
+    let why = waits_ruled earlier left (plea_again s w) w.asked s r.0 r.1 r.2 (judged_ruled n earlier left (plea_again s w) w.asked s) waits in
+    (again_is n left s earlier w [] s quiet ∙ ap (ruled_behind []) (same_ruled r s waits why.0 why.1), first_held earlier s w w.asked quiet why.2)
   where
     both_empty : (xs ys : List Effect) → xs ++ ys ≡ [] → (xs ≡ []) × (ys ≡ [])
     both_empty [] ys e = (refl, e)
     both_empty (x ∷ xs) ys e = absurd cc
 
 -- one that isn't held up doesn't rest
-pub free_moves : (n : ℕ) (left : Rooms) (s : CoreState) (earlier : List Waiter) (w : Waiter) → holds_up s.claims w w.asked ≡ false → (let r = again n left s earlier w in rests r.0 r.1 ≡ false)
+pub free_moves : (n : ℕ) (left : Rooms) (s : CoreState) (earlier : List Waiter) (w : Waiter) → holds_up earlier s w w.asked ≡ false → (let r = again n left s earlier w in rests r.0 r.1 ≡ false)
 free_moves n left s earlier w free =
     let r = again n left s earlier w in
     elim (cases_Bool (rests r.0 r.1)) [
       | inr moves ↦ moves
-      | inl e ↦ absurd (both_ways (holds_up s.claims w w.asked) free (rests_held n left s earlier w e).1)
+      | inl e ↦ absurd (both_ways (holds_up earlier s w w.asked) free (rests_held n left s earlier w e).1)
     ]
 
 -- one that is held up does
-pub up_rests : (n : ℕ) (left : Rooms) (s : CoreState) (earlier : List Waiter) (w : Waiter) → holds_up s.claims w w.asked ≡ true → again n left s earlier w ≡ (Waits, [], s)
+pub up_rests : (n : ℕ) (left : Rooms) (s : CoreState) (earlier : List Waiter) (w : Waiter) → holds_up earlier s w w.asked ≡ true → again n left s earlier w ≡ (Waits, [], s)
 up_rests n left s earlier w up = by w.asked refl up where
-  by : (asked : List Claim) → w.asked ≡ asked → holds_up s.claims w asked ≡ true → again n left s earlier w ≡ (Waits, [], s)
+  by : (asked : List Claim) → w.asked ≡ asked → holds_up earlier s w asked ≡ true → again n left s earlier w ≡ (Waits, [], s)
   by [] is e = absurd (both_ways false refl e)
   by (c ∷ cs) is e = held_rests n left s earlier w c cs is e
 
@@ -159,25 +159,26 @@ rest_first n left s earlier w later e = ap (λ (r : Ruled). turn_or w r later) e
 pub move_first : (w : Waiter) (r : Ruled) (later : Given) → rests r.0 r.1 ≡ false → turn_or w r later ≡ Some (turned w r.0 r.1 r.2)
 move_first w r later e = rw e refl
 
-called_later : (s : CoreState) (w : Waiter) (ws : List Waiter) → holds_up s.claims w w.asked ≡ true → first_called s (w ∷ ws) ≡ first_called s ws
-called_later s w ws e = rw e refl
+called_later : (s : CoreState) (earlier : List Waiter) (w : Waiter) (ws : List Waiter) → holds_up earlier s w w.asked ≡ true → first_called s earlier (w ∷ ws) ≡ first_called s (earlier ++ w ∷ []) ws
+called_later s earlier w ws e = rw e refl
 
-called_here : (s : CoreState) (w : Waiter) (ws : List Waiter) → holds_up s.claims w w.asked ≡ false → first_called s (w ∷ ws) ≡ Some (called_of s w)
-called_here s w ws e = rw e refl
+called_here : (s : CoreState) (earlier : List Waiter) (w : Waiter) (ws : List Waiter) → holds_up earlier s w w.asked ≡ false → first_called s earlier (w ∷ ws) ≡ Some (called_of s w)
+called_here s earlier w ws e = rw e refl
 
 -- its turn is the first
-pub turn_is_found : (left : Rooms) (s r t u : CoreState) (ws : List Waiter) (called : Called) (begun : List Effect) (ruling : Ruling) (effects : List Effect) → first_called s ws ≡ Some called → made_way called.plea called.asked s ≡ (begun, r)
-    → ((n : ℕ) (earlier : List Waiter) → judged n earlier left called.plea called.asked r ≡ (ruling, [], t)) → ((w : Waiter) → w.id ≡ called.id → w.asked ≡ called.asked → w.wish ≡ called.wish → turned w ruling begun t ≡ (effects, u))
-    → (n : ℕ) (earlier : List Waiter) → first_turn n left s earlier ws ≡ Some (effects, u)
-turn_is_found left s r t u [] called begun ruling effects e way judges turns n earlier = absurd cc
-turn_is_found left s r t u (w ∷ ws) called begun ruling effects e way judges turns n earlier =
-    elim (cases_Bool (holds_up s.claims w w.asked)) [
+pub turn_is_found : (left : Rooms) (s r t u : CoreState) (earlier ws : List Waiter) (called : Called) (begun : List Effect) (ruling : Ruling) (effects : List Effect) → first_called s earlier ws ≡ Some called
+    → ((before : List Waiter) → made_way before called.plea called.asked s ≡ (begun, r))
+    → ((n : ℕ) (before : List Waiter) → judged n before left called.plea called.asked r ≡ (ruling, [], t)) → ((w : Waiter) → w.id ≡ called.id → w.asked ≡ called.asked → w.wish ≡ called.wish → turned w ruling begun t ≡ (effects, u))
+    → (n : ℕ) → first_turn n left s earlier ws ≡ Some (effects, u)
+turn_is_found left s r t u earlier [] called begun ruling effects e way judges turns n = absurd cc
+turn_is_found left s r t u earlier (w ∷ ws) called begun ruling effects e way judges turns n =
+    elim (cases_Bool (holds_up earlier s w w.asked)) [
       | inl up ↦
           rest_first n left s earlier w _ (up_rests n left s earlier w up)
-          ∙ turn_is_found left s r t u ws called begun ruling effects (sym (called_later s w ws up) ∙ e) way judges turns n (earlier ++ w ∷ [])
+          ∙ turn_is_found left s r t u (earlier ++ w ∷ []) ws called begun ruling effects (sym (called_later s earlier w ws up) ∙ e) way judges turns n
       | inr free ↦
-          let same : called_of s w ≡ called = same_called (called_of s w) called (sym (called_here s w ws free) ∙ e) in
-          let made : way_again s w ≡ (begun, r) = ap (λ (x : Called). made_way x.plea x.asked s) same ∙ way in
+          let same : called_of s w ≡ called = same_called (called_of s w) called (sym (called_here s earlier w ws free) ∙ e) in
+          let made : way_again earlier s w ≡ (begun, r) = ap (λ (x : Called). made_way earlier x.plea x.asked s) same ∙ way earlier in
           let ruled : again n left s earlier w ≡ (ruling, begun, t) =
           again_is n left s earlier w begun r made
           ∙ ap (ruled_behind begun) (ap (λ (x : Called). judged n earlier left x.plea x.asked r) same ∙ judges n earlier)
@@ -187,22 +188,22 @@ turn_is_found left s r t u (w ∷ ws) called begun ruling effects e way judges t
           ∙ ap (λ (x : List Effect × CoreState). Some x) (turns w (ap (λ (x : Called). x.id) same) (ap (λ (x : Called). x.asked) same) (ap (λ (x : Called). x.wish) same))
     ]
 
-pub none_is_found : (left : Rooms) (s : CoreState) (ws : List Waiter) → first_called s ws ≡ None → (n : ℕ) (earlier : List Waiter) → first_turn n left s earlier ws ≡ None
-none_is_found left s [] e n earlier = refl
-none_is_found left s (w ∷ ws) e n earlier =
-    elim (cases_Bool (holds_up s.claims w w.asked)) [
-      | inl up ↦ rest_first n left s earlier w _ (up_rests n left s earlier w up) ∙ none_is_found left s ws (sym (called_later s w ws up) ∙ e) n (earlier ++ w ∷ [])
-      | inr free ↦ let two : Some (called_of s w) ≡ None = sym (called_here s w ws free) ∙ e in absurd cc
+pub none_is_found : (left : Rooms) (s : CoreState) (earlier ws : List Waiter) → first_called s earlier ws ≡ None → (n : ℕ) → first_turn n left s earlier ws ≡ None
+none_is_found left s earlier [] e n = refl
+none_is_found left s earlier (w ∷ ws) e n =
+    elim (cases_Bool (holds_up earlier s w w.asked)) [
+      | inl up ↦ rest_first n left s earlier w _ (up_rests n left s earlier w up) ∙ none_is_found left s (earlier ++ w ∷ []) ws (sym (called_later s earlier w ws up) ∙ e) n
+      | inr free ↦ let two : Some (called_of s w) ≡ None = sym (called_here s earlier w ws free) ∙ e in absurd cc
     ]
 
 -- what is called for is known, and may be asked for in one request
-pub called_known : (s : CoreState) (ws : List Waiter) (called : Called) → AllByRecursion (IsWaiter s.names s.counter) ws → first_called s ws ≡ Some called → AllByRecursion (IsKnown s.names) called.asked × IsPled called.asked
-called_known s [] called all e = absurd cc
-called_known s (w ∷ ws) called all e =
-    elim (cases_Bool (holds_up s.claims w w.asked)) [
-      | inl up ↦ called_known s ws called all.1 (sym (called_later s w ws up) ∙ e)
+pub called_known : (s : CoreState) (earlier ws : List Waiter) (called : Called) → AllByRecursion (IsWaiter s.names s.counter) ws → first_called s earlier ws ≡ Some called → AllByRecursion (IsKnown s.names) called.asked × IsPled called.asked
+called_known s earlier [] called all e = absurd cc
+called_known s earlier (w ∷ ws) called all e =
+    elim (cases_Bool (holds_up earlier s w w.asked)) [
+      | inl up ↦ called_known s (earlier ++ w ∷ []) ws called all.1 (sym (called_later s earlier w ws up) ∙ e)
       | inr free ↦
-          let same : called_of s w ≡ called = same_called (called_of s w) called (sym (called_here s w ws free) ∙ e) in
+          let same : called_of s w ≡ called = same_called (called_of s w) called (sym (called_here s earlier w ws free) ∙ e) in
           subst (λ (x : Called). AllByRecursion (IsKnown s.names) x.asked × IsPled x.asked) same (all.0.1, all.0.2)
     ]
 

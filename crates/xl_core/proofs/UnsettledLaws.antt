@@ -1,9 +1,9 @@
 -- The files that are noted as unsettled, and who is called by them.
-use Rattle.std.proofs.Common.{◌≡◌, ℕ, zero, suc, ◌+◌, ◌-◌, ◌<◌, Bool, true, false, not, ◌&&◌, ◌||◌, ◌==◌, nat_lt, inl, inr, List, [], ◌∷◌, ◌++◌, Option, Some, None, ◌⊎◌, slice_get, IfSome, if◌then◌else◌, refl, sym, ap, subst, ◌∙◌, arith}
+use Rattle.std.proofs.Common.{◌≡◌, ℕ, zero, suc, ◌+◌, ◌-◌, ◌<◌, Bool, true, false, not, ◌&&◌, ◌||◌, ◌==◌, nat_lt, inl, inr, List, [], ◌∷◌, ◌++◌, Option, Some, None, ◌⊎◌, slice_get, get_or, drop, length, IfSome, if◌then◌else◌, refl, sym, ap, subst, ◌∙◌, arith}
 use Rattle.std.specs.List.{AllByRecursion, filter, list_any}
 use Rattle.std.proofs.lemmas.Bool.{cases_Bool, both_ways, or_parts, eqb-true, eq-eqb}
 use Rattle.std.proofs.lemmas.Bool.Decides.{nat_tests}
-use Rattle.std.proofs.lemmas.List.{append_assoc}
+use Rattle.std.proofs.lemmas.List.{append_assoc, drop_more}
 use Rattle.xl_base.specs.Lists.{IsIn}
 use Rattle.xl_base.specs.declared.event.Moment.{Moment}
 use Rattle.xl_base.proofs.Members.{all_in, all_from, in_filter_from}
@@ -20,7 +20,7 @@ use Rattle.xl_core.specs.State.{CoreState}
 use Rattle.xl_core.specs.Good.{IsGood, IsWaiter, IsPled, is_held_up, holds_up}
 use Rattle.xl_core.specs.BreakAnswers.{ack}
 use Rattle.xl_core.specs.Ticks.{advanced, behind_told, in_turn}
-use Rattle.xl_core.specs.Settle.{first_called, waits_with, give_back, weaken, departed}
+use Rattle.xl_core.specs.Settle.{called_of, first_called, waits_with, give_back, weaken, departed}
 use Rattle.xl_core.specs.Unsettled.{is_among, only_file, with_file, may_change, left_by_ask, first_free, called_at, IsWider, Notes, NotesLeft, IsHeldUp, AreHeldUp}
 use Rattle.xl_core.specs.declared.ask.Answer.{Answer}
 use Rattle.xl_core.specs.declared.ask.Ask.{Ask}
@@ -28,7 +28,7 @@ use Rattle.xl_core.specs.declared.ask.Effect.{Effect}
 use Rattle.xl_core.specs.declared.settling.Called.{Called}
 use Rattle.xl_core.specs.declared.unsettled.Unsettled.{Unsettled}
 use Rattle.xl_core.specs.declared.unsettled.Unsettled.TheVariants.{Files, All}
-use Rattle.xl_core.proofs.HeldUpLaws.{on_file, held_up_still, give_back_up, weaken_up, ack_up}
+use Rattle.xl_core.proofs.HeldUpLaws.{on_file, AreUp, each_up, up_each, held_up_still, give_back_up, weaken_up, ack_up}
 
 -- ---- which files they are
 
@@ -82,14 +82,14 @@ waits_among w c cs (v ∷ vs) there asked =
     by (inr behind) off rest = rest behind
 
 -- who is held up but for one file is held up but for those that were noted with it
-narrowed : (u v : Unsettled) (file : ℕ) (held : List Claim) (ws : List Waiter) → Notes u v file ws → AllByRecursion (λ w. IsHeldUp (with_file file u) held w w.asked) ws → AllByRecursion (λ w. IsHeldUp v held w w.asked) ws
-narrowed u v file held ws notes all = all_from (λ (w : Waiter). IsHeldUp v held w w.asked) ws (λ w there. one w w.asked refl there (all_in (λ (x : Waiter). IsHeldUp (with_file file u) held x x.asked) w ws all there))
+narrowed : (u v : Unsettled) (file : ℕ) (s : CoreState) (ws : List Waiter) → Notes u v file ws → AreUp (with_file file u) s ws → AreUp v s ws
+narrowed u v file s ws notes all = all_from (λ (w : Waiter). IsHeldUp v [] s w w.asked) ws (λ w there. one w w.asked refl there (all_in (λ (x : Waiter). IsHeldUp (with_file file u) [] s x x.asked) w ws all there))
   where
     off : (c : Claim) (x : Unsettled) → is_among x c.file ≡ false → (c.file == file) ≡ false → is_among (with_file file x) c.file ≡ false
     off c (Files files) e apart = rw (apart, e) refl
     off c All e apart = e
 
-    one : (w : Waiter) (asked : List Claim) → w.asked ≡ asked → IsIn w ws → IsHeldUp (with_file file u) held w asked → IsHeldUp v held w asked
+    one : (w : Waiter) (asked : List Claim) → w.asked ≡ asked → IsIn w ws → IsHeldUp (with_file file u) [] s w asked → IsHeldUp v [] s w asked
     one w [] is there up = tt
     one w (c ∷ cs) is there up = λ e.
         elim (cases_Bool (c.file == file)) [
@@ -100,7 +100,7 @@ narrowed u v file held ws notes all = all_from (λ (w : Waiter). IsHeldUp v held
         ]
 
 pub noted_up : (u v : Unsettled) (file : ℕ) (s : CoreState) → Notes u v file s.waiters → AreHeldUp (with_file file u) s → AreHeldUp v s
-noted_up u v file s notes all = narrowed u v file s.claims s.waiters notes all
+noted_up u v file s notes all = up_each v s [] s.waiters (narrowed u v file s s.waiters notes (each_up (with_file file u) s [] s.waiters all))
 
 pub asked_noted : (u v : Unsettled) (a : Ask) (answer : Answer) (told : List Effect) (t : CoreState) → AreHeldUp (left_by_ask a answer told u) t → (may_change a answer told ≡ true → Notes u v a.file t.waiters) → (may_change a answer told ≡ false → v ≡ u) → AreHeldUp v t
 asked_noted u v a answer told t all notes same =
@@ -121,10 +121,10 @@ pub ack_noted : (u v : Unsettled) (s : CoreState) (cache : Claim) (to : Option C
 unfolding ack
 ack_noted u v s cache to notes all = noted_up u v cache.file (ack s cache to).1 notes (ack_up u s cache to all)
 
-pub removed_noted : (u v : Unsettled) (s : CoreState) (claim : Claim) (held : List Claim) → Notes u v claim.file s.waiters → held ≡ removed claim s.claims → AreHeldUp u s → AllByRecursion (λ w. IsHeldUp v held w w.asked) s.waiters
+pub removed_noted : (u v : Unsettled) (s : CoreState) (claim : Claim) (held : List Claim) → Notes u v claim.file s.waiters → held ≡ removed claim s.claims → AreHeldUp u s → AreHeldUp v (record s { claims = held })
 unfolding give_back
 removed_noted u v s claim held notes is all =
-    subst (λ (cs : List Claim). AllByRecursion (λ w. IsHeldUp v cs w w.asked) s.waiters) (sym is)
+    subst (λ (cs : List Claim). AreHeldUp v (record s { claims = cs })) (sym is)
     (noted_up u v claim.file (give_back s claim).1 notes (give_back_up u s claim all))
 
 -- the clock, and who has a lease, hold up nobody
@@ -210,15 +210,16 @@ kept_there file keep (c ∷ cs) stay =
 
 pub left_up : (u v : Unsettled) (s : CoreState) (leaver : Leaver) → NotesLeft u v leaver s.claims s.waiters → AreHeldUp u s → AreHeldUp v (departed s leaver).1
 left_up u v s leaver notes all =
-    all_from (λ (w : Waiter). IsHeldUp v after w w.asked) (filter (λ w. not (waits_with leaver w)) s.waiters)
-    (λ w there. let stood = (in_filter_from (λ (x : Waiter). not (waits_with leaver x)) w s.waiters there).0 in one w w.asked refl stood (all_in (λ (x : Waiter). IsHeldUp u s.claims x x.asked) w s.waiters all stood))
+    up_each v after [] after.waiters
+    (all_from (λ (w : Waiter). IsHeldUp v [] after w w.asked) after.waiters
+    (λ w there. let stood = (in_filter_from (λ (x : Waiter). not (waits_with leaver x)) w s.waiters there).0 in one w w.asked refl stood (all_in (λ (x : Waiter). IsHeldUp u [] s x x.asked) w s.waiters (each_up u s [] s.waiters all) stood)))
   where
-    after : List Claim
-    after = filter (λ c. not (goes leaver c)) s.claims
+    after : CoreState
+    after = (departed s leaver).1
 
-    one : (w : Waiter) (asked : List Claim) → w.asked ≡ asked → IsIn w s.waiters → IsHeldUp u s.claims w asked → IsHeldUp v after w asked
+    one : (w : Waiter) (asked : List Claim) → w.asked ≡ asked → IsIn w s.waiters → IsHeldUp u [] s w asked → IsHeldUp v [] after w asked
     one w [] is there up = tt
-    one w (c ∷ cs) is there up = λ e. held_up_still w c s.claims after (kept_there c.file (λ d. not (goes leaver d)) s.claims (stays e)) ∙ up (notes.wider c.file e)
+    one w (c ∷ cs) is there up = λ e. held_up_still [] s after w c (kept_there c.file (λ d. not (goes leaver d)) s.claims (stays e)) ∙ up (notes.wider c.file e)
       where
         stays : is_among v c.file ≡ false → (d : Claim) → IsIn d s.claims → (d.file == c.file) ≡ true → not (goes leaver d) ≡ true
         stays e d held on =
@@ -234,7 +235,7 @@ left_up u v s leaver notes all =
 
 -- one waits on this file, and isn't held up
 abbrev is_free : CoreState → ℕ → Waiter → Bool
-is_free s file w = is_file file (first_file w.asked) && not (holds_up s.claims w w.asked)
+is_free s file w = is_file file (first_file w.asked) && not (holds_up [] s w w.asked)
 
 -- the first such, of whom the first has this place
 abbrev free_from : CoreState → ℕ → ℕ → List Waiter → Option ℕ
@@ -257,41 +258,56 @@ free_on s file n (w ∷ ws) tail =
     let behind = free_on s file (n + 1) ws (tail_rest s n w ws tail) in
     elim (cases_Bool (is_file file (first_file w.asked))) [
       | inr off ↦ rw off behind
-      | inl on ↦ elim (cases_Bool (holds_up s.claims w w.asked)) [
+      | inl on ↦ elim (cases_Bool (holds_up [] s w w.asked)) [
         | inl up ↦ rw (on, tail_first s n w ws tail, up) behind
         | inr free ↦ rw (on, tail_first s n w ws tail, free) refl
       ]
     ]
 
+-- who waits before them has no part in who is called of these
+called_alike : (s : CoreState) (earlier before ws : List Waiter) → first_called s earlier ws ≡ first_called s before ws
+called_alike s earlier before [] = refl
+called_alike s earlier before (w ∷ ws) = ap (λ (o : Option Called). if holds_up [] s w w.asked then o else Some (called_of s w)) (called_alike s (earlier ++ w ∷ []) (before ++ w ∷ []) ws)
+
+pub called_onward : (s : CoreState) (w : Waiter) (ws : List Waiter) → holds_up [] s w w.asked ≡ true → first_called s [] (w ∷ ws) ≡ first_called s [] ws
+called_onward s w ws up = rw up (called_alike s (w ∷ []) [] ws)
+
+-- behind the next of these, who is held up, it is the first of the rest
+pub called_on_from : (u : Unsettled) (s : CoreState) (ws : List Waiter) (i : ℕ) (w : Waiter) → i < length ws → w ≡ get_or ws i w → holds_up [] s w w.asked ≡ true
+    → (first_called s [] (drop i ws) ≡ first_called s [] ws) × AreUp u s (drop i ws) → (first_called s [] (drop (i + 1) ws) ≡ first_called s [] ws) × AreUp u s (drop (i + 1) ws)
+called_on_from u s ws i w lt is up so_far =
+    let front : drop i ws ≡ w ∷ drop (i + 1) ws = drop_more ws i w lt ∙ ap (λ (v : Waiter). v ∷ drop (i + 1) ws) (sym is) in
+    (sym (called_onward s w (drop (i + 1) ws) up) ∙ ap (first_called s []) (sym front) ∙ so_far.0, (subst (AreUp u s) front so_far.1).1)
+
 -- who isn't held up is free on the unsettled file
-free_one : (s : CoreState) (file : ℕ) (w : Waiter) → IsPled w.asked → IsHeldUp (Files (file ∷ [])) s.claims w w.asked → holds_up s.claims w w.asked ≡ false → is_file file (first_file w.asked) ≡ true
+free_one : (s : CoreState) (file : ℕ) (w : Waiter) → IsPled w.asked → IsHeldUp (Files (file ∷ [])) [] s w w.asked → holds_up [] s w w.asked ≡ false → is_file file (first_file w.asked) ≡ true
 free_one s file w pled up free = by w.asked pled up free where
   alone : (b : Bool) → b ≡ false → (b || false) ≡ false
   alone true e = e
   alone false e = e
 
-  by : (asked : List Claim) → IsPled asked → IsHeldUp (Files (file ∷ [])) s.claims w asked → holds_up s.claims w asked ≡ false → is_file file (first_file asked) ≡ true
+  by : (asked : List Claim) → IsPled asked → IsHeldUp (Files (file ∷ [])) [] s w asked → holds_up [] s w asked ≡ false → is_file file (first_file asked) ≡ true
   by [] none up free = absurd none
   by (c ∷ cs) some up free =
       elim (cases_Bool (c.file == file)) [
         | inl on ↦ on
-        | inr off ↦ absurd (both_ways (is_held_up s.claims w c) free (up (alone (c.file == file) off)))
+        | inr off ↦ absurd (both_ways (is_held_up [] s w c) free (up (alone (c.file == file) off)))
       ]
 
-called_from : (s : CoreState) (file n : ℕ) (ws : List Waiter) → IsTail s n ws → AllByRecursion (IsWaiter s.names s.counter) ws → AllByRecursion (λ w. IsHeldUp (Files (file ∷ [])) s.claims w w.asked) ws → called_at s (free_from s file n ws) ≡ first_called s ws
-called_from s file n [] tail are all = refl
-called_from s file n (w ∷ ws) tail are all =
-    elim (cases_Bool (holds_up s.claims w w.asked)) [
+called_from : (s : CoreState) (file n : ℕ) (earlier ws : List Waiter) → IsTail s n ws → AllByRecursion (IsWaiter s.names s.counter) ws → AreUp (Files (file ∷ [])) s ws → called_at s (free_from s file n ws) ≡ first_called s earlier ws
+called_from s file n earlier [] tail are all = refl
+called_from s file n earlier (w ∷ ws) tail are all =
+    elim (cases_Bool (holds_up [] s w w.asked)) [
       | inl up ↦ elim (cases_Bool (is_file file (first_file w.asked))) [
-        | inl on ↦ rw (on, up) (called_from s file (n + 1) ws (tail_rest s n w ws tail) are.1 all.1)
-        | inr off ↦ rw (off, up) (called_from s file (n + 1) ws (tail_rest s n w ws tail) are.1 all.1)
+        | inl on ↦ rw (on, up) (called_from s file (n + 1) (earlier ++ w ∷ []) ws (tail_rest s n w ws tail) are.1 all.1)
+        | inr off ↦ rw (off, up) (called_from s file (n + 1) (earlier ++ w ∷ []) ws (tail_rest s n w ws tail) are.1 all.1)
       ]
       | inr free ↦ rw (free_one s file w are.0.2 all.0 free, free, tail_first s n w ws tail) refl
     ]
 
-pub called_on : (s : CoreState) (file : ℕ) (place : Option ℕ) (called : Option Called) → IsGood s → AreHeldUp (Files (file ∷ [])) s → place ≡ first_free s (places_on file (files_of s.waiters)) → called ≡ called_at s place → called ≡ first_called s s.waiters
+pub called_on : (s : CoreState) (file : ℕ) (place : Option ℕ) (called : Option Called) → IsGood s → AreHeldUp (Files (file ∷ [])) s → place ≡ first_free s (places_on file (files_of s.waiters)) → called ≡ called_at s place → called ≡ first_called s [] s.waiters
 called_on s file place called good all at is =
-    is ∙ ap (λ (p : Option ℕ). called_at s p) (at ∙ free_on s file 0 s.waiters all_stand) ∙ called_from s file 0 s.waiters all_stand good.waiters all
+    is ∙ ap (λ (p : Option ℕ). called_at s p) (at ∙ free_on s file 0 s.waiters all_stand) ∙ called_from s file 0 [] s.waiters all_stand good.waiters (each_up (Files (file ∷ [])) s [] s.waiters all)
   where
     all_stand : IsTail s 0 s.waiters
     all_stand i = let at : 0 + i ≡ i = omega arith in ap (λ (k : ℕ). slice_get s.waiters k) at

@@ -51,13 +51,13 @@ use Rattle.xl_core.proofs.WayLaws.{way_keeps, way_names, way_waiters, way_free, 
 
 -- the way that is made for an ask leaves what no break changes
 pub ask_way_keeps : {A : Type 0} (f : CoreState → A) (left : Rooms) (s : CoreState) (a : Ask) → ((c : Claim) → f (breaks_begun c s).1 ≡ f s) → f (way left s a).1 ≡ f s
-ask_way_keeps f left s a keeps = way_keeps f (plea_of left s a) (asked_claims a (asked_whats a.act) s.names) s keeps
+ask_way_keeps f left s a keeps = way_keeps f s.waiters (plea_of left s a) (asked_claims a (asked_whats a.act) s.names) s keeps
 
 pub ask_way_names : (left : Rooms) (s : CoreState) (a : Ask) → (way left s a).1.names ≡ s.names
-ask_way_names left s a = way_names (plea_of left s a) (asked_claims a (asked_whats a.act) s.names) s
+ask_way_names left s a = way_names s.waiters (plea_of left s a) (asked_claims a (asked_whats a.act) s.names) s
 
 pub ask_way_waiters : (left : Rooms) (s : CoreState) (a : Ask) → (way left s a).1.waiters ≡ s.waiters
-ask_way_waiters left s a = way_waiters (plea_of left s a) (asked_claims a (asked_whats a.act) s.names) s
+ask_way_waiters left s a = way_waiters s.waiters (plea_of left s a) (asked_claims a (asked_whats a.act) s.names) s
 
 -- what is asked for one thing is a list of one
 one_asked : (a : Ask) (what : What) (names : List Name) (whats : List What) → alone whats ≡ Some what → asked_claims a whats names ≡ asked_claim a what names ∷ []
@@ -70,11 +70,11 @@ one_asked a what names (w ∷ v ∷ ws) e = absurd cc
 -- where nothing blocks it nothing begins, nor where nothing is to be held
 pub ask_way_free : (left : Rooms) (s : CoreState) (a : Ask) (what : What) → asked_what a.act ≡ Some what → is_blocked s.claims (asked_claim a what s.names) ≡ false → way left s a ≡ ([], s)
 ask_way_free left s a what act free =
-    ap (λ (cs : List Claim). made_way (plea_of left s a) cs s) (one_asked a what s.names (asked_whats a.act) act) ∙ way_free (plea_of left s a) (asked_claim a what s.names) [] s free
+    ap (λ (cs : List Claim). made_way s.waiters (plea_of left s a) cs s) (one_asked a what s.names (asked_whats a.act) act) ∙ way_free s.waiters (plea_of left s a) (asked_claim a what s.names) [] s free
 
 pub ask_way_none : (left : Rooms) (s : CoreState) (a : Ask) → asked_whats a.act ≡ [] → way left s a ≡ ([], s)
 unfolding made_way
-ask_way_none left s a none = ap (λ (ws : List What). made_way (plea_of left s a) (asked_claims a ws s.names) s) none
+ask_way_none left s a none = ap (λ (ws : List What). made_way s.waiters (plea_of left s a) (asked_claims a ws s.names) s) none
 
 -- ---- why it is answered so
 
@@ -86,7 +86,7 @@ ask_due n left s a what answer act =
 -- a cache that is told of is one whose break runs
 pub ask_recalls : (n : ℕ) (left : Rooms) (s : CoreState) (a : Ask) (what : What) (c : Claim) → asked_what a.act ≡ Some what → (ask n left s a).0 ≡ answers.Recall c → is_running c.what ≡ true
 unfolding plea_of
-ask_recalls n left s a what c act at = cache_runs t.claims claim c (runs (is_stopped s.claims claim) refl) due.3 where
+ask_recalls n left s a what c act at = cache_runs t.claims claim c (runs (is_stopped s.waiters s claim) refl) due.3 where
   claim : Claim
   claim = asked_claim a what s.names
 
@@ -96,14 +96,14 @@ ask_recalls n left s a what c act at = cache_runs t.claims claim c (runs (is_sto
   due : IsClaimDue left t a claim (answers.Recall c)
   due = (ask_due n left s a what (answers.Recall c) act).0 at
 
-  made : way left s a ≡ made_way (plea_of left s a) (claim ∷ []) s
-  made = ap (λ (cs : List Claim). made_way (plea_of left s a) cs s) (one_asked a what s.names (asked_whats a.act) act)
+  made : way left s a ≡ made_way s.waiters (plea_of left s a) (claim ∷ []) s
+  made = ap (λ (cs : List Claim). made_way s.waiters (plea_of left s a) cs s) (one_asked a what s.names (asked_whats a.act) act)
 
-  runs : (b : Bool) → is_stopped s.claims claim ≡ b → all_run t.claims claim ≡ true
+  runs : (b : Bool) → is_stopped s.waiters s claim ≡ b → all_run t.claims claim ≡ true
   runs true stops =
-      let stays : t ≡ s = ap (λ (w : List Effect × CoreState). w.1) (made ∙ way_stopped (plea_of left s a) claim [] s stops) in
-      absurd (both_ways (is_stopped t.claims claim) due.2 (subst (λ (x : CoreState). is_stopped x.claims claim ≡ true) (sym stays) stops))
-  runs false moves = ap (λ (w : List Effect × CoreState). all_run w.1.claims claim) made ∙ way_runs_at_once (plea_of left s a) claim [] s due.0 due.1 moves
+      let stays : t ≡ s = ap (λ (w : List Effect × CoreState). w.1) (made ∙ way_stopped s.waiters (plea_of left s a) claim [] s stops) in
+      absurd (both_ways (is_stopped t.waiters t claim) due.2 (subst (λ (x : CoreState). is_stopped x.waiters x claim ≡ true) (sym stays) stops))
+  runs false moves = ap (λ (w : List Effect × CoreState). all_run w.1.claims claim) made ∙ way_runs_at_once s.waiters (plea_of left s a) claim [] s due.0 due.1 moves
 
 -- an ask for which no way is made is judged where it is
 pub ask_there : (n : ℕ) (left : Rooms) (s : CoreState) (a : Ask) → way left s a ≡ ([], s) → ask n left s a ≡ with_wish a (decided n left s a)

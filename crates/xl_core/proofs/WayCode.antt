@@ -9,7 +9,7 @@ use Rattle.xl_core.proofs.HeldUpLaws.{is_filled, any_of, asked_there}
 use Rattle.xl_matrix.specs.declared.claim.Claim.{Claim}
 use Rattle.xl_table.specs.Held.{is_cache}
 use Rattle.xl_core.specs.BreaksBegun.{recalls, breaks_begun}
-use Rattle.xl_core.specs.Good.{IsGood}
+use Rattle.xl_core.specs.Good.{IsGood, is_held_up}
 use Rattle.xl_core.specs.State.{CoreState}
 use Rattle.xl_core.specs.Ways.{made_way}
 use Rattle.xl_core.specs.declared.ask.Effect.{Effect}
@@ -25,16 +25,21 @@ use Rattle.xl_core.specs.declared.parts.Parts.{Parts}
 use Rattle.xl_core.specs.declared.settling.Called.{Called}
 use Rattle.xl_matrix.specs.declared.claim.Extent.{Extent}
 use Rattle.xl_wait.specs.declared.waiter.Rooms.{Rooms}
-use Rattle.xl_core.specs.Askers.{range_what, asked_whats, asked_claims}
+use Rattle.xl_wait.specs.declared.waiter.Waiter.{Waiter}
+use Rattle.xl_core.specs.Askers.{range_what, asked_whats, asked_claim, asked_claims}
+use Rattle.xl_core.specs.declared.ask.Act.{Act}
+use Rattle.xl_core.specs.declared.ask.Act.TheVariants as acts
+use Rattle.xl_matrix.specs.declared.claim.Rwd.{Rwd}
+use Rattle.xl_matrix.specs.declared.claim.What.TheVariants as whats
 use Rattle.xl_core.specs.Decide.{plea_of, way}
 use Rattle.xl_core.specs.declared.ask.Ask.{Ask}
 use Rattle.xl_core.proofs.GoodLaws.{known_one_party, ranges_no_cache, asked_way_good}
 use Rattle.xl_core.proofs.TurnLaws.{called_known}
 use Rattle.xl_core.proofs.WayLaws.{NoWay, Begins, way_is, way_good, way_names, known_no_cache}
 
-pub no_way : (p : Plea) (c : Claim) (cs : List Claim) (s : CoreState) → list_any (λ d. (d.file == c.file) && is_cache d.what) s.claims ≡ false → made_way p (c ∷ cs) s ≡ ([], s)
-no_way p c cs s none =
-    elim (way_is p (c ∷ cs) s) [
+pub no_way : (earlier : List Waiter) (p : Plea) (c : Claim) (cs : List Claim) (s : CoreState) → list_any (λ d. (d.file == c.file) && is_cache d.what) s.claims ≡ false → made_way earlier p (c ∷ cs) s ≡ ([], s)
+no_way earlier p c cs s none =
+    elim (way_is earlier p (c ∷ cs) s) [
       | NoWay e ↦ e
       | Begins d ds is does e ↦ let two : c ∷ cs ≡ d ∷ ds = is in let same : c ≡ d = cc in e ∙ none_begun_there s d (subst (λ (x : Claim). list_any (λ y. (y.file == x.file) && is_cache y.what) s.claims ≡ false) same none)
     ]
@@ -43,34 +48,38 @@ begun_counter : (c : Claim) (s : CoreState) → (breaks_begun c s).1.counter ≡
 unfolding breaks_begun
 begun_counter c s = refl
 
-pub no_way_first : (p : Plea) (cs : List Claim) (c : Claim) (rest : List Claim) (s : CoreState) (told : List Effect) → cs ≡ c ∷ rest → list_any (λ d. (d.file == c.file) && is_cache d.what) s.claims ≡ false → told ≡ [] → made_way p cs s ≡ (told, s)
-no_way_first p cs c rest s told is none quiet = ap (λ (ds : List Claim). made_way p ds s) is ∙ no_way p c rest s none ∙ (λ i. (sym quiet i, s))
+pub no_way_first : (earlier : List Waiter) (p : Plea) (cs : List Claim) (c : Claim) (rest : List Claim) (s : CoreState) (told : List Effect) → cs ≡ c ∷ rest → list_any (λ d. (d.file == c.file) && is_cache d.what) s.claims ≡ false → told ≡ [] → made_way earlier p cs s ≡ (told, s)
+no_way_first earlier p cs c rest s told is none quiet = ap (λ (ds : List Claim). made_way earlier p ds s) is ∙ no_way earlier p c rest s none ∙ (λ i. (sym quiet i, s))
 
 pub begun_few : (c : Claim) (s t : CoreState) (told : List Effect) → IsGood s → breaks_begun c s ≡ (told, t) → t.counter ≤ s.counter + 16384
 begun_few c s t told good e = omega (arith, ap (λ (w : List Effect × CoreState). w.1.counter) e, begun_counter c s, recalls_few s c good)
 
 -- who is called asks for no cache
-pub called_no_cache : (p : Parts) (called : Called) → IsGood (state_of p) → first_called (state_of p) p.queue ≡ Some called → AllByRecursion (λ c. is_cache c.what ≡ false) called.asked
-called_no_cache p called good e = known_no_cache p.names called.asked (called_known (state_of p) p.queue called good.waiters e).0
+pub called_no_cache : (p : Parts) (called : Called) → IsGood (state_of p) → first_called (state_of p) [] p.queue ≡ Some called → AllByRecursion (λ c. is_cache c.what ≡ false) called.asked
+called_no_cache p called good e = known_no_cache p.names called.asked (called_known (state_of p) [] p.queue called good.waiters e).0
 
 -- once its way is made its claims still have one party
-pub called_alone_then : (p q : Parts) (called : Called) (told : List Effect) → IsGood (state_of p) → first_called (state_of p) p.queue ≡ Some called → made_way called.plea called.asked (state_of p) ≡ (told, state_of q)
+pub called_alone_then : (p q : Parts) (called : Called) (told : List Effect) → IsGood (state_of p) → first_called (state_of p) [] p.queue ≡ Some called → ((earlier : List Waiter) → made_way earlier called.plea called.asked (state_of p) ≡ (told, state_of q))
     → AllByRecursion (λ c. AllByRecursion (λ d. has_one_party c d ≡ true) q.table) called.asked
 called_alone_then p q called told good e made =
-    let known = (called_known (state_of p) p.queue called good.waiters e).0 in
-    let sound : IsGood (state_of q) = subst (λ (w : List Effect × CoreState). IsGood w.1) made (way_good called.plea called.asked (state_of p) good (known_no_cache p.names called.asked known)) in
-    let names : q.names ≡ p.names = sym (ap (λ (w : List Effect × CoreState). w.1.names) made) ∙ way_names called.plea called.asked (state_of p) in
+    let known = (called_known (state_of p) [] p.queue called good.waiters e).0 in
+    let sound : IsGood (state_of q) = subst (λ (w : List Effect × CoreState). IsGood w.1) (made []) (way_good [] called.plea called.asked (state_of p) good (known_no_cache p.names called.asked known)) in
+    let names : q.names ≡ p.names = sym (ap (λ (w : List Effect × CoreState). w.1.names) (made [])) ∙ way_names [] called.plea called.asked (state_of p) in
     all_weaker (IsKnown q.names) (λ c. AllByRecursion (λ d. has_one_party c d ≡ true) q.table) called.asked (λ c kept. known_one_party (state_of q) c sound kept)
     (subst (λ (ns : List Name). AllByRecursion (IsKnown ns) called.asked) (sym names) known)
 
 -- without a cache on the file all that blocks a claim does so for good
-pub stopped_uncached : (c : Claim) (held : List Claim) → list_any (λ d. (d.file == c.file) && is_cache d.what) held ≡ false → is_stopped held c ≡ is_blocked held c
-stopped_uncached c held none = any_of (is_final c held) held ∙ ap is_filled (all_final c held none) ∙ sym (any_of (blocks c) held)
+pub stopped_uncached : (earlier : List Waiter) (s : CoreState) (c : Claim) → list_any (λ d. (d.file == c.file) && is_cache d.what) s.claims ≡ false → is_stopped earlier s c ≡ is_blocked s.claims c
+stopped_uncached earlier s c none = any_of (is_final c s.claims) s.claims ∙ ap is_filled (all_final c s.claims none) ∙ sym (any_of (blocks c) s.claims)
+
+-- who waits for what blocks the claim for good is held up by that
+pub waits_blocking : (s : CoreState) (w : Waiter) (c : Claim) → is_blocked s.claims c ≡ true → is_stopped [] s c ≡ true → w.blocking ≡ is_held_up [] s w c
+waits_blocking s w c blocked stopped = rw (blocked, stopped) refl
 
 -- nor is a way made for an ask on a file without caches
 pub no_way_for : (left : Rooms) (s : CoreState) (a : Ask) (told : List Effect) → list_any (λ d. (d.file == a.file) && is_cache d.what) s.claims ≡ false → told ≡ [] → way left s a ≡ (told, s)
 no_way_for left s a told none quiet =
-    elim (way_is (plea_of left s a) (asked_claims a (asked_whats a.act) s.names) s) [
+    elim (way_is s.waiters (plea_of left s a) (asked_claims a (asked_whats a.act) s.names) s) [
       | NoWay e ↦ e
       | Begins c cs is does e ↦
           let here : c.file ≡ a.file = (subst (λ (ds : List Claim). AllByRecursion (λ d. d.file ≡ a.file) ds) is (asked_there a (asked_whats a.act) s.names)).0 in
@@ -82,3 +91,9 @@ locks_asked a names ranges claims is = subst (λ (cs : List Claim). AllByRecursi
 
 pub way_leaves_good : (left : Rooms) (s t : CoreState) (a : Ask) (told : List Effect) → IsGood s → way left s a ≡ (told, t) → IsGood t
 way_leaves_good left s t a told good e = subst (λ (w : List Effect × CoreState). IsGood w.1) e (asked_way_good left s a good)
+
+-- the way that is made for an ask for a share is that of its one claim
+pub way_of_share : (left : Rooms) (s : CoreState) (a : Ask) (access deny : Rwd) (plea : Plea) (claim : Claim) → a.act ≡ acts.Share access deny → plea ≡ plea_of left s a → claim ≡ asked_claim a (whats.Share access deny) s.names
+    → made_way s.waiters plea (claim ∷ []) s ≡ way left s a
+way_of_share left s a access deny plea claim act pleads claims =
+    (λ i. made_way s.waiters (pleads i) (claims i ∷ []) s) ∙ ap (λ (b : Act). made_way s.waiters (plea_of left s a) (asked_claims a (asked_whats b) s.names) s) (sym act)

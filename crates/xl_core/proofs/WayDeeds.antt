@@ -1,6 +1,5 @@
 -- What the way of an ask, or of a turn, makes of each place.
-use Rattle.std.proofs.Common.{◌≡◌, true, false, List, [], ◌∷◌, ◌++◌, map, Option, Some, None, refl, sym, ap, subst, ◌∙◌}
-use Rattle.std.specs.List.{AllByRecursion}
+use Rattle.std.proofs.Common.{◌≡◌, false, List, [], ◌∷◌, ◌++◌, map, Option, Some, None, refl, sym, ap, subst, append-nil, append_assoc, ◌∙◌}
 use Rattle.xl_base.specs.declared.name.Owner.TheVariants as owners
 use Rattle.xl_matrix.specs.declared.claim.Claim.{Claim}
 use Rattle.xl_matrix.specs.declared.claim.Rwd.{Rwd}
@@ -9,9 +8,9 @@ use Rattle.xl_spans.specs.Spans.{mode_at}
 use Rattle.xl_spans.specs.declared.span.Span.{Span}
 use Rattle.xl_wait.specs.declared.waiter.Waiter.{Waiter}
 use Rattle.xl_core.specs.BreaksBegun.{breaks_begun}
-use Rattle.xl_core.specs.Good.{holds_up, IsGood}
+use Rattle.xl_core.specs.Good.{AllBehind, holds_up, IsUp, IsSettled, IsGood}
 use Rattle.xl_core.specs.Places.{Place, ByteOf, ShareOf, RangesOf, CacheOf, byte_held, share_held, held_at, then_entered, broken_at, else_was}
-use Rattle.xl_core.specs.Settle.{way_again, called_of, first_called, next_way, way_called}
+use Rattle.xl_core.specs.Settle.{way_again, first_way, next_way}
 use Rattle.xl_core.specs.State.{CoreState}
 use Rattle.xl_core.specs.Ways.{made_way}
 use Rattle.xl_core.specs.declared.ask.Effect.{Effect}
@@ -36,26 +35,28 @@ nothing_made s (ShareOf file owner) = refl
 nothing_made s (RangesOf file number) = refl
 nothing_made s (CacheOf file party) = refl
 
-pub way_made : (plea : Plea) (asked : List Claim) (s : CoreState) (p : Place) → IsGood s → held_at (made_way plea asked s).1 p ≡ else_was (broken_at s (made_way plea asked s).0 p) (held_at s p)
-way_made plea asked s p good =
-    elim (way_is plea asked s) [
+pub way_made : (earlier : List Waiter) (plea : Plea) (asked : List Claim) (s : CoreState) (p : Place) → IsGood s → held_at (made_way earlier plea asked s).1 p ≡ else_was (broken_at s (made_way earlier plea asked s).0 p) (held_at s p)
+way_made earlier plea asked s p good =
+    elim (way_is earlier plea asked s) [
       | NoWay e ↦ subst (λ (w : List Effect × CoreState). held_at w.1 p ≡ else_was (broken_at s w.0 p) (held_at s p)) (sym e) (nothing_made s p)
       | Begins c cs is does e ↦ subst (λ (w : List Effect × CoreState). held_at w.1 p ≡ else_was (broken_at s w.0 p) (held_at s p)) (sym e) (begun_made c s p good)
     ]
 
--- ---- who is called next
+-- ---- whose way is next
 
--- the first that isn't held up is called
-pub first_is_called : (s : CoreState) (before : List Waiter) (w : Waiter) (behind : List Waiter) → AllByRecursion (λ v. holds_up s.claims v v.asked ≡ true) before → holds_up s.claims w w.asked ≡ false → first_called s (before ++ w ∷ behind) ≡ Some (called_of s w)
-first_is_called s [] w behind all free = rw free refl
-first_is_called s (v ∷ vs) w behind all free = rw all.0 (first_is_called s vs w behind all.1 free)
+-- that of the first that isn't held up
+first_is_way : (s : CoreState) (earlier before : List Waiter) (w : Waiter) (behind : List Waiter) → AllBehind (IsUp s) earlier before → holds_up (earlier ++ before) s w w.asked ≡ false → first_way s earlier (before ++ w ∷ behind) ≡ way_again (earlier ++ before) s w
+first_is_way s earlier [] w behind all free = subst (λ (us : List Waiter). first_way s earlier (w ∷ behind) ≡ way_again us s w) (sym (append-nil earlier)) (rw (subst (λ (us : List Waiter). holds_up us s w w.asked ≡ false) (append-nil earlier) free) refl)
+first_is_way s earlier (v ∷ vs) w behind all free =
+    rw all.0 (subst (λ (us : List Waiter). first_way s (earlier ++ v ∷ []) (vs ++ w ∷ behind) ≡ way_again us s w) (append_assoc earlier (v ∷ []) vs)
+    (first_is_way s (earlier ++ v ∷ []) vs w behind all.1 (subst (λ (us : List Waiter). holds_up us s w w.asked ≡ false) (sym (append_assoc earlier (v ∷ []) vs)) free)))
 
-pub none_is_called : (s : CoreState) (ws : List Waiter) → AllByRecursion (λ v. holds_up s.claims v v.asked ≡ true) ws → first_called s ws ≡ None
-none_is_called s [] all = refl
-none_is_called s (v ∷ vs) all = rw all.0 (none_is_called s vs all.1)
+none_is_way : (s : CoreState) (earlier ws : List Waiter) → AllBehind (IsUp s) earlier ws → first_way s earlier ws ≡ ([], s)
+none_is_way s earlier [] all = refl
+none_is_way s earlier (v ∷ vs) all = rw all.0 (none_is_way s (earlier ++ v ∷ []) vs all.1)
 
-pub next_is : (s : CoreState) (before : List Waiter) (w : Waiter) (behind : List Waiter) → s.waiters ≡ before ++ w ∷ behind → AllByRecursion (λ v. holds_up s.claims v v.asked ≡ true) before → holds_up s.claims w w.asked ≡ false → next_way s ≡ way_again s w
-next_is s before w behind stood all free = ap (way_called s) (ap (first_called s) stood ∙ first_is_called s before w behind all free)
+pub next_is : (s : CoreState) (before : List Waiter) (w : Waiter) (behind : List Waiter) → s.waiters ≡ before ++ w ∷ behind → AllBehind (IsUp s) [] before → holds_up before s w w.asked ≡ false → next_way s ≡ way_again before s w
+next_is s before w behind stood all free = ap (first_way s []) stood ∙ first_is_way s [] before w behind all free
 
-pub next_none : (s : CoreState) → AllByRecursion (λ v. holds_up s.claims v v.asked ≡ true) s.waiters → next_way s ≡ ([], s)
-next_none s all = ap (way_called s) (none_is_called s s.waiters all)
+pub next_none : (s : CoreState) → IsSettled s → next_way s ≡ ([], s)
+next_none s all = none_is_way s [] s.waiters all

@@ -12,6 +12,7 @@ use Rattle.xl_matrix.specs.declared.claim.What.TheVariants.{Share, Range, Cache}
 use Rattle.xl_names.specs.declared.name.Name.{Name}
 use Rattle.xl_table.specs.Flat.{is_blocked}
 use Rattle.xl_table.specs.Held.{is_cache, IsShareOrLock}
+use Rattle.xl_wait.specs.declared.waiter.Waiter.{Waiter}
 use Rattle.xl_core.specs.State.{CoreState}
 use Rattle.xl_core.specs.BreaksBegun.{once_broken, idle_caches, told_before, begun_told, breaks_begun}
 use Rattle.xl_core.specs.Leases.{moment_after}
@@ -32,15 +33,15 @@ abbrev pub Told : Type 0
 Told = List Effect × CoreState
 
 -- the breaks of the first claim begin, or nothing does
-pub data IsWay (p : Plea) (asked : List Claim) (s : CoreState) (way : Told) : Type 0 where
-  NoWay : way ≡ ([], s) → IsWay p asked s way
-  Begins : (c : Claim) (cs : List Claim) → asked ≡ c ∷ cs → begins p c s.claims ≡ true → way ≡ breaks_begun c s → IsWay p asked s way
+pub data IsWay (earlier : List Waiter) (p : Plea) (asked : List Claim) (s : CoreState) (way : Told) : Type 0 where
+  NoWay : way ≡ ([], s) → IsWay earlier p asked s way
+  Begins : (c : Claim) (cs : List Claim) → asked ≡ c ∷ cs → begins earlier p c s ≡ true → way ≡ breaks_begun c s → IsWay earlier p asked s way
 
-pub way_is : (p : Plea) (asked : List Claim) (s : CoreState) → IsWay p asked s (made_way p asked s)
+pub way_is : (earlier : List Waiter) (p : Plea) (asked : List Claim) (s : CoreState) → IsWay earlier p asked s (made_way earlier p asked s)
 unfolding made_way
-way_is p [] s = NoWay refl
-way_is p (c ∷ cs) s =
-    elim (cases_Bool (begins p c s.claims)) [
+way_is earlier p [] s = NoWay refl
+way_is earlier p (c ∷ cs) s =
+    elim (cases_Bool (begins earlier p c s)) [
       | inl does ↦ Begins c cs refl does (ap (λ (b : Bool). if b then breaks_begun c s else ([], s)) does)
       | inr doesnt ↦ NoWay (ap (λ (b : Bool). if b then breaks_begun c s else ([], s)) doesnt)
     ]
@@ -63,22 +64,22 @@ free_unbroken held c free = by (planned c held).breaks (λ b i. (names_only c he
   by (b ∷ bs) named = let one = named b (inl refl) in absurd (both_ways (is_blocked held c) free (obstacle_blocks c held b.0 one.0 one.1))
 
 -- a way that is made by no break is none
-pub way_unbroken : (p : Plea) (c : Claim) (cs : List Claim) (s : CoreState) → (planned c s.claims).breaks ≡ [] → made_way p (c ∷ cs) s ≡ ([], s)
+pub way_unbroken : (earlier : List Waiter) (p : Plea) (c : Claim) (cs : List Claim) (s : CoreState) → (planned c s.claims).breaks ≡ [] → made_way earlier p (c ∷ cs) s ≡ ([], s)
 unfolding made_way
-way_unbroken p c cs s none = ap (λ (r : Told). if begins p c s.claims then r else ([], s)) (none_begun s c none) ∙ same (begins p c s.claims) where
+way_unbroken earlier p c cs s none = ap (λ (r : Told). if begins earlier p c s then r else ([], s)) (none_begun s c none) ∙ same (begins earlier p c s) where
   same : (b : Bool) → (let r : Told = ([], s) in (if b then r else r) ≡ r)
   same true = refl
   same false = refl
 
-pub way_stopped : (p : Plea) (c : Claim) (cs : List Claim) (s : CoreState) → is_stopped s.claims c ≡ true → made_way p (c ∷ cs) s ≡ ([], s)
+pub way_stopped : (earlier : List Waiter) (p : Plea) (c : Claim) (cs : List Claim) (s : CoreState) → is_stopped earlier s c ≡ true → made_way earlier p (c ∷ cs) s ≡ ([], s)
 unfolding made_way
-way_stopped p c cs s stops = by p.reclaim where
-  by : (b : Bool) → (if not b && (not (is_stopped s.claims c) && not (p.awaits && (is_some p.crowded && is_some (recalled_by (planned c s.claims))))) then breaks_begun c s else ([], s)) ≡ ([], s)
+way_stopped earlier p c cs s stops = by p.reclaim where
+  by : (b : Bool) → (if not b && (not (is_stopped earlier s c) && not (p.awaits && (is_some p.crowded && is_some (recalled_by (planned c s.claims))))) then breaks_begun c s else ([], s)) ≡ ([], s)
   by true = refl
   by false = rw stops refl
 
-pub way_free : (p : Plea) (c : Claim) (cs : List Claim) (s : CoreState) → is_blocked s.claims c ≡ false → made_way p (c ∷ cs) s ≡ ([], s)
-way_free p c cs s free = way_unbroken p c cs s (free_unbroken s.claims c free)
+pub way_free : (earlier : List Waiter) (p : Plea) (c : Claim) (cs : List Claim) (s : CoreState) → is_blocked s.claims c ≡ false → made_way earlier p (c ∷ cs) s ≡ ([], s)
+way_free earlier p c cs s free = way_unbroken earlier p c cs s (free_unbroken s.claims c free)
 
 -- where breaks began something is told
 told_none : (last : ℕ) (bs : List (Claim × Option CacheKind)) → begun_told last bs ≡ [] → bs ≡ []
@@ -93,9 +94,9 @@ pub begun_quiet : (c : Claim) (s : CoreState) → (breaks_begun c s).0 ≡ [] �
 unfolding breaks_begun
 begun_quiet c s e = sorted_none (told_before s.names) (planned c s.claims).breaks (told_none s.counter (sorted (told_before s.names) (planned c s.claims).breaks) e)
 
-pub way_quiet : (p : Plea) (asked : List Claim) (s : CoreState) → (made_way p asked s).0 ≡ [] → made_way p asked s ≡ ([], s)
-way_quiet p asked s quiet =
-    elim (way_is p asked s) [
+pub way_quiet : (earlier : List Waiter) (p : Plea) (asked : List Claim) (s : CoreState) → (made_way earlier p asked s).0 ≡ [] → made_way earlier p asked s ≡ ([], s)
+way_quiet earlier p asked s quiet =
+    elim (way_is earlier p asked s) [
       | NoWay e ↦ e
       | Begins c cs is does e ↦ e ∙ none_begun s c (begun_quiet c s (sym (ap (λ (w : Told). w.0) e) ∙ quiet))
     ]
@@ -103,17 +104,17 @@ way_quiet p asked s quiet =
 -- ---- what it keeps
 
 -- nobody is served by it
-pub way_serves : (p : Plea) (asked : List Claim) (s : CoreState) → serves_none (made_way p asked s).0 ≡ true
-way_serves p asked s =
-    elim (way_is p asked s) [
+pub way_serves : (earlier : List Waiter) (p : Plea) (asked : List Claim) (s : CoreState) → serves_none (made_way earlier p asked s).0 ≡ true
+way_serves earlier p asked s =
+    elim (way_is earlier p asked s) [
       | NoWay e ↦ ap (λ (w : Told). serves_none w.0) e
       | Begins c cs is does e ↦ ap (λ (w : Told). serves_none w.0) e ∙ begun_serve s c
     ]
 
 -- what no break that begins changes the way leaves
-pub way_keeps : {A : Type 0} (f : CoreState → A) (p : Plea) (asked : List Claim) (s : CoreState) → ((c : Claim) → f (breaks_begun c s).1 ≡ f s) → f (made_way p asked s).1 ≡ f s
-way_keeps f p asked s keeps =
-    elim (way_is p asked s) [
+pub way_keeps : {A : Type 0} (f : CoreState → A) (earlier : List Waiter) (p : Plea) (asked : List Claim) (s : CoreState) → ((c : Claim) → f (breaks_begun c s).1 ≡ f s) → f (made_way earlier p asked s).1 ≡ f s
+way_keeps f earlier p asked s keeps =
+    elim (way_is earlier p asked s) [
       | NoWay e ↦ ap (λ (w : Told). f w.1) e
       | Begins c cs is does e ↦ ap (λ (w : Told). f w.1) e ∙ keeps c
     ]
@@ -126,11 +127,11 @@ pub begun_waiters : (c : Claim) (s : CoreState) → (breaks_begun c s).1.waiters
 unfolding breaks_begun
 begun_waiters c s = refl
 
-pub way_names : (p : Plea) (asked : List Claim) (s : CoreState) → (made_way p asked s).1.names ≡ s.names
-way_names p asked s = way_keeps (λ t. t.names) p asked s (λ c. begun_names c s)
+pub way_names : (earlier : List Waiter) (p : Plea) (asked : List Claim) (s : CoreState) → (made_way earlier p asked s).1.names ≡ s.names
+way_names earlier p asked s = way_keeps (λ t. t.names) earlier p asked s (λ c. begun_names c s)
 
-pub way_waiters : (p : Plea) (asked : List Claim) (s : CoreState) → (made_way p asked s).1.waiters ≡ s.waiters
-way_waiters p asked s = way_keeps (λ t. t.waiters) p asked s (λ c. begun_waiters c s)
+pub way_waiters : (earlier : List Waiter) (p : Plea) (asked : List Claim) (s : CoreState) → (made_way earlier p asked s).1.waiters ≡ s.waiters
+way_waiters earlier p asked s = way_keeps (λ t. t.waiters) earlier p asked s (λ c. begun_waiters c s)
 
 grantable_no_cache : (w : What) → IsShareOrLock w → is_cache w ≡ false
 grantable_no_cache (Share access deny) h = refl
@@ -146,9 +147,9 @@ known_no_cache names [] known = tt
 known_no_cache names (c ∷ cs) known = (grantable_no_cache c.what known.0.0.0, known_no_cache names cs known.1)
 
 -- the state stays good
-pub way_good : (p : Plea) (asked : List Claim) (s : CoreState) → IsGood s → AsksNoCache asked → IsGood (made_way p asked s).1
-way_good p asked s good none =
-    elim (way_is p asked s) [
+pub way_good : (earlier : List Waiter) (p : Plea) (asked : List Claim) (s : CoreState) → IsGood s → AsksNoCache asked → IsGood (made_way earlier p asked s).1
+way_good earlier p asked s good none =
+    elim (way_is earlier p asked s) [
       | NoWay e ↦ subst (λ (w : Told). IsGood w.1) (sym e) good
       | Begins c cs is does e ↦ subst (λ (w : Told). IsGood w.1) (sym e) (breaks_good s c good (subst AsksNoCache is none).0)
     ]
@@ -158,14 +159,14 @@ begun_idle : (c : Claim) (s : CoreState) → idle_caches (breaks_begun c s).1.cl
 unfolding breaks_begun
 begun_idle c s = fewer_idle (moment_after s.clock s.times.break_time) c s.claims
 
-pub way_idle : (p : Plea) (asked : List Claim) (s : CoreState) → (made_way p asked s ≡ ([], s)) ⊎ (idle_caches (made_way p asked s).1.claims + 1 ≤ idle_caches s.claims)
-way_idle p asked s =
-    elim (way_is p asked s) [
+pub way_idle : (earlier : List Waiter) (p : Plea) (asked : List Claim) (s : CoreState) → (made_way earlier p asked s ≡ ([], s)) ⊎ (idle_caches (made_way earlier p asked s).1.claims + 1 ≤ idle_caches s.claims)
+way_idle earlier p asked s =
+    elim (way_is earlier p asked s) [
       | NoWay e ↦ inl e
       | Begins c cs is does e ↦ by c (planned c s.claims).breaks refl e
     ]
   where
-    by : (c : Claim) (bs : List (Claim × Option CacheKind)) → (planned c s.claims).breaks ≡ bs → made_way p asked s ≡ breaks_begun c s → (made_way p asked s ≡ ([], s)) ⊎ (idle_caches (made_way p asked s).1.claims + 1 ≤ idle_caches s.claims)
+    by : (c : Claim) (bs : List (Claim × Option CacheKind)) → (planned c s.claims).breaks ≡ bs → made_way earlier p asked s ≡ breaks_begun c s → (made_way earlier p asked s ≡ ([], s)) ⊎ (idle_caches (made_way earlier p asked s).1.claims + 1 ≤ idle_caches s.claims)
     by c [] none e = inl (e ∙ none_begun s c none)
     by c (b ∷ bs) some e = inr (subst (λ (w : Told). idle_caches w.1.claims + 1 ≤ idle_caches s.claims) (sym e) (omega (arith, begun_idle c s, ap (λ (xs : List (Claim × Option CacheKind)). length xs) some)))
 
@@ -175,10 +176,10 @@ unfolding breaks_begun
 begun_runs c s = runs (once_broken (moment_after s.clock s.times.break_time) c s.claims) c (none_begins_again (moment_after s.clock s.times.break_time) c s.claims)
 
 -- so it is for one whose wait passes no limit, and who doesn't come too late, where nothing blocks it for good
-pub way_runs : (p : Plea) (c : Claim) (cs : List Claim) (s : CoreState) → p.reclaim ≡ false → p.crowded ≡ None → is_stopped s.claims c ≡ false → all_run (made_way p (c ∷ cs) s).1.claims c ≡ true
+pub way_runs : (earlier : List Waiter) (p : Plea) (c : Claim) (cs : List Claim) (s : CoreState) → p.reclaim ≡ false → p.crowded ≡ None → is_stopped earlier s c ≡ false → all_run (made_way earlier p (c ∷ cs) s).1.claims c ≡ true
 unfolding made_way
-way_runs p c cs s timely room moves =
-    let does : begins p c s.claims ≡ true = rw (timely, moves, room) (both p.awaits) in
+way_runs earlier p c cs s timely room moves =
+    let does : begins earlier p c s ≡ true = rw (timely, moves, room) (both p.awaits) in
     ap (λ (b : Bool). all_run (if b then breaks_begun c s else ([], s)).1.claims c) does ∙ begun_runs c s
   where
     both : (b : Bool) → (not false && (not false && not (b && (false && is_some (recalled_by (planned c s.claims)))))) ≡ true
@@ -186,8 +187,8 @@ way_runs p c cs s timely room moves =
     both false = refl
 
 -- and those of one that waits for no answer
-pub way_runs_at_once : (p : Plea) (c : Claim) (cs : List Claim) (s : CoreState) → p.reclaim ≡ false → p.awaits ≡ false → is_stopped s.claims c ≡ false → all_run (made_way p (c ∷ cs) s).1.claims c ≡ true
+pub way_runs_at_once : (earlier : List Waiter) (p : Plea) (c : Claim) (cs : List Claim) (s : CoreState) → p.reclaim ≡ false → p.awaits ≡ false → is_stopped earlier s c ≡ false → all_run (made_way earlier p (c ∷ cs) s).1.claims c ≡ true
 unfolding made_way
-way_runs_at_once p c cs s timely hurries moves =
-    let does : begins p c s.claims ≡ true = rw (timely, moves, hurries) refl in
+way_runs_at_once earlier p c cs s timely hurries moves =
+    let does : begins earlier p c s ≡ true = rw (timely, moves, hurries) refl in
     ap (λ (b : Bool). all_run (if b then breaks_begun c s else ([], s)).1.claims c) does ∙ begun_runs c s

@@ -15,8 +15,8 @@ unfoldable pub blockers : List Waiter → CoreState → Claim → List Claim
 blockers earlier s ask = filter (is_final ask s.claims) s.claims
 
 -- something does
-abbrev pub is_stopped : List Claim → Claim → Bool
-is_stopped held ask = list_any (is_final ask held) held
+abbrev pub is_stopped : List Waiter → CoreState → Claim → Bool
+is_stopped earlier s ask = list_any (is_final ask s.claims) s.claims
 
 abbrev pub first_broken : List (Claim × Option CacheKind) → Option Claim
 first_broken [] = None

@@ -22,7 +22,7 @@ use Rattle.xl_table.specs.Least.{least}
 use Rattle.xl_core.specs.Blockers.{blockers, is_stopped, cache_against, test_blockers}
 use Rattle.xl_core.specs.Limits.{grant_limits, wait_limits, wish_limits, IsRoom, IsLeastPassed}
 use Rattle.xl_table.specs.Flat.{is_blocked}
-use Rattle.xl_core.specs.Good.{caches_of, caches_beside, is_held_up, holds_up}
+use Rattle.xl_core.specs.Good.{AllBehind, caches_of, caches_beside, is_held_up, IsUp}
 use Rattle.xl_table.specs.Relock.{most_claims, shares_of, relocked_in, granted_claims}
 use Rattle.xl_core.specs.declared.ask.Act.{Act}
 use Rattle.xl_core.specs.declared.ask.Act.TheVariants.{Share}
@@ -45,10 +45,10 @@ limits_of_wait left s a = wait_limits left a.rows (length s.waiters) (length (bo
 
 -- ---- why an ask is answered so
 
--- who asks waits: for what blocks the claim for good if it waits for that, else for a cache in its way if it awaits the
--- answer to its break (CORE-3)
-abbrev pub may_wait : List Claim → Ask → Claim → Bool
-may_wait held a claim = if is_stopped held claim then a.blocking else a.awaits
+-- who asks behind these waiters waits: for what blocks the claim for good if it waits for that, else for a cache in its way
+-- if it awaits the answer to its break (CORE-3)
+abbrev pub may_wait : List Waiter → CoreState → Ask → Claim → Bool
+may_wait earlier s a claim = if is_stopped earlier s claim then a.blocking else a.awaits
 
 -- Why a share or a lock is. A reclaim comes too late, as no grace runs. What nothing held blocks is granted if no limit
 -- is passed. What something blocks waits, if it may and no limit is passed; else the least of what blocks it for good
@@ -58,14 +58,14 @@ IsClaimDue left s a claim (Granted c) = (c ≡ claim) × (a.reclaim ≡ false) �
 IsClaimDue left s a claim (Conflict c) =
     (a.reclaim ≡ false) × (a.blocking ≡ false) × (least s.names (blockers s.waiters s claim) ≡ Some c) × IsIn c s.claims × (blocks claim c ≡ true)
 IsClaimDue left s a claim (Recall c) =
-    (a.reclaim ≡ false) × (a.awaits ≡ false) × (is_stopped s.claims claim ≡ false) × (cache_against s.claims claim ≡ Some c) × IsIn c s.claims × (is_obstacle claim s.claims c ≡ true)
+    (a.reclaim ≡ false) × (a.awaits ≡ false) × (is_stopped s.waiters s claim ≡ false) × (cache_against s.claims claim ≡ Some c) × IsIn c s.claims × (is_obstacle claim s.claims c ≡ true)
 IsClaimDue left s a claim (Queued number) =
-    (number ≡ s.counter + 1) × (a.reclaim ≡ false) × (may_wait s.claims a claim ≡ true) × (is_blocked s.claims claim ≡ true) × IsRoom (limits_of_wait left s a)
+    (number ≡ s.counter + 1) × (a.reclaim ≡ false) × (may_wait s.waiters s a claim ≡ true) × (is_blocked s.claims claim ≡ true) × IsRoom (limits_of_wait left s a)
 IsClaimDue left s a claim (NoGrace clock) = (clock ≡ s.clock) × (a.reclaim ≡ true)
 IsClaimDue left s a claim (Full limit) =
     (a.reclaim ≡ false)
     × (((is_blocked s.claims claim ≡ false) × IsLeastPassed (limits_of_grant left s a claim) limit)
-    ⊎ ((may_wait s.claims a claim ≡ true) × (is_blocked s.claims claim ≡ true) × IsLeastPassed (limits_of_wait left s a) limit))
+    ⊎ ((may_wait s.waiters s a claim ≡ true) × (is_blocked s.claims claim ≡ true) × IsLeastPassed (limits_of_wait left s a) limit))
 IsClaimDue left s a claim _ = ⊥
 
 -- a held range blocks a test of this range
@@ -116,17 +116,20 @@ IsElementDue s claim extent (Granted c) = (c ≡ claim) × (is_some (element_hel
 IsElementDue s claim extent NotHeld = element_held claim extent s.claims ≡ None
 IsElementDue s claim extent _ = ⊥
 
--- Why an ask for several ranges of which none waits is: each is judged once those before it are held. The first that
--- something held blocks for good is answered with the least that does; the first that a cache keeps off, of that; the
--- first that passes a limit, of the least limit. If there is no such all are granted. So many names are kept then
--- (CORE-14).
-abbrev pub IsEachDue : Rooms → Rooms → ℕ → Claim → List Claim → CoreState → Answer → Type 0
-IsEachDue left rows kept first [] s answer = answer ≡ Granted first
-IsEachDue left rows kept first (c ∷ cs) s answer =
-    ((d : Claim) → least s.names (blockers [] s c) ≡ Some d → answer ≡ Conflict d)
-    × ((d : Claim) → is_stopped s.claims c ≡ false → cache_against s.claims c ≡ Some d → answer ≡ Recall d)
+-- Why several claims of which none waits are answered so, behind these waiters: each is judged once those before it are held. The
+-- first that something held blocks for good is answered with the least that does; the first that a cache keeps off, with that; the
+-- first that passes a limit, with the least limit. If there is no such all are granted. So many names are kept then (CORE-14).
+abbrev pub IsEachBehind : List Waiter → Rooms → Rooms → ℕ → Claim → List Claim → CoreState → Answer → Type 0
+IsEachBehind earlier left rows kept first [] s answer = answer ≡ Granted first
+IsEachBehind earlier left rows kept first (c ∷ cs) s answer =
+    ((d : Claim) → least s.names (blockers earlier s c) ≡ Some d → answer ≡ Conflict d)
+    × ((d : Claim) → is_stopped earlier s c ≡ false → cache_against s.claims c ≡ Some d → answer ≡ Recall d)
     × ((limit : ℕ) → is_blocked s.claims c ≡ false → IsLeastPassed (grant_limits left rows (length (granted_claims c s.claims)) kept) limit → answer ≡ Full limit)
-    × (is_blocked s.claims c ≡ false → IsRoom (grant_limits left rows (length (granted_claims c s.claims)) kept) → IsEachDue left rows kept first cs (held_with (c ∷ []) s) answer)
+    × (is_blocked s.claims c ≡ false → IsRoom (grant_limits left rows (length (granted_claims c s.claims)) kept) → IsEachBehind earlier left rows kept first cs (held_with (c ∷ []) s) answer)
+
+-- why an ask for several ranges of which none waits is: behind all who wait
+abbrev pub IsEachDue : Rooms → Rooms → ℕ → Claim → List Claim → CoreState → Answer → Type 0
+IsEachDue left rows kept first asked s answer = IsEachBehind s.waiters left rows kept first asked s answer
 
 -- ---- what a turn is
 
@@ -135,12 +138,12 @@ abbrev pub held_once : List Claim → Answer → List Claim → List Claim
 held_once asked (Granted c) held = all_granted asked held
 held_once asked answer held = held
 
--- What becomes of a waiter for these, of which this is the first, once its breaks run: if the first is held up by
--- them it waits on, and has no answer; else each is judged beside those before it, and it is answered so and waits no
--- more.
-pub data IsServed (left : Rooms) (s : CoreState) (w : Waiter) (claim : Claim) (told : List Effect) (new : CoreState) : Type 0 where
-  Answered : (answer : Answer) → told ≡ Served w.id answer ∷ [] → ((c : Claim) → answer ≡ Granted c → c ≡ claim) → IsEachDue left w.rows (length s.names) claim w.asked s answer → new ≡ wish_for w.wish answer (record s { claims = held_once w.asked answer s.claims; waiters = cancelled w.id s.waiters }) → is_held_up s.claims w claim ≡ false → IsServed left s w claim told new
-  WaitsOn : told ≡ [] → is_held_up s.claims w claim ≡ true → new ≡ s → IsServed left s w claim told new
+-- What becomes of a waiter for these, of which this is the first, behind earlier waiters, once its breaks run: if the
+-- first is held up by them it waits on, and has no answer; else each is judged beside those before it, and it is answered so
+-- and waits no more.
+pub data IsServed (left : Rooms) (earlier : List Waiter) (s : CoreState) (w : Waiter) (claim : Claim) (told : List Effect) (new : CoreState) : Type 0 where
+  Answered : (answer : Answer) → told ≡ Served w.id answer ∷ [] → ((c : Claim) → answer ≡ Granted c → c ≡ claim) → IsEachBehind earlier left w.rows (length s.names) claim w.asked s answer → new ≡ wish_for w.wish answer (record s { claims = held_once w.asked answer s.claims; waiters = cancelled w.id s.waiters }) → is_held_up earlier s w claim ≡ false → IsServed left earlier s w claim told new
+  WaitsOn : told ≡ [] → is_held_up earlier s w claim ≡ true → new ≡ s → IsServed left earlier s w claim told new
 
 -- The first waiter that isn't held up has its turn: its breaks begin, with their effects, and then it is judged. Its
 -- names are kept already. What it is granted it has then, and the cache that its wish gets. Beside caches only what the
@@ -154,16 +157,16 @@ pub record IsTurn (left : Rooms) (s : CoreState) (effects : List Effect) (new : 
   pub claims : List Claim
   pub told : List Effect
   pub stood : s.waiters ≡ before ++ waiter ∷ behind
-  pub blocked : AllByRecursion (λ w. holds_up s.claims w w.asked ≡ true) before
+  pub blocked : AllBehind (IsUp s) [] before
   pub asked : waiter.asked ≡ claim ∷ claims
-  pub free : is_held_up s.claims waiter claim ≡ false
-  pub effects_are : effects ≡ (way_again s waiter).0 ++ told
-  pub served : IsServed left (way_again s waiter).1 waiter claim told new
+  pub free : is_held_up before s waiter claim ≡ false
+  pub effects_are : effects ≡ (way_again before s waiter).0 ++ told
+  pub served : IsServed left before (way_again before s waiter).1 waiter claim told new
   pub names : new.names ≡ s.names
   pub spans : (file : ℕ) (owner : Owner) → AllByRecursion (λ c. (file ≡ c.file) × (owner ≡ c.owner) × (is_share c.what ≡ false) → ⊥) waiter.asked → spans_of file owner new.claims ≡ spans_of file owner s.claims
   pub shares : (file : ℕ) (owner : Owner) → AllByRecursion (λ c. (file ≡ c.file) × (owner ≡ c.owner) × (is_share c.what ≡ true) → ⊥) waiter.asked → shares_of file owner new.claims ≡ shares_of file owner s.claims
-  pub caches : caches_beside claim.file claim.party new.claims ≡ caches_beside claim.file claim.party (way_again s waiter).1.claims
-  pub unwished : waiter.wish ≡ [] → caches_of new.claims ≡ caches_of (way_again s waiter).1.claims
+  pub caches : caches_beside claim.file claim.party new.claims ≡ caches_beside claim.file claim.party (way_again before s waiter).1.claims
+  pub unwished : waiter.wish ≡ [] → caches_of new.claims ≡ caches_of (way_again before s waiter).1.claims
 
 -- ---- what an ask may change
 

@@ -135,7 +135,7 @@ decided n left s a = acted n left s a a.act
 
 -- the way that is made for it, if it asks for something that is held then
 abbrev pub way : Rooms → CoreState → Ask → List Effect × CoreState
-way left s a = made_way (plea_of left s a) (asked_claims a (asked_whats a.act) s.names) s
+way left s a = made_way s.waiters (plea_of left s a) (asked_claims a (asked_whats a.act) s.names) s
 
 -- an answer behind the effects before it
 abbrev pub behind_way : List Effect → Answered → Answered

@@ -1,5 +1,5 @@
 -- What the core's state keeps at each free moment.
-use Rattle.std.specs.Prelude.{◌≡◌, ℕ, ◌≤◌, Bool, true, false, not, ◌&&◌, ◌==◌, if◌then◌else◌, List, [], ◌∷◌, length, Option, Some, None}
+use Rattle.std.specs.Prelude.{◌≡◌, ℕ, ◌≤◌, Bool, true, false, not, ◌&&◌, ◌==◌, if◌then◌else◌, List, [], ◌∷◌, ◌++◌, length, Option, Some, None}
 use Rattle.std.specs.List.{AllByRecursion, filter, slice_get}
 use Rattle.xl_base.specs.Lists.{Pairwise}
 use Rattle.xl_base.specs.Stable.{same_protocol}
@@ -138,16 +138,29 @@ caches_beside file party cs = caches_but file party (caches_of cs)
 
 -- ---- nobody is forgotten
 
--- something held blocks the claim; if it does so for good the waiter waits for that, and else for the answers to
--- breaks, all of which run
-abbrev pub is_held_up : List Claim → Waiter → Claim → Bool
-is_held_up held w c = is_blocked held c && (if is_stopped held c then w.blocking else all_run held c)
+-- each of these waiters is so behind those before it, the first of them behind the earlier ones
+abbrev pub AllBehind : (List Waiter → Waiter → Type 0) → List Waiter → List Waiter → Type 0
+AllBehind P earlier [] = Unit {0}
+AllBehind P earlier (w ∷ ws) = P earlier w × AllBehind P (earlier ++ w ∷ []) ws
+
+-- Whether the claim of one who waits behind these is held up: something held blocks it; if that does so for good the waiter
+-- waits for it, and else for the answers to breaks, all of which run.
+abbrev pub is_held_up : List Waiter → CoreState → Waiter → Claim → Bool
+is_held_up earlier s w c = is_blocked s.claims c && (if is_stopped earlier s c then w.blocking else all_run s.claims c)
+
+-- the test holds of the first of these
+abbrev pub of_first : (Claim → Bool) → List Claim → Bool
+of_first test [] = false
+of_first test (c ∷ cs) = test c
 
 -- of several claims the first is held up
-abbrev pub holds_up : List Claim → Waiter → List Claim → Bool
-holds_up held w [] = false
-holds_up held w (c ∷ cs) = is_held_up held w c
+abbrev pub holds_up : List Waiter → CoreState → Waiter → List Claim → Bool
+holds_up earlier s w asked = of_first (λ c. is_held_up earlier s w c) asked
 
--- each waiter is held up
+-- the waiter is held up behind these
+abbrev pub IsUp : CoreState → List Waiter → Waiter → Type 0
+IsUp s earlier w = holds_up earlier s w w.asked ≡ true
+
+-- each waiter is held up behind those before it
 abbrev pub IsSettled : CoreState → Type 0
-IsSettled s = AllByRecursion (λ w. holds_up s.claims w w.asked ≡ true) s.waiters
+IsSettled s = AllBehind (IsUp s) [] s.waiters

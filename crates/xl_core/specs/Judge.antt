@@ -108,9 +108,9 @@ enter_all asked s = (Gets, [], held_with asked s)
 
 -- ---- the judgement
 
--- something held blocks the claim, and who pleads waits for it
-abbrev pub does_wait : Plea → List Claim → Claim → Bool
-does_wait p held c = is_blocked held c && (if is_stopped held c then p.blocking else p.awaits)
+-- something held blocks the claim of one who pleads so behind these waiters, and it waits for that
+abbrev pub does_wait : List Waiter → Plea → CoreState → Claim → Bool
+does_wait earlier p s c = is_blocked s.claims c && (if is_stopped earlier s c then p.blocking else p.awaits)
 
 -- of several claims the first alone may wait (MS-SMB2 3.3.5.14.2) (CORE-14)
 abbrev pub at_once : Plea → Plea
@@ -134,9 +134,9 @@ abbrev pub or_else : Option Ruling → Option Ruling → Option Ruling
 or_else (Some ruling) later = Some ruling
 or_else None later = later
 
--- what stops a claim, if anything: what is held, a cache, or a limit
-abbrev pub stop_of : Rooms → Plea → Claim → CoreState → Option Ruling
-stop_of left p c s = or_else (check_held [] p [] c s).0 (or_else (check_caches p [] c s).0 (check_room left p [] c s).0)
+-- what stops a claim behind these waiters, if anything: what is held, a cache, or a limit
+abbrev pub stop_of : List Waiter → Rooms → Plea → Claim → CoreState → Option Ruling
+stop_of earlier left p c s = or_else (check_held earlier p [] c s).0 (or_else (check_caches p [] c s).0 (check_room left p [] c s).0)
 
 abbrev pub unless : Option Ruling → Ruling → Ruling
 unless (Some ruling) later = ruling
@@ -144,9 +144,9 @@ unless None later = later
 
 -- the ruling on these, each once those before it are held: that on the first that is stopped; they are had if none is
 -- (CORE-14)
-abbrev pub row : Rooms → Plea → List Claim → CoreState → Ruling
-row left p [] s = Gets
-row left p (c ∷ cs) s = unless (stop_of left p c s) (row left (at_once p) cs (held_with (c ∷ []) s))
+abbrev pub row : List Waiter → Rooms → Plea → List Claim → CoreState → Ruling
+row earlier left p [] s = Gets
+row earlier left p (c ∷ cs) s = unless (stop_of earlier left p c s) (row earlier left (at_once p) cs (held_with (c ∷ []) s))
 
 -- the state after it: all of them are held, or none
 abbrev pub row_left : Ruling → List Claim → CoreState → CoreState

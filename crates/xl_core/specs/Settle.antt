@@ -18,7 +18,7 @@ use Rattle.xl_wait.specs.declared.waiter.Rooms.{Rooms}
 use Rattle.xl_wait.specs.declared.waiter.Waiter.{Waiter}
 use Rattle.xl_core.specs.State.{CoreState}
 use Rattle.xl_core.specs.BreaksBegun.{idle_caches}
-use Rattle.xl_core.specs.Good.{holds_up}
+use Rattle.xl_core.specs.Good.{AllBehind, holds_up}
 use Rattle.xl_core.specs.Judge.{Ruled, judged}
 use Rattle.xl_core.specs.Ways.{made_way}
 use Rattle.xl_core.specs.Wishes.{wish_for}
@@ -64,13 +64,13 @@ turned w (Told answer) told s = served w answer told s
 abbrev pub ruled_behind : List Effect → Ruled → Ruled
 ruled_behind told r = (r.0, told ++ r.1, r.2)
 
--- the way that is made for a waiter
-abbrev pub way_again : CoreState → Waiter → List Effect × CoreState
-way_again s w = made_way (plea_again s w) w.asked s
+-- the way that is made for a waiter behind these
+abbrev pub way_again : List Waiter → CoreState → Waiter → List Effect × CoreState
+way_again earlier s w = made_way earlier (plea_again s w) w.asked s
 
 -- what is judged of a waiter behind these, once its breaks run
 abbrev pub again : ℕ → Rooms → CoreState → List Waiter → Waiter → Ruled
-again n left s earlier w = let way = way_again s w in ruled_behind way.0 (judged n earlier left (plea_again s w) w.asked way.1)
+again n left s earlier w = let way = way_again earlier s w in ruled_behind way.0 (judged n earlier left (plea_again s w) w.asked way.1)
 
 abbrev pub turn_or : Waiter → Ruled → Option (List Effect × CoreState) → Option (List Effect × CoreState)
 turn_or w r later = if rests r.0 r.1 then later else Some (turned w r.0 r.1 r.2)
@@ -90,27 +90,26 @@ turns_left s = length s.waiters + length s.waiters + idle_caches s.claims
 
 -- each of these waits on, behind those before it, and nothing begins or changes
 abbrev pub AllRest : ℕ → Rooms → CoreState → List Waiter → List Waiter → Type 0
-AllRest n left s earlier [] = Unit {0}
-AllRest n left s earlier (w ∷ ws) = (again n left s earlier w ≡ (Waits, [], s)) × AllRest n left s (earlier ++ w ∷ []) ws
+AllRest n left s earlier ws = AllBehind (λ before w. again n left s before w ≡ (Waits, [], s)) earlier ws
 
 -- ---- how the first that has a turn is found
 
 abbrev pub called_of : CoreState → Waiter → Called
 called_of s w = record { id = w.id; asked = w.asked; wish = w.wish; plea = plea_again s w }
 
--- the first of these that isn't held up
-abbrev pub first_called : CoreState → List Waiter → Option Called
-first_called s [] = None
-first_called s (w ∷ ws) = if holds_up s.claims w w.asked then first_called s ws else Some (called_of s w)
+-- the first of these that isn't held up behind earlier ones
+abbrev pub first_called : CoreState → List Waiter → List Waiter → Option Called
+first_called s earlier [] = None
+first_called s earlier (w ∷ ws) = if holds_up earlier s w w.asked then first_called s (earlier ++ w ∷ []) ws else Some (called_of s w)
 
--- the way that is made for one who is called
-abbrev pub way_called : CoreState → Option Called → List Effect × CoreState
-way_called s None = ([], s)
-way_called s (Some called) = made_way called.plea called.asked s
+-- the way that is made for that one
+abbrev pub first_way : CoreState → List Waiter → List Waiter → List Effect × CoreState
+first_way s earlier [] = ([], s)
+first_way s earlier (w ∷ ws) = if holds_up earlier s w w.asked then first_way s (earlier ++ w ∷ []) ws else way_again earlier s w
 
 -- the way of the next turn
 abbrev pub next_way : CoreState → List Effect × CoreState
-next_way s = way_called s (first_called s s.waiters)
+next_way s = first_way s [] s.waiters
 
 -- ---- who leaves
 

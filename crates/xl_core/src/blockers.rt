@@ -1,5 +1,5 @@
 //! What stands against an ask: shares and ranges, and caches.
-ghost use Rattle.std.specs.Prelude.{◌≡◌, List, IfOk};
+ghost use Rattle.std.specs.Prelude.{◌≡◌, List, [], IfOk};
 ghost use Rattle.xl_table.specs.Least.{least};
 ghost use Rattle.xl_wait.specs.declared.waiter.Waiter.{Waiter};
 ghost use Rattle.xl_core.specs.Blockers.{blockers, is_stopped, first_broken, all_run, cache_in, cache_against};
@@ -27,7 +27,7 @@ pub(crate) fn least_blocker(
 
 /// Whether something blocks the claim for good.
 pub(crate) fn is_stopped(alloc: Global, parts: &Parts, claim: &Claim) -> Result<bool, AllocError>
-    ensures { IfOk result (λ b. b ≡ is_stopped parts.now.table claim.now) }
+    ensures { IfOk result (λ b. b ≡ is_stopped [] (state_of parts.now) claim.now) }
 {
     Ok(least_blocker(alloc, parts, claim)?.is_some())
 }

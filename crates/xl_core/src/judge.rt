@@ -144,7 +144,7 @@ fn check_claims(
     plea: &Plea,
     claim: &Claim,
 ) -> Result<Option<Ruling>, AllocError>
-    ensures ruling { (later : Option Ruling) → IfOk result (λ r. or_else (check_held [] plea.now [] claim.now (state_of parts.now)).0 (or_else (check_caches plea.now [] claim.now (state_of parts.now)).0 later) ≡ or_else r later) }
+    ensures ruling { (earlier : List Waiter) (later : Option Ruling) → IfOk result (λ r. or_else (check_held earlier plea.now [] claim.now (state_of parts.now)).0 (or_else (check_caches plea.now [] claim.now (state_of parts.now)).0 later) ≡ or_else r later) }
     ensures gets { result ≡ Ok (Some Gets) → ⊥ }
     ensures waits { result ≡ Ok (Some Waits) → plea.now.crowded ≡ None }
 {
@@ -205,7 +205,7 @@ fn judge_one(
 ) -> Result<Option<Ruling>, AllocError>
     requires grantable { IsGrantable claim.now }
     requires party { AllByRecursion (λ c. has_one_party claim.now c ≡ true) parts.old.table }
-    ensures stop { IfOk result (λ r. stop_of left.now plea.now claim.now (state_of parts.old) ≡ r) }
+    ensures stop { (earlier : List Waiter) → IfOk result (λ r. stop_of earlier left.now plea.now claim.now (state_of parts.old) ≡ r) }
     ensures state { IfOk result (λ r. state_of parts.new ≡ stop_left r claim.now (state_of parts.old)) }
     ensures kept { result ≡ Ok None → IsKept parts.old.table }
     ensures few { result ≡ Ok None → plea.now.kept ≤ most_names }
@@ -245,7 +245,7 @@ fn judge_row(
 ) -> Result<Ruling, AllocError>
     requires row { IsRow claims.now }
     requires party { AllByRecursion (λ c. AllByRecursion (λ d. has_one_party c d ≡ true) parts.old.table) claims.now }
-    ensures row { IfOk result (λ r. r ≡ row left.now plea.now claims.now (state_of parts.old)) }
+    ensures row { (earlier : List Waiter) → IfOk result (λ r. r ≡ row earlier left.now plea.now claims.now (state_of parts.old)) }
     ensures state { IfOk result (λ r. state_of parts.new ≡ row_left r claims.now (state_of parts.old)) }
     ensures few { result ≡ Ok Gets → IsFew plea.now claims.now }
     ensures waits { result ≡ Ok Waits → plea.now.crowded ≡ None }

@@ -1,9 +1,8 @@
 //! Whose turn comes, and what it gets.
-ghost use Rattle.std.specs.Prelude.{◌≡◌, ◌+◌, ◌<◌, ◌^◌, ℕ, [], ◌∷◌, Ok, None, option_copied, option_map, IfOk};
-ghost use Rattle.std.specs.List.{AllByRecursion};
+ghost use Rattle.std.specs.Prelude.{◌≡◌, ◌+◌, ◌<◌, ◌^◌, ℕ, List, [], ◌∷◌, Ok, None, option_copied, option_map, IfOk};
 ghost use Rattle.xl_base.specs.Limits.{numbers_left};
 ghost use Rattle.xl_wait.specs.declared.waiter.Waiter.{Waiter};
-ghost use Rattle.xl_core.specs.Good.{is_held_up, holds_up, IsGood};
+ghost use Rattle.xl_core.specs.Good.{AllBehind, is_held_up, holds_up, IsGood};
 ghost use Rattle.xl_core.specs.Settle.{plea_again, all_of, turned, settle, called_of, first_called};
 ghost use Rattle.xl_core.specs.Unsettled.{stays_up, first_free, called_at, IsHeldUp, AreHeldUp};
 ghost use Rattle.xl_core.specs.declared.unsettled.Unsettled.TheVariants.{Files};
@@ -51,14 +50,13 @@ fn plea_again(parts: &Parts, waiter: &Waiter) -> Plea
 
 /// Whether something held blocks the claim: for good, if the waiter waits for that, or caches alone, all of whose
 /// breaks run.
-#[tactic(auto, using(crate::proofs::WayCode::stopped_uncached))]
 fn is_held_up(
     alloc: Global,
     parts: &Parts,
     waiter: &Waiter,
     claim: &Claim,
 ) -> Result<bool, AllocError>
-    ensures { IfOk result (λ b. b ≡ is_held_up parts.now.table waiter.now claim.now) }
+    ensures { IfOk result (λ b. b ≡ is_held_up [] (state_of parts.now) waiter.now claim.now) }
 {
     if !parts.table.is_blocked(claim) {
         return Ok(false);
@@ -71,7 +69,7 @@ fn is_held_up(
 
 /// Whether the first claim that the waiter asks for is held up.
 fn is_up(alloc: Global, parts: &Parts, waiter: &Waiter) -> Result<bool, AllocError>
-    ensures { IfOk result (λ b. b ≡ holds_up parts.now.table waiter.now waiter.now.asked) }
+    ensures { IfOk result (λ b. b ≡ holds_up [] (state_of parts.now) waiter.now waiter.now.asked) }
 {
     match waiter.asked.as_slice() {
         [claim, ..] => is_held_up(alloc, parts, waiter, claim),
@@ -86,8 +84,8 @@ fn holds_up(
     unsettled: &Unsettled,
     waiter: &Waiter,
 ) -> Result<bool, AllocError>
-    requires { IsHeldUp unsettled.now parts.now.table waiter.now waiter.now.asked }
-    ensures { IfOk result (λ b. b ≡ holds_up parts.now.table waiter.now waiter.now.asked) }
+    requires { IsHeldUp unsettled.now [] (state_of parts.now) waiter.now waiter.now.asked }
+    ensures { IfOk result (λ b. b ≡ holds_up [] (state_of parts.now) waiter.now waiter.now.asked) }
 {
     if let [claim, ..] = waiter.asked.as_slice() {
         if !is_among(unsettled, claim.file) {
@@ -99,7 +97,7 @@ fn holds_up(
 
 /// Whether nobody waits at this place of the queue, or one who is held up.
 fn stays_up(alloc: Global, parts: &Parts, waiter: Option<&Waiter>) -> Result<bool, AllocError>
-    ensures { IfOk result (λ b. b ≡ stays_up (state_of parts.now) (option_copied waiter.entry)) }
+    ensures { IfOk result (λ b. b ≡ stays_up [] (state_of parts.now) (option_copied waiter.entry)) }
 {
     match waiter {
         Some(waiter) => is_up(alloc, parts, waiter),
@@ -152,7 +150,7 @@ fn called_at(
 fn called_on(alloc: Global, parts: &Parts, file: u32) -> Result<Option<Called>, AllocError>
     requires good { IsGood (state_of parts.now) }
     requires held_up { AreHeldUp (Files (file ∷ [])) (state_of parts.now) }
-    ensures { IfOk result (λ called. called ≡ first_called (state_of parts.now) parts.now.queue) }
+    ensures { IfOk result (λ called. called ≡ first_called (state_of parts.now) [] parts.now.queue) }
 {
     let place = first_free(alloc, parts, parts.queue.on(file))?;
     let called = called_at(alloc, parts, place)?;
@@ -160,14 +158,15 @@ fn called_on(alloc: Global, parts: &Parts, file: u32) -> Result<Option<Called>, 
 }
 
 /// The first of these that isn't held up, who waits on one of the unsettled files.
+#[tactic(auto, using(crate::proofs::HeldUpLaws::each_up, crate::proofs::UnsettledLaws::called_onward))]
 fn first_called(
     alloc: Global,
     parts: &Parts,
     unsettled: &Unsettled,
     waiters: &[Waiter],
 ) -> Result<Option<Called>, AllocError>
-    requires { AllByRecursion (λ w. IsHeldUp unsettled.now parts.now.table w w.asked) waiters.now }
-    ensures { IfOk result (λ called. called ≡ first_called (state_of parts.now) waiters.now) }
+    requires { AllBehind (λ earlier w. IsHeldUp unsettled.now earlier (state_of parts.now) w w.asked) [] waiters.now }
+    ensures { IfOk result (λ called. called ≡ first_called (state_of parts.now) [] waiters.now) }
 {
     for waiter in waiters {
         if !holds_up(alloc, parts, unsettled, waiter)? {
@@ -186,7 +185,7 @@ fn next_called(
 ) -> Result<Option<Called>, AllocError>
     requires good { IsGood (state_of parts.now) }
     requires held_up { AreHeldUp unsettled.now (state_of parts.now) }
-    ensures { IfOk result (λ called. called ≡ first_called (state_of parts.now) parts.now.queue) }
+    ensures { IfOk result (λ called. called ≡ first_called (state_of parts.now) [] parts.now.queue) }
 {
     match only_file(unsettled) {
         Some(file) => called_on(alloc, parts, file),

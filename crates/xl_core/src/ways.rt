@@ -1,10 +1,11 @@
 //! The way that is made for an ask, or a waiter, before it is judged: the breaks that it begins.
-ghost use Rattle.std.specs.Prelude.{◌≡◌, ◌+◌, ◌<◌, ◌≤◌, ◌^◌, false, OnOk, IfOk};
+ghost use Rattle.std.specs.Prelude.{◌≡◌, ◌+◌, ◌<◌, ◌≤◌, ◌^◌, List, [], false, OnOk, IfOk};
 ghost use Rattle.std.specs.List.{AllByRecursion};
 ghost use Rattle.xl_base.specs.Limits.{numbers_left};
 ghost use Rattle.xl_table.specs.Held.{is_cache};
 ghost use Rattle.xl_table.specs.Relock.{most_claims};
 ghost use Rattle.xl_cache.specs.BreakPlans.{planned};
+ghost use Rattle.xl_wait.specs.declared.waiter.Waiter.{Waiter};
 ghost use Rattle.xl_core.specs.Good.{IsGood};
 ghost use Rattle.xl_core.specs.Ways.{begins, made_way};
 ghost use Rattle.xl_core.specs.Whole.{state_of};
@@ -28,7 +29,7 @@ fn begins(
     plan: &BreakPlan,
 ) -> Result<bool, AllocError>
     requires plan { planned claim.now parts.now.table ≡ plan.now }
-    ensures { IfOk result (λ b. b ≡ begins plea.now claim.now parts.now.table) }
+    ensures { IfOk result (λ b. b ≡ begins [] plea.now claim.now (state_of parts.now)) }
 {
     if plea.reclaim || is_stopped(alloc, parts, claim)? {
         return Ok(false);
@@ -48,7 +49,7 @@ pub(crate) fn make_way(
     requires good { IsGood (state_of parts.old) }
     requires locks { AllByRecursion (λ c. is_cache c.what ≡ false) claims.now }
     requires numbers { parts.old.counter + numbers_left < 2 ^ 32 }
-    ensures way { IfOk result (λ told. made_way plea.now claims.now (state_of parts.old) ≡ (told, state_of parts.new)) }
+    ensures way { (earlier : List Waiter) → IfOk result (λ told. made_way earlier plea.now claims.now (state_of parts.old) ≡ (told, state_of parts.new)) }
     ensures few { OnOk result (parts.new.counter ≤ parts.old.counter + most_claims) }
     ensures queue { parts.new.queue ≡ parts.old.queue }
     ensures names { parts.new.names ≡ parts.old.names }

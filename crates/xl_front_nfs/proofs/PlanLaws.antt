@@ -54,11 +54,11 @@ look_ends files l (Some file) name =
       ])
     ]
 
-renew_ends : (s : CoreState) (l : NfsLists) (current o : Option ℕ) → Ends 30 current (renew_number s l current o)
-renew_ends s l current None = (plain_30 statuses.StaleClientId, λ _. refl)
-renew_ends s l current (Some number) = by (find (is_client number true) l.clients)
+renew_ends : (l : NfsLists) (current o : Option ℕ) → Ends 30 current (renew_number l current o)
+renew_ends l current None = (plain_30 statuses.StaleClientId, λ _. refl)
+renew_ends l current (Some number) = by (find (is_client number true) l.clients)
   where
-    by : (o : Option ClientRow) → Ends 30 current (renew_found s l current number o)
+    by : (o : Option ClientRow) → Ends 30 current (renew_found l current o)
     by None = (plain_30 statuses.StaleClientId, λ _. refl)
     by (Some r) = (plain_30 statuses.Ok, λ _. refl)
 
@@ -77,12 +77,12 @@ over_ends s l current number r (Some o) =
       | inr e ↦ rw e (plain_36 statuses.Ok, λ _. refl)
     ]
 
-held_ends : (s : CoreState) (l : NfsLists) (current : Option ℕ) (number : ℕ) (verifier : List ℕ) (o : Option ClientRow) → Ends 36 current (confirm_held s l current number verifier o)
-held_ends s l current number verifier None = (plain_36 statuses.StaleClientId, λ _. refl)
-held_ends s l current number verifier (Some r) = (plain_36 (if bytes_eq r.details.confirm verifier then statuses.Ok else statuses.StaleClientId), λ _. refl)
+held_ends : (l : NfsLists) (current : Option ℕ) (verifier : List ℕ) (o : Option ClientRow) → Ends 36 current (confirm_held l current verifier o)
+held_ends l current verifier None = (plain_36 statuses.StaleClientId, λ _. refl)
+held_ends l current verifier (Some r) = (plain_36 (if bytes_eq r.details.confirm verifier then statuses.Ok else statuses.StaleClientId), λ _. refl)
 
 confirmed_ends : (s : CoreState) (l : NfsLists) (current : Option ℕ) (number : ℕ) (verifier : List ℕ) (o : Option ClientRow) → Ends 36 current (confirm_found s l current number verifier o)
-confirmed_ends s l current number verifier None = held_ends s l current number verifier (find (is_client number true) l.clients)
+confirmed_ends s l current number verifier None = held_ends l current verifier (find (is_client number true) l.clients)
 confirmed_ends s l current number verifier (Some r) = over_ends s (without_number number l) current number r (find (is_client_named r.id true) (without_number number l).clients)
 
 number_ends : (s : CoreState) (l : NfsLists) (current : Option ℕ) (verifier : List ℕ) (o : Option ℕ) → Ends 36 current (confirm_number s l current verifier o)
@@ -99,7 +99,7 @@ plan_ends files others s l current (SetClientId a) le =
     let m = without_named a.id l in
     set_ends s m current a (number_kept a.verifier (find (is_client_named a.id true) m.clients))
 plan_ends files others s l current (SetClientIdConfirm a) le = number_ends s l current a.verifier (number_in s a.clientid)
-plan_ends files others s l current (Renew clientid) le = renew_ends s l current (number_in s clientid)
+plan_ends files others s l current (Renew clientid) le = renew_ends l current (number_in s clientid)
 plan_ends files others s l current (Open a) le = open_ends files others s l current a
 plan_ends files others s l current (OpenConfirm a) le = confirm_ends s l current a
 plan_ends files others s l current (OpenDowngrade a) le = downgrade_ends s l current a

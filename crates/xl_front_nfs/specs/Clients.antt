@@ -9,31 +9,31 @@ use Rattle.xl_nfs.specs.Clients.{SetClientIdArgsItem}
 use Rattle.xl_nfs.specs.declared.clients.ClientConfirm.{ClientConfirm}
 use Rattle.xl_nfs.specs.declared.status.NfsStatus.TheVariants.{Ok, Resource, StaleClientId}
 use Rattle.xl_nfs_state.specs.Filed.{changed}
-use Rattle.xl_nfs_state.specs.Rows.{with_details, with_time}
+use Rattle.xl_nfs_state.specs.Rows.{with_details}
 use Rattle.xl_nfs_state.specs.State.{NfsLists, with_clients, without, without_client, is_client, is_client_named, most_clients}
 use Rattle.xl_nfs_state.specs.declared.client.ClientDetails.{ClientDetails}
 use Rattle.xl_nfs_state.specs.declared.client.ClientRow.{ClientRow}
 use Rattle.xl_core.specs.Askers.{party_named}
 use Rattle.xl_core.specs.Deeds.{Deed, Draws, Ends, Renews}
+use Rattle.xl_core.specs.Leases.{moment_after}
 use Rattle.xl_core.specs.State.{CoreState}
 use Rattle.xl_core.specs.Ids.{id_of, number_in}
-use Rattle.xl_nfs_opens.specs.Leases.{lease_end, renewed}
 use Rattle.xl_plan.specs.Plans.{Tells, Does}
 use Rattle.xl_nfs_opens.specs.Plans.{Plan}
 use Rattle.xl_nfs_opens.specs.declared.told.Told.TheVariants.{Ended, Client}
 
 -- ---- RENEW (16.28)
 
-abbrev pub renew_found : CoreState → NfsLists → Option ℕ → ℕ → Option ClientRow → Plan
-renew_found s l current number None = Tells (Ended StaleClientId, current)
-renew_found s l current number (Some r) = Does (Renews r.id ∷ []) (renewed (lease_end s) number l) (Ended Ok, current)
+abbrev pub renew_found : NfsLists → Option ℕ → Option ClientRow → Plan
+renew_found l current None = Tells (Ended StaleClientId, current)
+renew_found l current (Some r) = Does (Renews r.id ∷ []) l (Ended Ok, current)
 
-abbrev pub renew_number : CoreState → NfsLists → Option ℕ → Option ℕ → Plan
-renew_number s l current None = Tells (Ended StaleClientId, current)
-renew_number s l current (Some number) = renew_found s l current number (find (is_client number true) l.clients)
+abbrev pub renew_number : NfsLists → Option ℕ → Option ℕ → Plan
+renew_number l current None = Tells (Ended StaleClientId, current)
+renew_number l current (Some number) = renew_found l current (find (is_client number true) l.clients)
 
 unfoldable pub renew : CoreState → NfsLists → Option ℕ → ℕ → Plan
-renew s l current clientid = renew_number s l current (number_in s clientid)
+renew s l current clientid = renew_number l current (number_in s clientid)
 
 -- ---- SETCLIENTID (16.33)
 
@@ -53,6 +53,10 @@ without_named id l = without_found l (find (is_client_named id false) l.clients)
 abbrev pub number_kept : List ℕ → Option ClientRow → Option ℕ
 number_kept verifier None = None
 number_kept verifier (Some r) = if bytes_eq r.details.verifier verifier then Some r.number else None
+
+-- when a record goes that comes now, if it isn't confirmed before
+abbrev pub record_end : CoreState → Moment
+record_end s = moment_after s.clock s.times.lease
 
 -- a record that goes at this time, if it isn't confirmed before, and is confirmed by that number
 abbrev pub details_of : Moment → SetClientIdArgsItem → ℕ → ClientDetails
@@ -94,7 +98,7 @@ set_under time l a number confirm = with_row (without_number number l) (row_of t
 -- numbers are drawn if there is room
 abbrev pub set_by : CoreState → NfsLists → Option ℕ → SetClientIdArgsItem → Option ℕ → Plan
 set_by s l current a kept =
-    if has_room l then Does (draws kept) (set_under (lease_end s) l a (numbers s.counter kept).0 (numbers s.counter kept).1) (Client (confirm_of s (numbers s.counter kept).0 (numbers s.counter kept).1), current)
+    if has_room l then Does (draws kept) (set_under (record_end s) l a (numbers s.counter kept).0 (numbers s.counter kept).1) (Client (confirm_of s (numbers s.counter kept).0 (numbers s.counter kept).1), current)
     else Does [] l (Ended Resource, current)
 
 abbrev pub set_beside : CoreState → NfsLists → Option ℕ → SetClientIdArgsItem → Plan
@@ -113,32 +117,31 @@ ends None = []
 ends (Some party) = Ends party ∷ []
 
 -- the record once it is confirmed, under this number
-abbrev pub confirmed_row : Moment → ℕ → ClientRow → ClientRow
-confirmed_row time number r = with_time time (record { number = number; confirmed = true; id = r.id; details = r.details })
+abbrev pub confirmed_row : ℕ → ClientRow → ClientRow
+confirmed_row number r = record { number = number; confirmed = true; id = r.id; details = r.details }
 
 -- the client comes; nothing that stood under its number before stays
-abbrev pub come : Moment → NfsLists → ℕ → ClientRow → NfsLists
-come time l number r = with_row (without_client number l) (confirmed_row time number r)
+abbrev pub come : NfsLists → ℕ → ClientRow → NfsLists
+come l number r = with_row (without_client number l) (confirmed_row number r)
 
 -- the same client again: it keeps what it has, except for what its record says (NFS-12)
-abbrev pub come_again : Moment → NfsLists → ℕ → ClientRow → NfsLists
-come_again time l number r = with_clients l (changed (is_client number true) (with_details (confirmed_row time number r).details) l.clients)
+abbrev pub come_again : NfsLists → ℕ → ClientRow → NfsLists
+come_again l number r = with_clients l (changed (is_client number true) (with_details r.details) l.clients)
 
 -- of another client of the same id string all goes (NFS-12)
 abbrev pub confirm_over : CoreState → NfsLists → Option ℕ → ℕ → ClientRow → Option ClientRow → Plan
-confirm_over s l current number r None = Does (Renews r.id ∷ []) (come (lease_end s) l number r) (Ended Ok, current)
+confirm_over s l current number r None = Does (Renews r.id ∷ []) (come l number r) (Ended Ok, current)
 confirm_over s l current number r (Some o) =
-    if o.number == number then Does (Renews r.id ∷ []) (come_again (lease_end s) l number r) (Ended Ok, current)
-    else Does (ends (party_named s.names (NfsParty r.id)) ++ Renews r.id ∷ []) (come (lease_end s) (without_client o.number l) number r) (Ended Ok, current)
+    if o.number == number then Does (Renews r.id ∷ []) (come_again l number r) (Ended Ok, current)
+    else Does (ends (party_named s.names (NfsParty r.id)) ++ Renews r.id ∷ []) (come (without_client o.number l) number r) (Ended Ok, current)
 
 abbrev pub confirm_beside : CoreState → NfsLists → Option ℕ → ℕ → ClientRow → Plan
 confirm_beside s l current number r = confirm_over s l current number r (find (is_client_named r.id true) l.clients)
 
 -- a confirmed client is named, and its lease runs, whether this verifier is the one that confirmed it or not (NFS-13)
-abbrev pub confirm_held : CoreState → NfsLists → Option ℕ → ℕ → List ℕ → Option ClientRow → Plan
-confirm_held s l current number verifier None = Tells (Ended StaleClientId, current)
-confirm_held s l current number verifier (Some r) =
-    Does (Renews r.id ∷ []) (renewed (lease_end s) number l) (Ended (if bytes_eq r.details.confirm verifier then Ok else StaleClientId), current)
+abbrev pub confirm_held : NfsLists → Option ℕ → List ℕ → Option ClientRow → Plan
+confirm_held l current verifier None = Tells (Ended StaleClientId, current)
+confirm_held l current verifier (Some r) = Does (Renews r.id ∷ []) l (Ended (if bytes_eq r.details.confirm verifier then Ok else StaleClientId), current)
 
 -- the record, if this verifier confirms it
 abbrev pub confirmed_by : List ℕ → Option ClientRow → Option ClientRow
@@ -147,7 +150,7 @@ confirmed_by verifier (Some r) = if bytes_eq r.details.confirm verifier then Som
 
 -- an unconfirmed record that is confirmed becomes the confirmed one (NFS-12)
 abbrev pub confirm_found : CoreState → NfsLists → Option ℕ → ℕ → List ℕ → Option ClientRow → Plan
-confirm_found s l current number verifier None = confirm_held s l current number verifier (find (is_client number true) l.clients)
+confirm_found s l current number verifier None = confirm_held l current verifier (find (is_client number true) l.clients)
 confirm_found s l current number verifier (Some r) = confirm_beside s (without_number number l) current number r
 
 abbrev pub confirm_number : CoreState → NfsLists → Option ℕ → List ℕ → Option ℕ → Plan

@@ -9,20 +9,20 @@ use std::alloc::{AllocError, Global};
 use xl_base::Sequence;
 use xl_core::{Core, number_in};
 use xl_nfs::NfsStatus;
-use xl_nfs_opens::{Done, Told, ended_as, lease_end, renewed};
+use xl_nfs_opens::{Done, Told, ended_as, renewed};
 use xl_nfs_state::NfsState;
 
 /// RENEW.
 #[tactic(auto, unfolding(crate::specs::Clients::renew), using(xl_plan::proofs::BudgetLaws::leaves_self, crate::proofs::ClientLaws::renew_done))]
 pub(crate) fn renew(
     alloc: Global,
-    state: &mut NfsState,
+    state: &NfsState,
     core: &mut Core,
     current: Option<u32>,
     clientid: u64,
 ) -> Result<Done, AllocError>
     requires ready { IsReady 0 core.old }
-    ensures done { (n : ℕ) → IfOk result (λ r. carried n core.old state.old (renew core.old state.old current clientid) ≡ (r.0, r.1, r.2, state.new, core.new)) }
+    ensures done { (n : ℕ) → IfOk result (λ r. carried n core.old state.now (renew core.old state.now current clientid) ≡ (r.0, r.1, r.2, state.now, core.new)) }
     ensures leaves { OnOk result (Leaves 0 core.old core.new) }
 {
     let Some(number) = number_in(core, clientid) else {
@@ -31,8 +31,6 @@ pub(crate) fn renew(
     let Some(row) = state.find_client(number, true) else {
         return Ok(ended_as(alloc, NfsStatus::StaleClientId, current));
     };
-    let time = lease_end(core);
     renewed(alloc, core, row.id.as_slice())?;
-    state.renew_client(number, time);
     Ok((Told::Ended(NfsStatus::Ok), current, Sequence::new(alloc)))
 }

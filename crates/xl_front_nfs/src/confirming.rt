@@ -14,42 +14,33 @@ ghost use Rattle.xl_nfs_opens.specs.Short.{Leaves};
 use crate::ending::ended;
 use crate::rows::{confirmed_by, drop_number, enter, forget, number_named};
 use std::alloc::{AllocError, Global};
-use xl_base::{Moment, Sequence};
+use xl_base::Sequence;
 use xl_core::{Core, Effect, number_in};
 use xl_nfs::{ClientConfirm, NfsStatus};
-use xl_nfs_opens::{Done, Told, ended_as, lease_end, renewed};
+use xl_nfs_opens::{Done, Told, ended_as, renewed};
 use xl_nfs_state::{ClientRow, NfsState};
 
 /// The client comes under this number, if there is room and none has its id string.
-fn come(
-    alloc: Global,
-    state: &mut NfsState,
-    number: u32,
-    row: ClientRow,
-    time: Moment,
-) -> Result<(), AllocError>
+fn come(alloc: Global, state: &mut NfsState, number: u32, row: ClientRow) -> Result<(), AllocError>
     requires room { length state.old.clients < most_clients }
     requires free { find (is_client_named row.id true) state.old.clients ≡ None }
-    ensures { OnOk result (state.new ≡ come time state.old number row) }
+    ensures { OnOk result (state.new ≡ come state.old number row) }
 {
     forget(state, number);
     let mut confirmed = row;
     confirmed.number = number;
     confirmed.confirmed = true;
-    confirmed.details.time = time;
     enter(alloc, state, confirmed)?;
     Ok(())
 }
 
 /// The client that has this number already says anew what its record says.
 #[tactic(auto, using(crate::proofs::RowLaws::number_under))]
-fn come_again(state: &mut NfsState, number: u32, row: ClientRow, time: Moment)
+fn come_again(state: &mut NfsState, number: u32, row: ClientRow)
     requires there { option_map (λ r. r.number) (find (is_client_named row.id true) state.old.clients) ≡ Some number }
-    ensures { state.new ≡ come_again time state.old number row }
+    ensures { state.new ≡ come_again state.old number row }
 {
-    let ClientRow { mut details, .. } = row;
-    details.time = time;
-    state.change_client(number, true, details);
+    state.change_client(number, true, row.details);
 }
 
 /// The lease of the client of this id string runs from now on, and what it had before goes, if it was another client.
@@ -84,9 +75,8 @@ fn confirm_first(
     ensures done { (n : ℕ) → IfOk result (λ r. carried n core.old state.old (confirm_beside core.old state.old current number row) ≡ (r.0, r.1, r.2, state.new, core.new)) }
     ensures leaves { OnOk result (Leaves 0 core.old core.new) }
 {
-    let time = lease_end(core);
     renewed(alloc, core, row.id.as_slice())?;
-    come(alloc, state, number, row, time)?;
+    come(alloc, state, number, row)?;
     Ok((Told::Ended(NfsStatus::Ok), current, Sequence::new(alloc)))
 }
 
@@ -104,9 +94,8 @@ fn confirm_again(
     ensures done { (n : ℕ) → IfOk result (λ r. carried n core.old state.old (confirm_beside core.old state.old current number row) ≡ (r.0, r.1, r.2, state.new, core.new)) }
     ensures leaves { OnOk result (Leaves 0 core.old core.new) }
 {
-    let time = lease_end(core);
     renewed(alloc, core, row.id.as_slice())?;
-    come_again(state, number, row, time);
+    come_again(state, number, row);
     Ok((Told::Ended(NfsStatus::Ok), current, Sequence::new(alloc)))
 }
 
@@ -127,10 +116,9 @@ fn confirm_anew(
     ensures done { (n : ℕ) → IfOk result (λ r. carried n core.old state.old (confirm_beside core.old state.old current number row) ≡ (r.0, r.1, r.2, state.new, core.new)) }
     ensures leaves { OnOk result (Leaves 0 core.old core.new) }
 {
-    let time = lease_end(core);
     let effects = ended_and_renewed(alloc, core, row.id.as_slice())?;
     forget(state, old);
-    come(alloc, state, number, row, time)?;
+    come(alloc, state, number, row)?;
     Ok((Told::Ended(NfsStatus::Ok), current, effects))
 }
 
@@ -171,23 +159,21 @@ fn held_status(row: &ClientRow, verifier: &[u8; 8]) -> NfsStatus
 #[tactic(auto, using(xl_plan::proofs::BudgetLaws::leaves_self))]
 fn confirm_held(
     alloc: Global,
-    state: &mut NfsState,
+    state: &NfsState,
     core: &mut Core,
     current: Option<u32>,
     number: u32,
     verifier: &[u8; 8],
 ) -> Result<Done, AllocError>
     requires ready { IsReady 0 core.old }
-    ensures done { (n : ℕ) → IfOk result (λ r. carried n core.old state.old (confirm_held core.old state.old current number verifier.now (find (is_client number true) state.old.clients)) ≡ (r.0, r.1, r.2, state.new, core.new)) }
+    ensures done { (n : ℕ) → IfOk result (λ r. carried n core.old state.now (confirm_held state.now current verifier.now (find (is_client number true) state.now.clients)) ≡ (r.0, r.1, r.2, state.now, core.new)) }
     ensures leaves { OnOk result (Leaves 0 core.old core.new) }
 {
     let Some(row) = state.find_client(number, true) else {
         return Ok(ended_as(alloc, NfsStatus::StaleClientId, current));
     };
     let status = held_status(row, verifier);
-    let time = lease_end(core);
     renewed(alloc, core, row.id.as_slice())?;
-    state.renew_client(number, time);
     Ok((Told::Ended(status), current, Sequence::new(alloc)))
 }
 

@@ -4,7 +4,7 @@ ghost use Rattle.std.specs.List.{find};
 ghost use Rattle.xl_nfs.specs.Clients.{shown_set_client_id_args};
 ghost use Rattle.xl_nfs_state.specs.State.{is_client_named};
 ghost use Rattle.xl_core.specs.Deeds.{all_done, all_told_of};
-ghost use Rattle.xl_front_nfs.specs.Clients.{number_kept, numbers, draws, row_of, confirm_of, has_room, set_under, set_beside, set_client_id};
+ghost use Rattle.xl_front_nfs.specs.Clients.{number_kept, numbers, draws, record_end, row_of, confirm_of, has_room, set_under, set_beside, set_client_id};
 ghost use Rattle.xl_nfs_opens.specs.Plans.{carried};
 ghost use Rattle.xl_plan.specs.Budgets.{IsReady};
 ghost use Rattle.xl_nfs_opens.specs.Short.{Leaves};
@@ -14,7 +14,7 @@ use std::alloc::{AllocError, Global};
 use xl_base::{Moment, Sequence};
 use xl_core::{Core, id_of};
 use xl_nfs::{ClientConfirm, NfsStatus, SetClientIdArgs};
-use xl_nfs_opens::{Done, Told, drawn, ended_as, lease_end};
+use xl_nfs_opens::{Done, Told, drawn, ended_as};
 use xl_nfs_state::{Callback, ClientDetails, ClientRow, NfsState};
 
 /// The number that the client has already, if its confirmed record has the verifier.
@@ -42,6 +42,13 @@ fn draw_numbers(core: &mut Core, kept: Option<u32>) -> (u32, u32)
         Some(number) => (number, first),
         None => (first, drawn(core)),
     }
+}
+
+/// When a record goes that comes now, if it isn't confirmed before.
+fn record_end(core: &Core) -> Moment
+    ensures { result ≡ record_end core.now }
+{
+    Moment(core.clock().0.saturating_add(core.times().lease))
 }
 
 /// The record under this number.
@@ -118,7 +125,7 @@ fn set_beside(
     if !has_room(state) {
         return Ok(ended_as(alloc, NfsStatus::Resource, current));
     }
-    let time = lease_end(core);
+    let time = record_end(core);
     let kept = number_kept(state, args);
     let (number, confirm) = draw_numbers(core, kept);
     set_under(alloc, state, args, number, confirm, time)?;

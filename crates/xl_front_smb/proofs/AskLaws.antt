@@ -107,4 +107,4 @@ pub queued_after : (n : ℕ) (left : Rooms) (s : CoreState) (a : Ask) (id : ℕ)
 unfolding ask before_wish
 queued_after n left s a id good client at =
     let t = (way left s a).1 in
-    omega (arith, way_number t a (decided n left t a) id (decided_way n left t a (asked_way_good left s a good) client) at, (made_way_frame (plea_of left s a) (asked_claims a (asked_whats a.act) s.names) s).counter)
+    omega (arith, way_number t a (decided n left t a) id (decided_way n left t a (asked_way_good left s a good) client) at, (made_way_frame s.waiters (plea_of left s a) (asked_claims a (asked_whats a.act) s.names) s).counter)

@@ -132,7 +132,7 @@ both_quiet (x ∷ xs) ys none rest =
 -- an ask tells of the breaks that it begins alone
 pub asked_quiet : (n : ℕ) (left : Rooms) (s : CoreState) (a : Ask) → IsGood s → is_client a.owner a.party ≡ true → grants (ask n left s a).1 ≡ 0
 asked_quiet n left s a good client =
-    ap (λ (effects : List Effect). grants effects) (ask_quiet n left s a good client) ∙ unserved_quiet (way left s a).0 (way_serves (plea_of left s a) (asked_claims a (asked_whats a.act) s.names) s)
+    ap (λ (effects : List Effect). grants effects) (ask_quiet n left s a good client) ∙ unserved_quiet (way left s a).0 (way_serves s.waiters (plea_of left s a) (asked_claims a (asked_whats a.act) s.names) s)
 
 deed_quiet : (n : ℕ) (s : CoreState) (number : ℕ) (bytes : List ℕ) (d : Deed) → IsGood s → IsFitDeed s d → may_do (Message number bytes) d ≡ true → grants (given n s d).1 ≡ 0
 deed_quiet n s number bytes (Asks left a) good fit may = asked_quiet n left s a good fit.party

@@ -24,7 +24,7 @@ use Rattle.xl_nfs_opens.specs.Closing.{checked, done_lists, failed_lists, next_s
 use Rattle.xl_core.specs.Ids.{number_in}
 use Rattle.xl_nfs_opens.specs.Opens.{client_in, freed, is_granted, stood}
 use Rattle.xl_nfs_opens.specs.Plans.{carried, status_of}
-use Rattle.xl_nfs_opens.specs.Renewing.{renewed_for, state_client, stateid_of}
+use Rattle.xl_nfs_opens.specs.Renewing.{state_client, stateid_of}
 use Rattle.xl_nfs_opens.specs.Results.{spelled}
 use Rattle.xl_nfs_opens.specs.Seqids.{advances, is_room_for, opener_number}
 use Rattle.xl_nfs_opens.specs.declared.opener.Checked.{Checked}
@@ -104,8 +104,7 @@ known_by last s l current a x (Passed r owner seqids) passed set = standing_calm
 known_calm : (last : ℕ) (s : CoreState) (l : NfsLists) (current : Option ℕ) (a : LockArgsItem) (x : KnownLocker) → AreSet last l → IsCalm last l (lock_known s l current a x)
 unfolding lock_known
 known_calm last s l current a x set =
-    let m : NfsLists = renewed_for s l (state_client s l x.stateid) in
-    renewing_calm last s l (state_client s l x.stateid) (λ t k. lock_found t k current a x (locks_found t k current 12 x.seqid x.stateid)) set (λ t le after. known_by t.counter t m current a x (locks_found t m current 12 x.seqid x.stateid) (found_passed t m current 12 x.seqid x.stateid) after)
+    renewing_calm last l (state_client s l x.stateid) (λ t. lock_found t l current a x (locks_found t l current 12 x.seqid x.stateid)) set (λ t le after. known_by t.counter t l current a x (locks_found t l current 12 x.seqid x.stateid) (found_passed t l current 12 x.seqid x.stateid) after)
 
 -- ---- LOCK by an owner under an open
 
@@ -190,14 +189,12 @@ join_checked_calm last s l current a x (Passed r owner seqids) passed set = join
 named_calm : (last : ℕ) (s : CoreState) (l : NfsLists) (current : Option ℕ) (a : LockArgsItem) (x : NewLockerItem) → AreSet last l → IsCalm last l (first.lock_named s l current a x)
 unfolding first.lock_named
 named_calm last s l current a x set =
-    let m : NfsLists = renewed_for s l (number_in s x.owner.clientid) in
-    renewing_calm last s l (number_in s x.owner.clientid) (λ t k. first.join_checked t k current a x (checked t k current 12 x.open_seqid x.open_stateid)) set (λ t le after. join_checked_calm t.counter t m current a x (checked t m current 12 x.open_seqid x.open_stateid) (checked_passed t m current 12 x.open_seqid x.open_stateid) after)
+    renewing_calm last l (number_in s x.owner.clientid) (λ t. first.join_checked t l current a x (checked t l current 12 x.open_seqid x.open_stateid)) set (λ t le after. join_checked_calm t.counter t l current a x (checked t l current 12 x.open_seqid x.open_stateid) (checked_passed t l current 12 x.open_seqid x.open_stateid) after)
 
 first_calm : (last : ℕ) (s : CoreState) (l : NfsLists) (current : Option ℕ) (a : LockArgsItem) (x : NewLockerItem) → AreSet last l → IsCalm last l (first.lock_new s l current a x)
 unfolding first.lock_new
 first_calm last s l current a x set =
-    let m : NfsLists = renewed_for s l (state_client s l x.open_stateid) in
-    renewing_calm last s l (state_client s l x.open_stateid) (λ t k. first.lock_named t k current a x) set (λ t le after. named_calm t.counter t m current a x after)
+    renewing_calm last l (state_client s l x.open_stateid) (λ t. first.lock_named t l current a x) set (λ t le after. named_calm t.counter t l current a x after)
 
 lock_calm : (last : ℕ) (s : CoreState) (l : NfsLists) (current : Option ℕ) (a : LockArgsItem) → AreSet last l → IsCalm last l (first.lock s l current a)
 unfolding first.lock
@@ -228,8 +225,7 @@ test_at_calm last s l a (Some at) set =
 test_calm : (last : ℕ) (s : CoreState) (l : NfsLists) (current : Option ℕ) (a : LockTestArgsItem) → AreSet last l → IsCalm last l (lock_test s l current a)
 unfolding lock_test
 test_calm last s l current a set =
-    let m : NfsLists = renewed_for s l (number_in s a.owner.clientid) in
-    renewing_calm last s l (number_in s a.owner.clientid) (λ t k. test_at t k a current) set (λ t le after. test_at_calm t.counter t m a current after)
+    renewing_calm last l (number_in s a.owner.clientid) (λ t. test_at t l a current) set (λ t le after. test_at_calm t.counter t l a current after)
 
 unlocked_calm : (last : ℕ) (s : CoreState) (l : NfsLists) (current : Option ℕ) (a : UnlockArgs) (r : StateidRow) (owner : ℕ) (seqids : SeqidState) (status : NfsStatus) → IsPassed l r owner seqids → AreSet last l → IsCalm last l (unlocked_as s l current a r owner seqids status)
 unlocked_calm last s l current a r owner seqids status passed set =
@@ -258,8 +254,7 @@ unlock_by last s l current a (Passed r owner seqids) passed set = unlock_standin
 unlock_calm : (last : ℕ) (s : CoreState) (l : NfsLists) (current : Option ℕ) (a : UnlockArgs) → AreSet last l → IsCalm last l (unlock s l current a)
 unfolding unlock
 unlock_calm last s l current a set =
-    let m : NfsLists = renewed_for s l (state_client s l a.stateid) in
-    renewing_calm last s l (state_client s l a.stateid) (λ t k. unlock_found t k current a (locks_found t k current 14 a.seqid a.stateid)) set (λ t le after. unlock_by t.counter t m current a (locks_found t m current 14 a.seqid a.stateid) (found_passed t m current 14 a.seqid a.stateid) after)
+    renewing_calm last l (state_client s l a.stateid) (λ t. unlock_found t l current a (locks_found t l current 14 a.seqid a.stateid)) set (λ t le after. unlock_by t.counter t l current a (locks_found t l current 14 a.seqid a.stateid) (found_passed t l current 14 a.seqid a.stateid) after)
 
 released_still : (last : ℕ) (l : NfsLists) (o : Option OwnerRow) → AreSet last l → AreStill last l (without_found l o)
 released_still last l None set = still_self last l set
@@ -278,8 +273,7 @@ release_of_calm last s l current owner (Some c) set =
 release_calm : (last : ℕ) (s : CoreState) (l : NfsLists) (current : Option ℕ) (a : OwnerItem) → AreSet last l → IsCalm last l (release s l current a)
 unfolding release
 release_calm last s l current a set =
-    let m : NfsLists = renewed_for s l (number_in s a.clientid) in
-    renewing_calm last s l (number_in s a.clientid) (λ t k. release_of t k current a.owner (client_in t k a.clientid)) set (λ t le after. release_of_calm t.counter t m current a.owner (client_in t m a.clientid) after)
+    renewing_calm last l (number_in s a.clientid) (λ t. release_of t l current a.owner (client_in t l a.clientid)) set (λ t le after. release_of_calm t.counter t l current a.owner (client_in t l a.clientid) after)
 
 -- ---- each operation
 

@@ -43,19 +43,18 @@ use Rattle.xl_nfs_opens.specs.Opens.{gives, repeated, rights_of, share_by, share
 use Rattle.xl_nfs_laws.specs.Orderly.{IsOrderly}
 use Rattle.xl_plan.specs.Plans.{Tells, Does, Behind, Asking, deeds_of}
 use Rattle.xl_nfs_opens.specs.Plans.{Plan, carried}
-use Rattle.xl_nfs_opens.specs.Renewing.{renewals, renewals_by, renewed_for, renewing, state_client}
+use Rattle.xl_nfs_opens.specs.Renewing.{renewals, renewals_by, renewing, state_client}
 use Rattle.xl_nfs_opens.specs.Results.{spelled}
 use Rattle.xl_nfs_opens.specs.declared.opener.Checked.{Checked}
 use Rattle.xl_nfs_opens.specs.declared.opener.Checked.TheVariants.{Refused, Repeated, Passed}
 use Rattle.xl_nfs_opens.specs.declared.opener.Opener.{Opener}
 use Rattle.xl_nfs_laws.proofs.CloseOwn.{close_own}
-use Rattle.xl_nfs_laws.proofs.OpenOrderLaws.{renewed_orderly}
 use Rattle.xl_nfs_laws.proofs.OpenNumberLaws.{deeds_rise, draws, parts_own}
 use Rattle.xl_nfs_opens.proofs.OpenOwn.{Owned, confirm_own, downgrade_own}
 use Rattle.xl_nfs_laws.proofs.ListOrderLaws.{all_marked, owned_by}
 use Rattle.xl_nfs_laws.proofs.PassedCheckLaws.{IfPassed, IsPassed, checked_passed}
 use Rattle.xl_nfs_laws.proofs.QuietCacheLaws.{IsQuiet, IsQuietDeed, all_quiet, one_quiet}
-use Rattle.xl_nfs_laws.proofs.StillDelegatedLaws.{AreStill, counted_still, failed_still, later_set, locks_still, none_shut, owner_shut, renewed_still, still_kept, still_self, still_then, stood_still}
+use Rattle.xl_nfs_laws.proofs.StillDelegatedLaws.{AreStill, counted_still, failed_still, later_set, locks_still, none_shut, owner_shut, still_kept, still_self, still_then, stood_still}
 
 -- ---- plans
 
@@ -103,11 +102,8 @@ renewals_quiet l (Some number) = by (find (is_client number true) l.clients)
     by None = tt
     by (Some r) = (tt, tt)
 
-pub renewing_calm : (last : ℕ) (s : CoreState) (l : NfsLists) (who : Option ℕ) (rest : CoreState → NfsLists → Plan) → AreSet last l
-    → ((t : CoreState) → last ≤ t.counter → AreSet t.counter (renewed_for s l who) → IsCalm t.counter (renewed_for s l who) (rest t (renewed_for s l who))) → IsCalm last l (renewing s l who rest)
-renewing_calm last s l who rest set each =
-    let still = renewed_still last s l who set in
-    (renewals_quiet l who, still, λ t le. each t le (later_set last t.counter (renewed_for s l who) le still.set))
+pub renewing_calm : (last : ℕ) (l : NfsLists) (who : Option ℕ) (rest : CoreState → Plan) → AreSet last l → ((t : CoreState) → last ≤ t.counter → AreSet t.counter l → IsCalm t.counter l (rest t)) → IsCalm last l (renewing l who rest)
+renewing_calm last l who rest set each = (renewals_quiet l who, still_self last l set, λ t le. each t le (later_set last t.counter l le set))
 
 -- ---- requests on opens
 
@@ -202,8 +198,7 @@ confirm_by_calm last s l current a (Passed r owner seqids) passed set = confirm_
 confirm_calm : (last : ℕ) (s : CoreState) (l : NfsLists) (current : Option ℕ) (a : OpenConfirmArgs) → AreSet last l → IsCalm last l (open_confirm s l current a)
 unfolding open_confirm
 confirm_calm last s l current a set =
-    let m : NfsLists = renewed_for s l (state_client s l a.stateid) in
-    renewing_calm last s l (state_client s l a.stateid) (λ t k. confirm_by t k current a (checked t k current 20 a.seqid a.stateid)) set (λ t le after. confirm_by_calm t.counter t m current a (checked t m current 20 a.seqid a.stateid) (checked_passed t m current 20 a.seqid a.stateid) after)
+    renewing_calm last l (state_client s l a.stateid) (λ t. confirm_by t l current a (checked t l current 20 a.seqid a.stateid)) set (λ t le after. confirm_by_calm t.counter t l current a (checked t l current 20 a.seqid a.stateid) (checked_passed t l current 20 a.seqid a.stateid) after)
 
 downgrade_done_calm : (last : ℕ) (s : CoreState) (l : NfsLists) (current : Option ℕ) (a : OpenDowngradeArgs) (r : StateidRow) (owner : ℕ) (seqids : SeqidState) (x : Option NfsStatus) → IsPassed l r owner seqids → AreSet last l → IsCalm last l (downgrade_done s l current a r owner seqids x)
 downgrade_done_calm last s l current a r owner seqids (Some status) passed set = (tt, does_still last [] l (failed_lists l owner seqids 21 a.seqid status) (failed_still last l owner seqids 21 a.seqid status (passed_shut last l r owner seqids passed set) set))
@@ -221,8 +216,7 @@ downgrade_by_calm last s l current a (Passed r owner seqids) passed set = downgr
 downgrade_calm : (last : ℕ) (s : CoreState) (l : NfsLists) (current : Option ℕ) (a : OpenDowngradeArgs) → AreSet last l → IsCalm last l (open_downgrade s l current a)
 unfolding open_downgrade
 downgrade_calm last s l current a set =
-    let m : NfsLists = renewed_for s l (state_client s l a.stateid) in
-    renewing_calm last s l (state_client s l a.stateid) (λ t k. downgrade_by t k current a (checked t k current 21 a.seqid a.stateid)) set (λ t le after. downgrade_by_calm t.counter t m current a (checked t m current 21 a.seqid a.stateid) (checked_passed t m current 21 a.seqid a.stateid) after)
+    renewing_calm last l (state_client s l a.stateid) (λ t. downgrade_by t l current a (checked t l current 21 a.seqid a.stateid)) set (λ t le after. downgrade_by_calm t.counter t l current a (checked t l current 21 a.seqid a.stateid) (checked_passed t l current 21 a.seqid a.stateid) after)
 
 close_done_calm : (last : ℕ) (s : CoreState) (l : NfsLists) (current : Option ℕ) (a : CloseArgs) (r : StateidRow) (owner : ℕ) (seqids : SeqidState) (x : Option NfsStatus) → IsPassed l r owner seqids → IsOrderly l → AreSet last l → IsCalm last l (close_done s l current a r owner seqids x)
 close_done_calm last s l current a r owner seqids (Some status) passed orderly set = (tt, does_still last [] l (failed_lists l owner seqids 4 a.seqid status) (failed_still last l owner seqids 4 a.seqid status (passed_shut last l r owner seqids passed set) set))
@@ -244,8 +238,7 @@ close_by_calm last s l current a (Passed r owner seqids) passed orderly set = cl
 close_calm : (last : ℕ) (s : CoreState) (l : NfsLists) (current : Option ℕ) (a : CloseArgs) → IsOrderly l → AreSet last l → IsCalm last l (close s l current a)
 unfolding close
 close_calm last s l current a orderly set =
-    let m : NfsLists = renewed_for s l (state_client s l a.stateid) in
-    renewing_calm last s l (state_client s l a.stateid) (λ t k. close_by t k current a (checked t k current 4 a.seqid a.stateid)) set (λ t le after. close_by_calm t.counter t m current a (checked t m current 4 a.seqid a.stateid) (checked_passed t m current 4 a.seqid a.stateid) (renewed_orderly s l (state_client s l a.stateid) orderly) after)
+    renewing_calm last l (state_client s l a.stateid) (λ t. close_by t l current a (checked t l current 4 a.seqid a.stateid)) set (λ t le after. close_by_calm t.counter t l current a (checked t l current 4 a.seqid a.stateid) (checked_passed t l current 4 a.seqid a.stateid) orderly after)
 
 -- ---- each operation
 

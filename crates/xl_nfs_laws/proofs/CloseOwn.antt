@@ -15,7 +15,7 @@ use Rattle.xl_core.specs.State.{CoreState}
 use Rattle.xl_nfs_opens.specs.Closing.{checked, standing_fault, share_of_open, locks_under, ends_locks, close_done, close_by, close}
 use Rattle.xl_nfs_opens.specs.Opens.{gives}
 use Rattle.xl_nfs_opens.specs.Owners.{is_holder, Names}
-use Rattle.xl_nfs_opens.specs.Renewing.{state_client, renewed_for}
+use Rattle.xl_nfs_opens.specs.Renewing.{state_client}
 use Rattle.xl_nfs_opens.specs.declared.opener.Checked.{Checked}
 use Rattle.xl_nfs_opens.specs.declared.opener.Checked.TheVariants.{Refused, Repeated, Passed}
 use Rattle.xl_nfs_opens.proofs.OpenOwn.{Owned, by_append, repeat_own, gives_own, open_share, state_own, holder_as, by_number, checked_client}
@@ -39,8 +39,6 @@ close_by_own n s l current a Client (Passed r owner seqids) good each = close_do
 
 pub close_own : (n : ℕ) (s : CoreState) (l : NfsLists) (current : Option ℕ) (a : CloseArgs) → IsGood s → Owned n s (Names s l (Close a)) (close s l current a)
 unfolding close
-close_own n s l current a good = state_own n s l a.stateid (λ t m. close_by t m current a (checked t m current 4 a.seqid a.stateid)) good
-    (λ t stable left.
-    let m = renewed_for s l (state_client s l a.stateid) in
-    close_by_own n t m current a (λ id. is_holder s l a.stateid id) (checked t m current 4 a.seqid a.stateid) left
-    (λ r w v x e found. holder_as s t l (state_client s l a.stateid) a.stateid x.id stable (by_number m (state_client t m a.stateid) r.client x (checked_client t m current 4 a.seqid a.stateid r w v e) found)))
+close_own n s l current a good = state_own n s l a.stateid (λ t. close_by t l current a (checked t l current 4 a.seqid a.stateid)) good
+    (λ t stable left. close_by_own n t l current a (λ id. is_holder s l a.stateid id) (checked t l current 4 a.seqid a.stateid) left
+    (λ r w v x e found. holder_as s t l a.stateid x.id stable (by_number l (state_client t l a.stateid) r.client x (checked_client t l current 4 a.seqid a.stateid r w v e) found)))

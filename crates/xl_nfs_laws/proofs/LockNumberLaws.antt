@@ -23,13 +23,12 @@ use Rattle.xl_core.specs.Deeds.{Draws}
 use Rattle.xl_core.specs.Good.{IsGood}
 use Rattle.xl_core.specs.State.{CoreState, drawn}
 use Rattle.xl_core.specs.declared.ask.Answer.{Answer}
-use Rattle.xl_nfs_laws.proofs.OpenNumberLaws.{AreFew, carried_few, counted_given, does_few, done_given, draws, failed_given, later_on, less_given, remembered_given, renewed_given, repeat_few, stood_given, without_given}
+use Rattle.xl_nfs_laws.proofs.OpenNumberLaws.{AreFew, carried_few, counted_given, does_few, done_given, draws, failed_given, later_on, less_given, remembered_given, repeat_few, stood_given, without_given}
 use Rattle.xl_nfs_opens.specs.Closing.{checked, done_lists, failed_lists, next_seqids, opener_by, standing_fault, state_told}
-use Rattle.xl_core.specs.Ids.{number_in}
 use Rattle.xl_nfs_laws.specs.StateidNumbers.{AreGivenOut, StayGivenOut}
 use Rattle.xl_nfs_opens.specs.Opens.{client_in, is_granted, stood}
 use Rattle.xl_nfs_opens.specs.Plans.{carried, status_of}
-use Rattle.xl_nfs_opens.specs.Renewing.{renewed_for, state_client, stateid_of}
+use Rattle.xl_nfs_opens.specs.Renewing.{stateid_of}
 use Rattle.xl_nfs_opens.specs.Results.{spelled}
 use Rattle.xl_nfs_opens.specs.Seqids.{advances, is_room_for, opener_number}
 use Rattle.xl_nfs_opens.specs.declared.opener.Checked.{Checked}
@@ -85,10 +84,7 @@ known_by last s l current a x (Passed r owner seqids) given = standing_few last 
 
 known_few : (s : CoreState) (l : NfsLists) (current : Option ℕ) (a : LockArgsItem) (x : KnownLocker) → AreGivenOut s.counter l → AreFew s.counter (lock_known s l current a x)
 unfolding lock_known
-known_few s l current a x given =
-    let m : NfsLists = renewed_for s l (state_client s l x.stateid) in
-    let once : AreGivenOut s.counter m = renewed_given s.counter s l (state_client s l x.stateid) given in
-    (once, λ t le. known_by t.counter t m current a x (locks_found t m current 12 x.seqid x.stateid) (later_on s.counter t.counter m le once))
+known_few s l current a x given = (given, λ t le. known_by t.counter t l current a x (locks_found t l current 12 x.seqid x.stateid) (later_on s.counter t.counter l le given))
 
 -- ---- LOCK by an owner under an open
 
@@ -168,17 +164,11 @@ join_checked_few last s l current a x (Passed r owner seqids) given = join_stand
 
 named_few : (s : CoreState) (l : NfsLists) (current : Option ℕ) (a : LockArgsItem) (x : NewLockerItem) → AreGivenOut s.counter l → AreFew s.counter (first.lock_named s l current a x)
 unfolding first.lock_named
-named_few s l current a x given =
-    let m : NfsLists = renewed_for s l (number_in s x.owner.clientid) in
-    let once : AreGivenOut s.counter m = renewed_given s.counter s l (number_in s x.owner.clientid) given in
-    (once, λ t le. join_checked_few t.counter t m current a x (checked t m current 12 x.open_seqid x.open_stateid) (later_on s.counter t.counter m le once))
+named_few s l current a x given = (given, λ t le. join_checked_few t.counter t l current a x (checked t l current 12 x.open_seqid x.open_stateid) (later_on s.counter t.counter l le given))
 
 first_few : (s : CoreState) (l : NfsLists) (current : Option ℕ) (a : LockArgsItem) (x : NewLockerItem) → AreGivenOut s.counter l → AreFew s.counter (first.lock_new s l current a x)
 unfolding first.lock_new
-first_few s l current a x given =
-    let m : NfsLists = renewed_for s l (state_client s l x.open_stateid) in
-    let once : AreGivenOut s.counter m = renewed_given s.counter s l (state_client s l x.open_stateid) given in
-    (once, λ t le. named_few t m current a x (later_on s.counter t.counter m le once))
+first_few s l current a x given = (given, λ t le. named_few t l current a x (later_on s.counter t.counter l le given))
 
 pub lock_few : (s : CoreState) (l : NfsLists) (current : Option ℕ) (a : LockArgsItem) → AreGivenOut s.counter l → AreFew s.counter (first.lock s l current a)
 unfolding first.lock
@@ -208,10 +198,7 @@ test_at_few last s l a (Some at) given =
 
 pub test_few : (s : CoreState) (l : NfsLists) (current : Option ℕ) (a : LockTestArgsItem) → AreGivenOut s.counter l → AreFew s.counter (lock_test s l current a)
 unfolding lock_test
-test_few s l current a given =
-    let m : NfsLists = renewed_for s l (number_in s a.owner.clientid) in
-    let once : AreGivenOut s.counter m = renewed_given s.counter s l (number_in s a.owner.clientid) given in
-    (once, λ t le. test_at_few t.counter t m a current (later_on s.counter t.counter m le once))
+test_few s l current a given = (given, λ t le. test_at_few t.counter t l a current (later_on s.counter t.counter l le given))
 
 unlocked_few : (s : CoreState) (l : NfsLists) (current : Option ℕ) (a : UnlockArgs) (r : StateidRow) (owner : ℕ) (seqids : SeqidState) (status : NfsStatus) → AreGivenOut s.counter l → AreFew s.counter (unlocked_as s l current a r owner seqids status)
 unlocked_few s l current a r owner seqids status given =
@@ -239,10 +226,7 @@ unlock_by last s l current a (Passed r owner seqids) given = unlock_standing_few
 
 pub unlock_few : (s : CoreState) (l : NfsLists) (current : Option ℕ) (a : UnlockArgs) → AreGivenOut s.counter l → AreFew s.counter (unlock s l current a)
 unfolding unlock
-unlock_few s l current a given =
-    let m : NfsLists = renewed_for s l (state_client s l a.stateid) in
-    let once : AreGivenOut s.counter m = renewed_given s.counter s l (state_client s l a.stateid) given in
-    (once, λ t le. unlock_by t.counter t m current a (locks_found t m current 14 a.seqid a.stateid) (later_on s.counter t.counter m le once))
+unlock_few s l current a given = (given, λ t le. unlock_by t.counter t l current a (locks_found t l current 14 a.seqid a.stateid) (later_on s.counter t.counter l le given))
 
 found_given : (last : ℕ) (l : NfsLists) (o : Option OwnerRow) → AreGivenOut last l → AreGivenOut last (without_found l o)
 found_given last l None given = given
@@ -260,10 +244,7 @@ release_of_few last s l current owner (Some c) given =
 
 pub release_few : (s : CoreState) (l : NfsLists) (current : Option ℕ) (a : OwnerItem) → AreGivenOut s.counter l → AreFew s.counter (release s l current a)
 unfolding release
-release_few s l current a given =
-    let m : NfsLists = renewed_for s l (number_in s a.clientid) in
-    let once : AreGivenOut s.counter m = renewed_given s.counter s l (number_in s a.clientid) given in
-    (once, λ t le. release_of_few t.counter t m current a.owner (client_in t m a.clientid) (later_on s.counter t.counter m le once))
+release_few s l current a given = (given, λ t le. release_of_few t.counter t l current a.owner (client_in t l a.clientid) (later_on s.counter t.counter l le given))
 
 -- ---- each operation
 

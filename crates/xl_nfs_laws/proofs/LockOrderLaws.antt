@@ -29,18 +29,17 @@ use Rattle.xl_nfs_state.specs.declared.stateid.StateidRow.{StateidRow}
 use Rattle.xl_nfs_state.specs.declared.stateid.Whose.TheVariants as whose
 use Rattle.xl_core.specs.State.{CoreState, drawn}
 use Rattle.xl_core.specs.declared.ask.Answer.{Answer}
-use Rattle.xl_nfs_laws.proofs.OpenOrderLaws.{Keeps, IsSeated, apart_found, comes_orderly, counted_orderly, done_orderly, failed_orderly, live_is, none_of, remembered_orderly, renewed_orderly, repeat_keeps, seat_is, stood_orderly}
+use Rattle.xl_nfs_laws.proofs.OpenOrderLaws.{Keeps, IsSeated, apart_found, comes_orderly, counted_orderly, done_orderly, failed_orderly, live_is, none_of, remembered_orderly, repeat_keeps, seat_is, stood_orderly}
 use Rattle.xl_nfs_laws.proofs.KeptResultLaws.{gone_owners}
 use Rattle.xl_nfs_laws.proofs.OpenLaws.{kept_owners}
 use Rattle.xl_nfs_laws.proofs.ListOrderLaws.{owned_by, owner_goes, stateids_go}
 use Rattle.xl_nfs_opens.proofs.OwnerLaws.{number_gone, same_number}
 use Rattle.xl_nfs_laws.proofs.PassedCheckLaws.{IfPassed, IsPassed, checked_passed, owner_passed}
 use Rattle.xl_nfs_opens.specs.Closing.{checked, next_seqids, opener_by, standing_fault, state_told}
-use Rattle.xl_core.specs.Ids.{number_in}
 use Rattle.xl_nfs_opens.specs.Opens.{client_in, is_granted, live, stood}
 use Rattle.xl_nfs_laws.specs.Orderly.{closes, IsHeldBy, IsOrderly, IsOwnedBy}
 use Rattle.xl_nfs_opens.specs.Plans.{status_of}
-use Rattle.xl_nfs_opens.specs.Renewing.{number_of, renewed_for, state_client, stateid_of}
+use Rattle.xl_nfs_opens.specs.Renewing.{number_of, stateid_of}
 use Rattle.xl_nfs_opens.specs.Results.{spelled}
 use Rattle.xl_nfs_opens.specs.Seqids.{advances, closed_gone, counted, is_opener, is_room_for, kept_for, number_by, opener_number, remembered, seated, seqid_set}
 use Rattle.xl_nfs_opens.specs.declared.opener.Checked.{Checked}
@@ -119,10 +118,7 @@ known_by s l current a x (Passed r owner seqids) passed orderly = standing_keeps
 
 known_keeps : (s : CoreState) (l : NfsLists) (current : Option ℕ) (a : LockArgsItem) (x : KnownLocker) → IsOrderly l → Keeps (lock_known s l current a x)
 unfolding lock_known
-known_keeps s l current a x orderly =
-    let m = renewed_for s l (state_client s l x.stateid) in
-    let once : IsOrderly m = renewed_orderly s l (state_client s l x.stateid) orderly in
-    (once, λ t. known_by t m current a x (locks_found t m current 12 x.seqid x.stateid) (found_passed t m current 12 x.seqid x.stateid) once)
+known_keeps s l current a x orderly = (orderly, λ t. known_by t l current a x (locks_found t l current 12 x.seqid x.stateid) (found_passed t l current 12 x.seqid x.stateid) orderly)
 
 -- ---- LOCK by an owner under an open
 
@@ -321,14 +317,11 @@ join_checked_keeps s l current a x (Passed r owner seqids) passed orderly = join
 
 named_keeps : (s : CoreState) (l : NfsLists) (current : Option ℕ) (a : LockArgsItem) (x : NewLockerItem) → IsOrderly l → Keeps (first.lock_named s l current a x)
 unfolding first.lock_named
-named_keeps s l current a x orderly =
-    let m = renewed_for s l (number_in s x.owner.clientid) in
-    let once : IsOrderly m = renewed_orderly s l (number_in s x.owner.clientid) orderly in
-    (once, λ t. join_checked_keeps t m current a x (checked t m current 12 x.open_seqid x.open_stateid) (checked_passed t m current 12 x.open_seqid x.open_stateid) once)
+named_keeps s l current a x orderly = (orderly, λ t. join_checked_keeps t l current a x (checked t l current 12 x.open_seqid x.open_stateid) (checked_passed t l current 12 x.open_seqid x.open_stateid) orderly)
 
 first_keeps : (s : CoreState) (l : NfsLists) (current : Option ℕ) (a : LockArgsItem) (x : NewLockerItem) → IsOrderly l → Keeps (first.lock_new s l current a x)
 unfolding first.lock_new
-first_keeps s l current a x orderly = (let once = renewed_orderly s l (state_client s l x.open_stateid) orderly in (once, λ t. named_keeps t _ current a x once))
+first_keeps s l current a x orderly = (orderly, λ t. named_keeps t l current a x orderly)
 
 pub lock_keeps : (s : CoreState) (l : NfsLists) (current : Option ℕ) (a : LockArgsItem) → IsOrderly l → Keeps (first.lock s l current a)
 unfolding first.lock
@@ -358,7 +351,7 @@ test_at_keeps s l a (Some at) orderly =
 
 pub test_keeps : (s : CoreState) (l : NfsLists) (current : Option ℕ) (a : LockTestArgsItem) → IsOrderly l → Keeps (lock_test s l current a)
 unfolding lock_test
-test_keeps s l current a orderly = (let once = renewed_orderly s l (number_in s a.owner.clientid) orderly in (once, λ t. test_at_keeps t _ a current once))
+test_keeps s l current a orderly = (orderly, λ t. test_at_keeps t l a current orderly)
 
 unlocked_keeps : (s : CoreState) (l : NfsLists) (current : Option ℕ) (a : UnlockArgs) (r : StateidRow) (owner : ℕ) (seqids : SeqidState) (status : NfsStatus) → IsPassed l r owner seqids → IsOrderly l → Keeps (unlocked_as s l current a r owner seqids status)
 unlocked_keeps s l current a r owner seqids status passed orderly =
@@ -386,10 +379,7 @@ unlock_by s l current a (Passed r owner seqids) passed orderly = unlock_standing
 
 pub unlock_keeps : (s : CoreState) (l : NfsLists) (current : Option ℕ) (a : UnlockArgs) → IsOrderly l → Keeps (unlock s l current a)
 unfolding unlock
-unlock_keeps s l current a orderly =
-    let m = renewed_for s l (state_client s l a.stateid) in
-    let once : IsOrderly m = renewed_orderly s l (state_client s l a.stateid) orderly in
-    (once, λ t. unlock_by t m current a (locks_found t m current 14 a.seqid a.stateid) (found_passed t m current 14 a.seqid a.stateid) once)
+unlock_keeps s l current a orderly = (orderly, λ t. unlock_by t l current a (locks_found t l current 14 a.seqid a.stateid) (found_passed t l current 14 a.seqid a.stateid) orderly)
 
 released_orderly : (l : NfsLists) (o : Option OwnerRow) → IsOrderly l → IsOrderly (without_found l o)
 released_orderly l None orderly = orderly
@@ -406,7 +396,4 @@ release_of_keeps s l current owner (Some c) orderly =
 
 pub release_keeps : (s : CoreState) (l : NfsLists) (current : Option ℕ) (a : OwnerItem) → IsOrderly l → Keeps (release s l current a)
 unfolding release
-release_keeps s l current a orderly =
-    let m = renewed_for s l (number_in s a.clientid) in
-    let once : IsOrderly m = renewed_orderly s l (number_in s a.clientid) orderly in
-    (once, λ t. release_of_keeps t m current a.owner (client_in t m a.clientid) once)
+release_keeps s l current a orderly = (orderly, λ t. release_of_keeps t l current a.owner (client_in t l a.clientid) orderly)

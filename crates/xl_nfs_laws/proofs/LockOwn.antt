@@ -1,5 +1,5 @@
 -- Whose the deeds of the operations on locks are, and that the core takes them.
-use Rattle.std.proofs.Common.{◌≡◌, ℕ, ◌+◌, ◌-◌, ◌≤◌, Bool, true, false, List, [], Option, Some, None, Result, Ok, Err, option_map, refl, ap, subst, inl, inr, arith}
+use Rattle.std.proofs.Common.{◌≡◌, ℕ, ◌+◌, ◌-◌, ◌≤◌, Bool, true, false, List, [], Option, Some, None, Result, Ok, Err, option_map, refl, ap, subst, ◌∙◌, inl, inr, arith}
 use Rattle.std.proofs.lemmas.Bool.{cases_Bool, or_parts}
 use Rattle.std.proofs.lemmas.Bool.Decides.{nat_tests}
 use Rattle.std.proofs.lemmas.Option.{same_Some}
@@ -49,7 +49,7 @@ use Rattle.xl_nfs_opens.specs.Opens.{all_rooms, client_in, is_granted}
 use Rattle.xl_nfs_opens.specs.Owners.{is_named, is_holder, is_locker, Names}
 use Rattle.xl_plan.specs.Plans.{Does, Asking}
 use Rattle.xl_nfs_opens.specs.Plans.{Plan}
-use Rattle.xl_nfs_opens.specs.Renewing.{number_of, client_if_live, state_numbered, state_client, renewed_for, renewing}
+use Rattle.xl_nfs_opens.specs.Renewing.{number_of, client_if_live, state_numbered, state_client, renewing}
 use Rattle.xl_nfs_opens.specs.Seqids.{is_room_for}
 use Rattle.xl_nfs_opens.specs.declared.opener.Checked.{Checked}
 use Rattle.xl_nfs_opens.specs.declared.opener.Checked.TheVariants.{Refused, Repeated, Passed}
@@ -171,11 +171,9 @@ lock_found_own n s l current a x Client (Passed r owner seqids) each = lock_stan
 
 known_own : (n : ℕ) (s : CoreState) (l : NfsLists) (current : Option ℕ) (a : LockArgsItem) (x : KnownLocker) → IsGood s → Owned n s (λ id. is_holder s l x.stateid id) (lock_known s l current a x)
 unfolding lock_known
-known_own n s l current a x good = state_own n s l x.stateid (λ t m. lock_found t m current a x (locks_found t m current 12 x.seqid x.stateid)) good
-    (λ t stable left.
-    let m = renewed_for s l (state_client s l x.stateid) in
-    lock_found_own n t m current a x (λ id. is_holder s l x.stateid id) (locks_found t m current 12 x.seqid x.stateid)
-    (λ r w v y e found. holder_as s t l (state_client s l x.stateid) x.stateid y.id stable (by_number m (state_client t m x.stateid) r.client y (found_client t m current 12 x.seqid x.stateid r w v e) found)))
+known_own n s l current a x good = state_own n s l x.stateid (λ t. lock_found t l current a x (locks_found t l current 12 x.seqid x.stateid)) good
+    (λ t stable left. lock_found_own n t l current a x (λ id. is_holder s l x.stateid id) (locks_found t l current 12 x.seqid x.stateid)
+    (λ r w v y e found. holder_as s t l x.stateid y.id stable (by_number l (state_client t l x.stateid) r.client y (found_client t l current 12 x.seqid x.stateid r w v e) found)))
 
 -- ---- LOCK under an open
 
@@ -239,15 +237,11 @@ unfolding lock_new lock_named
 new_own n s l current a x good =
     let Client = is_locker s l (New x) in
     let who = state_client s l x.open_stateid in
-    renewing_own n s l Client who (λ t m. renewing t m (number_in t x.owner.clientid) (λ u k. join_checked u k current a x (checked u k current 12 x.open_seqid x.open_stateid))) good (λ number r e found. inl (by_number l who number r e found))
+    renewing_own n s l Client who (λ t. renewing l (number_in t x.owner.clientid) (λ u. join_checked u l current a x (checked u l current 12 x.open_seqid x.open_stateid))) good (λ number r e found. inl (by_number l who number r e found))
     (λ t stable left.
-    let m = renewed_for s l who in
     let named = number_in t x.owner.clientid in
-    renewing_own n t m Client named (λ u k. join_checked u k current a x (checked u k current 12 x.open_seqid x.open_stateid)) left (λ number r e found. inr (named_as s t l who x.owner.clientid r.id stable (by_number m named number r e found)))
-    (λ u next kept.
-    let k = renewed_for t m named in
-    join_checked_own n u k current a x Client (checked u k current 12 x.open_seqid x.open_stateid)
-    (λ y e. inr (named_as s t l who x.owner.clientid y.id stable (named_as t u m named x.owner.clientid y.id next (in_named u k x.owner.clientid y e))))))
+    renewing_own n t l Client named (λ u. join_checked u l current a x (checked u l current 12 x.open_seqid x.open_stateid)) left (λ number r e found. inr (named_as s t l x.owner.clientid r.id stable (by_number l named number r e found)))
+    (λ u next kept. join_checked_own n u l current a x Client (checked u l current 12 x.open_seqid x.open_stateid) (λ y e. inr (named_as s u l x.owner.clientid y.id (next ∙ stable) (in_named u l x.owner.clientid y e)))))
 
 by_own : (n : ℕ) (s : CoreState) (l : NfsLists) (current : Option ℕ) (a : LockArgsItem) (x : LockerItem) → IsGood s → Owned n s (is_locker s l x) (lock_by s l current a x)
 by_own n s l current a (New x) good = new_own n s l current a x good
@@ -259,7 +253,7 @@ lock_own n s l current a good = by_own n s l current a a.locker good
 
 -- ---- LOCKT
 
-named_own : (n : ℕ) (s : CoreState) (l : NfsLists) (clientid : ℕ) (by : CoreState → NfsLists → Plan) → IsGood s → ((t : CoreState) → t.stable ≡ s.stable → Owned n t (λ id. is_named s l clientid true id) (by t (renewed_for s l (number_in s clientid)))) → Owned n s (λ id. is_named s l clientid true id) (renewing s l (number_in s clientid) by)
+named_own : (n : ℕ) (s : CoreState) (l : NfsLists) (clientid : ℕ) (by : CoreState → Plan) → IsGood s → ((t : CoreState) → t.stable ≡ s.stable → Owned n t (λ id. is_named s l clientid true id) (by t)) → Owned n s (λ id. is_named s l clientid true id) (renewing l (number_in s clientid) by)
 named_own n s l clientid by good each = renewing_own n s l (λ id. is_named s l clientid true id) (number_in s clientid) by good (λ number r e found. by_number l (number_in s clientid) number r e found) (λ t stable left. each t stable)
 
 test_to_own : (n : ℕ) (s : CoreState) (l : NfsLists) (current : Option ℕ) (a : LockTestArgsItem) (file : ℕ) (o : Opener) (Client : List ℕ → Type 0) (last : Option ℕ) → NotBefore a.offset last → Client o.id → Owned n s Client (test_to l current a file o last)
@@ -280,10 +274,8 @@ test_at_own n s l a Client (Some at) each =
 
 pub test_own : (n : ℕ) (s : CoreState) (l : NfsLists) (current : Option ℕ) (a : LockTestArgsItem) → IsGood s → Owned n s (Names s l (LockT a)) (lock_test s l current a)
 unfolding lock_test
-test_own n s l current a good = named_own n s l a.owner.clientid (λ t m. test_at t m a current) good
-    (λ t stable.
-    let who = number_in s a.owner.clientid in
-    test_at_own n t (renewed_for s l who) a (λ id. is_named s l a.owner.clientid true id) current (λ y e. named_as s t l who a.owner.clientid y.id stable (in_named t (renewed_for s l who) a.owner.clientid y e)))
+test_own n s l current a good = named_own n s l a.owner.clientid (λ t. test_at t l a current) good
+    (λ t stable. test_at_own n t l a (λ id. is_named s l a.owner.clientid true id) current (λ y e. named_as s t l a.owner.clientid y.id stable (in_named t l a.owner.clientid y e)))
 
 -- ---- LOCKU
 
@@ -313,11 +305,9 @@ unlock_found_own n s l current a Client (Passed r owner seqids) each = unlock_st
 
 pub unlock_own : (n : ℕ) (s : CoreState) (l : NfsLists) (current : Option ℕ) (a : UnlockArgs) → IsGood s → Owned n s (Names s l (LockU a)) (unlock s l current a)
 unfolding unlock
-unlock_own n s l current a good = state_own n s l a.stateid (λ t m. unlock_found t m current a (locks_found t m current 14 a.seqid a.stateid)) good
-    (λ t stable left.
-    let m = renewed_for s l (state_client s l a.stateid) in
-    unlock_found_own n t m current a (λ id. is_holder s l a.stateid id) (locks_found t m current 14 a.seqid a.stateid)
-    (λ r w v y e found. holder_as s t l (state_client s l a.stateid) a.stateid y.id stable (by_number m (state_client t m a.stateid) r.client y (found_client t m current 14 a.seqid a.stateid r w v e) found)))
+unlock_own n s l current a good = state_own n s l a.stateid (λ t. unlock_found t l current a (locks_found t l current 14 a.seqid a.stateid)) good
+    (λ t stable left. unlock_found_own n t l current a (λ id. is_holder s l a.stateid id) (locks_found t l current 14 a.seqid a.stateid)
+    (λ r w v y e found. holder_as s t l a.stateid y.id stable (by_number l (state_client t l a.stateid) r.client y (found_client t l current 14 a.seqid a.stateid r w v e) found)))
 
 -- ---- RELEASE_LOCKOWNER
 
@@ -331,4 +321,4 @@ release_of_own n s l current owner Client (Some c) =
 
 pub release_own : (n : ℕ) (s : CoreState) (l : NfsLists) (current : Option ℕ) (a : OwnerItem) → IsGood s → Owned n s (Names s l (ReleaseLockOwner a)) (release s l current a)
 unfolding release
-release_own n s l current a good = named_own n s l a.clientid (λ t m. release_of t m current a.owner (client_in t m a.clientid)) good (λ t stable. (let m = renewed_for s l (number_in s a.clientid) in release_of_own n t m current a.owner (λ id. is_named s l a.clientid true id) (client_in t m a.clientid)))
+release_own n s l current a good = named_own n s l a.clientid (λ t. release_of t l current a.owner (client_in t l a.clientid)) good (λ t stable. release_of_own n t l current a.owner (λ id. is_named s l a.clientid true id) (client_in t l a.clientid))

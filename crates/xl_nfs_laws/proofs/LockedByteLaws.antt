@@ -93,8 +93,8 @@ refused_stays n s o file kind reclaim first last good le fails =
     never true e = true≢false (sym e)
     never false e = true≢false (sym e)
 
-    waits : may_wait (lock_way s o file kind reclaim first last).claims (lock_ask o file kind reclaim first last) (lock_claim s o file kind first last) ≡ true → ⊥
-    waits e = never (is_stopped (lock_way s o file kind reclaim first last).claims (lock_claim s o file kind first last)) e
+    waits : (let t = lock_way s o file kind reclaim first last in may_wait t.waiters t (lock_ask o file kind reclaim first last) (lock_claim s o file kind first last) ≡ true) → ⊥
+    waits e = let t = lock_way s o file kind reclaim first last in never (is_stopped t.waiters t (lock_claim s o file kind first last)) e
 
 -- ---- LOCK
 

@@ -52,7 +52,7 @@ use Rattle.xl_nfs_opens.specs.Opens.{all_rooms, answer_status, answered, cache_b
 use Rattle.xl_plan.specs.Plans.{Behind}
 use Rattle.xl_nfs_opens.specs.Plans.{Plan, carried}
 use Rattle.xl_nfs_laws.specs.Orderly.{IsOrderly, are_apart}
-use Rattle.xl_nfs_opens.specs.Renewing.{renewals, renewals_by, renewed_for, renewing, state_client}
+use Rattle.xl_nfs_opens.specs.Renewing.{renewals, renewals_by, renewing, state_client}
 use Rattle.xl_nfs_opens.specs.Seqids.{opener_number, seated}
 use Rattle.xl_nfs_opens.specs.declared.opener.Judged.{Judged}
 use Rattle.xl_nfs_opens.specs.declared.opener.Judged.TheVariants as judgements
@@ -60,14 +60,14 @@ use Rattle.xl_nfs_opens.specs.declared.opener.Opener.{Opener}
 use Rattle.xl_nfs_laws.proofs.CalmOpenLaws.{gives_quiet, renewals_quiet, tied_by}
 use Rattle.xl_nfs_laws.proofs.ToldDelegationLaws.{client_cache_goes, entered_clients, given_names, return_exactly}
 use Rattle.xl_nfs_laws.proofs.GivenDelegationLaws.{AreGiven, Owes, delegated_given, id_is, named_is, number_is, numbered_is, others_held, refused_held, unwished_quiet}
-use Rattle.xl_nfs_laws.proofs.OpenOrderLaws.{none_in, renewed_orderly}
+use Rattle.xl_nfs_laws.proofs.OpenOrderLaws.{none_in}
 use Rattle.xl_nfs_laws.proofs.KnownOpenLaws.{seated_clients}
 use Rattle.xl_plan.proofs.BudgetLaws.{drawn_number}
 use Rattle.xl_nfs_laws.proofs.OpenNumberLaws.{draws, less_given}
 use Rattle.xl_nfs_opens.proofs.OpenOwn.{all_given, ask_fits, no_range}
 use Rattle.xl_nfs_opens.proofs.OpenerLaws.{opener_there}
 use Rattle.xl_nfs_laws.proofs.QuietCacheLaws.{IsQuiet, IsQuietDeed, all_quiet, deed_held, find_gone_in, find_kept, find_removed, kind_among}
-use Rattle.xl_nfs_laws.proofs.StillDelegatedLaws.{AreStill, entered_still, kept_still, later_set, owner_still, placed_delegation, refused_still, renewed_still, seated_still, still_kept, still_then, stood_still, under_stays}
+use Rattle.xl_nfs_laws.proofs.StillDelegatedLaws.{AreStill, entered_still, kept_still, later_set, owner_still, placed_delegation, refused_still, seated_still, still_kept, still_self, still_then, stood_still, under_stays}
 
 -- ---- deeds before the rest
 
@@ -85,10 +85,9 @@ renews_fit n s l (Some number) = by (find (is_client number true) l.clients)
     by None = tt
     by (Some r) = (tt, tt)
 
-pub renewing_tied : (n : ℕ) (s : CoreState) (l : NfsLists) (who : Option ℕ) (rest : CoreState → NfsLists → Plan) → IsGood s → AreTied s l
-    → ((t : CoreState) → IsGood t → AreTied t (renewed_for s l who) → (let r = carried n t (renewed_for s l who) (rest t (renewed_for s l who)) in AreTied r.4 r.3)) → (let r = carried n s l (renewing s l who rest) in AreTied r.4 r.3)
-renewing_tied n s l who rest good tied later =
-    behind_tied n s l (renewals l who) (renewed_for s l who) (λ t. rest t (renewed_for s l who)) good (renews_fit n s l who) (renewals_quiet l who) tied (renewed_still s.counter s l who tied.set) later
+pub renewing_tied : (n : ℕ) (s : CoreState) (l : NfsLists) (who : Option ℕ) (rest : CoreState → Plan) → IsGood s → AreTied s l
+    → ((t : CoreState) → IsGood t → AreTied t l → (let r = carried n t l (rest t) in AreTied r.4 r.3)) → (let r = carried n s l (renewing l who rest) in AreTied r.4 r.3)
+renewing_tied n s l who rest good tied later = behind_tied n s l (renewals l who) l rest good (renews_fit n s l who) (renewals_quiet l who) tied (still_self s.counter l tied.set) later
 
 -- nothing is done to the core
 still_tied : (s : CoreState) (l m : NfsLists) → IsGood s → AreTied s l → AreStill s.counter l m → AreTied s m
@@ -268,8 +267,8 @@ at_tied n files others s l a (Some at) good tied = of (client_in s l a.owner.cli
 pub open_tied : (n : ℕ) (files : List (List ℕ)) (others : ℕ) (s : CoreState) (l : NfsLists) (current : Option ℕ) (a : OpenArgsItem) → IsGood s → AreTied s l → (let d = carried n s l (open_file files others s l current a) in AreTied d.4 d.3)
 unfolding open_file open_claimed
 open_tied n files others s l current a good tied =
-    renewing_tied n s l (number_in s a.owner.clientid) (λ t m. open_claimed files others t m current a) good tied (λ t well is.
-    renewing_tied n t (renewed_for s l (number_in s a.owner.clientid)) (claim_client t (renewed_for s l (number_in s a.owner.clientid)) a.claim) (λ u m. open_at files others u m a current) well is (λ u sound ties. at_tied n files others u _ a current sound ties))
+    renewing_tied n s l (number_in s a.owner.clientid) (λ t. open_claimed files others t l current a) good tied
+    (λ t well is. renewing_tied n t l (claim_client t l a.claim) (λ u. open_at files others u l a current) well is (λ u sound ties. at_tied n files others u l a current sound ties))
 
 -- ---- DELEGRETURN
 
@@ -471,5 +470,4 @@ return_by_tied n s l current stateid (Ok r) e good orderly tied =
 pub return_tied : (n : ℕ) (s : CoreState) (l : NfsLists) (current : Option ℕ) (stateid : Stateid) → IsGood s → IsOrderly l → AreTied s l → (let d = carried n s l (deleg_return s l current stateid) in AreTied d.4 d.3)
 unfolding deleg_return
 return_tied n s l current stateid good orderly tied =
-    let m : NfsLists = renewed_for s l (state_client s l stateid) in
-    renewing_tied n s l (state_client s l stateid) (λ t k. return_done t k current (returned t k current stateid)) good tied (λ t well is. return_by_tied n t m current stateid (returned t m current stateid) refl well (renewed_orderly s l (state_client s l stateid) orderly) is)
+    renewing_tied n s l (state_client s l stateid) (λ t. return_done t l current (returned t l current stateid)) good tied (λ t well is. return_by_tied n t l current stateid (returned t l current stateid) refl well orderly is)

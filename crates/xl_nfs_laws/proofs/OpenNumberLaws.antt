@@ -13,7 +13,7 @@ use Rattle.xl_nfs.specs.declared.opens.OpenDowngradeArgs.{OpenDowngradeArgs}
 use Rattle.xl_nfs.specs.declared.status.NfsStatus.{NfsStatus}
 use Rattle.xl_nfs_state.proofs.AnyLaws.{all_changed, all_left}
 use Rattle.xl_nfs_state.specs.Rows.{with_standing}
-use Rattle.xl_nfs_state.specs.State.{NfsLists, hangs_on, is_client, is_kept, is_stateid, is_whose, next_owner, no_lists, with_stateids, without, without_owner}
+use Rattle.xl_nfs_state.specs.State.{NfsLists, hangs_on, is_kept, is_stateid, is_whose, next_owner, no_lists, with_stateids, without, without_owner}
 use Rattle.xl_nfs_state.specs.Verdict.{next_seqid}
 use Rattle.xl_nfs_state.specs.declared.client.ClientRow.{ClientRow}
 use Rattle.xl_nfs_state.specs.declared.kept.KeptRow.{KeptRow}
@@ -31,13 +31,11 @@ use Rattle.xl_core.specs.State.{CoreState, drawn}
 use Rattle.xl_core.specs.declared.ask.Answer.{Answer}
 use Rattle.xl_nfs_opens.specs.Closing.{checked, close, close_by, close_done, confirm_by, cache_of, confirm_done, Returning, returned, return_done, deleg_return, done_lists, failed_lists, locks_gone, next_seqids, open_confirm, share_of_open, standing_fault, state_told}
 use Rattle.xl_nfs_opens.specs.Downgrades.{downgrade_by, downgrade_done, downgrade_fault, open_downgrade, weakens}
-use Rattle.xl_core.specs.Ids.{number_in}
 use Rattle.xl_nfs_laws.specs.StateidNumbers.{AreGivenOut, StayGivenOut}
-use Rattle.xl_nfs_opens.specs.Opens.{freed, answer_status, answered, can_enter, can_stand, claim_client, client_in, delegated, delegated_in, delegation_row, delegation_told, drawn_for, draws_for, either_bits, entered, gives, granted_by, granted_new, granted_wish, has_room, is_granted, judged, open_as, open_at, open_by, open_claimed, open_file, open_held, open_judged, open_of, open_row, open_seqids, opened_file, opened_told, opener_of, reclaims, refused, refused_lists, repeated, rights_of, stood, wish_of}
+use Rattle.xl_nfs_opens.specs.Opens.{freed, answer_status, answered, can_enter, can_stand, client_in, delegated, delegated_in, delegation_row, delegation_told, drawn_for, draws_for, either_bits, entered, gives, granted_by, granted_new, granted_wish, has_room, is_granted, judged, open_as, open_at, open_by, open_claimed, open_file, open_held, open_judged, open_of, open_row, open_seqids, opened_file, opened_told, opener_of, reclaims, refused, refused_lists, repeated, rights_of, stood, wish_of}
 use Rattle.xl_nfs_opens.specs.Owners.{IsBy, AreBy}
 use Rattle.xl_plan.specs.Plans.{Tells, Does, Behind, Asking, deeds_of}
 use Rattle.xl_nfs_opens.specs.Plans.{Plan, carried}
-use Rattle.xl_nfs_opens.specs.Renewing.{renewed_for, renewed_if, state_client}
 use Rattle.xl_nfs_opens.specs.Results.{spelled}
 use Rattle.xl_nfs_opens.specs.Seqids.{advances, closed_gone, counted, is_opener, is_room_for, kept_for, opener_number, remembered, seated, seated_by, seated_new, seqid_set}
 use Rattle.xl_nfs_opens.specs.declared.opener.Checked.{Checked}
@@ -111,14 +109,6 @@ failed_given last l owner seqids op seqid status given =
 pub done_given : (last : ℕ) (s : CoreState) (l : NfsLists) (r : StateidRow) (owner : ℕ) (seqids : SeqidState) (op seqid : ℕ) (confirmed : Bool) (closing : Option ℕ) (access deny : ℕ) (closed : Bool) → AreGivenOut last l → AreGivenOut last (done_lists s l r owner seqids op seqid confirmed closing access deny closed)
 done_given last s l r owner seqids op seqid confirmed closing access deny closed given =
     counted_given last owner seqids.closed (next_seqids op seqid confirmed closing) (spelled op (state_told s r)) (stood r.number r access deny closed l) (stood_given last r.number r access deny closed l given)
-
-pub renewed_given : (last : ℕ) (s : CoreState) (l : NfsLists) (client : Option ℕ) → AreGivenOut last l → AreGivenOut last (renewed_for s l client)
-renewed_given last s l None given = given
-renewed_given last s l (Some number) given = by (find (is_client number true) l.clients)
-  where
-    by : (o : Option ClientRow) → AreGivenOut last (renewed_if s l number o)
-    by None = given
-    by (Some r) = given
 
 refused_given : (last : ℕ) (o : Opener) (a : OpenArgsItem) (confirmed : Bool) (status : NfsStatus) (l : NfsLists) → AreGivenOut last l → AreGivenOut last (refused_lists o a confirmed status l)
 refused_given last o a confirmed status l given =
@@ -281,15 +271,12 @@ at_few last files others s l a (Some at) given = of (client_in s l a.owner.clien
 
 pub open_few : (files : List (List ℕ)) (others : ℕ) (s : CoreState) (l : NfsLists) (current : Option ℕ) (a : OpenArgsItem) → AreGivenOut s.counter l → AreFew s.counter (open_file files others s l current a)
 unfolding open_file open_claimed
-open_few files others s l current a given =
-    let m : NfsLists = renewed_for s l (number_in s a.owner.clientid) in
-    let once : AreGivenOut s.counter m = renewed_given s.counter s l (number_in s a.owner.clientid) given in (
-      once,
-      λ t le.
-          (let client = claim_client t m a.claim in
-          let here : AreGivenOut t.counter (renewed_for t m client) = renewed_given t.counter t m client (later_on s.counter t.counter m le once) in
-          (here, λ u more. at_few u.counter files others u (renewed_for t m client) a current (later_on t.counter u.counter (renewed_for t m client) more here))),
-    )
+open_few files others s l current a given = (
+  given,
+  λ t le.
+      (let once = later_on s.counter t.counter l le given in
+      (once, λ u more. at_few u.counter files others u l a current (later_on t.counter u.counter l more once))),
+)
 
 -- ---- OPEN_CONFIRM, OPEN_DOWNGRADE, CLOSE, DELEGRETURN
 
@@ -304,10 +291,7 @@ confirm_by_few last s l current a (Passed r owner seqids) given = confirm_done_f
 
 pub confirm_few : (s : CoreState) (l : NfsLists) (current : Option ℕ) (a : OpenConfirmArgs) → AreGivenOut s.counter l → AreFew s.counter (open_confirm s l current a)
 unfolding open_confirm
-confirm_few s l current a given =
-    let m : NfsLists = renewed_for s l (state_client s l a.stateid) in
-    let once : AreGivenOut s.counter m = renewed_given s.counter s l (state_client s l a.stateid) given in
-    (once, λ t le. confirm_by_few t.counter t m current a (checked t m current 20 a.seqid a.stateid) (later_on s.counter t.counter m le once))
+confirm_few s l current a given = (given, λ t le. confirm_by_few t.counter t l current a (checked t l current 20 a.seqid a.stateid) (later_on s.counter t.counter l le given))
 
 downgrade_done_few : (last : ℕ) (s : CoreState) (l : NfsLists) (current : Option ℕ) (a : OpenDowngradeArgs) (r : StateidRow) (owner : ℕ) (seqids : SeqidState) (x : Option NfsStatus) → AreGivenOut last l → AreFew last (downgrade_done s l current a r owner seqids x)
 downgrade_done_few last s l current a r owner seqids (Some status) given = does_few last [] (failed_lists l owner seqids 21 a.seqid status) (failed_given last l owner seqids 21 a.seqid status given)
@@ -320,10 +304,7 @@ downgrade_by_few last s l current a (Passed r owner seqids) given = downgrade_do
 
 pub downgrade_few : (s : CoreState) (l : NfsLists) (current : Option ℕ) (a : OpenDowngradeArgs) → AreGivenOut s.counter l → AreFew s.counter (open_downgrade s l current a)
 unfolding open_downgrade
-downgrade_few s l current a given =
-    let m : NfsLists = renewed_for s l (state_client s l a.stateid) in
-    let once : AreGivenOut s.counter m = renewed_given s.counter s l (state_client s l a.stateid) given in
-    (once, λ t le. downgrade_by_few t.counter t m current a (checked t m current 21 a.seqid a.stateid) (later_on s.counter t.counter m le once))
+downgrade_few s l current a given = (given, λ t le. downgrade_by_few t.counter t l current a (checked t l current 21 a.seqid a.stateid) (later_on s.counter t.counter l le given))
 
 close_done_few : (last : ℕ) (s : CoreState) (l : NfsLists) (current : Option ℕ) (a : CloseArgs) (r : StateidRow) (owner : ℕ) (seqids : SeqidState) (x : Option NfsStatus) → AreGivenOut last l → AreFew last (close_done s l current a r owner seqids x)
 close_done_few last s l current a r owner seqids (Some status) given = does_few last [] (failed_lists l owner seqids 4 a.seqid status) (failed_given last l owner seqids 4 a.seqid status given)
@@ -343,10 +324,7 @@ close_by_few last s l current a (Passed r owner seqids) given = close_done_few l
 
 pub close_few : (s : CoreState) (l : NfsLists) (current : Option ℕ) (a : CloseArgs) → AreGivenOut s.counter l → AreFew s.counter (close s l current a)
 unfolding close
-close_few s l current a given =
-    let m : NfsLists = renewed_for s l (state_client s l a.stateid) in
-    let once : AreGivenOut s.counter m = renewed_given s.counter s l (state_client s l a.stateid) given in
-    (once, λ t le. close_by_few t.counter t m current a (checked t m current 4 a.seqid a.stateid) (later_on s.counter t.counter m le once))
+close_few s l current a given = (given, λ t le. close_by_few t.counter t l current a (checked t l current 4 a.seqid a.stateid) (later_on s.counter t.counter l le given))
 
 return_done_few : (s : CoreState) (l : NfsLists) (current : Option ℕ) (x : Returning) → AreGivenOut s.counter l → AreFew s.counter (return_done s l current x)
 return_done_few s l current (Err status) given = does_few s.counter [] l given
@@ -354,10 +332,7 @@ return_done_few s l current (Ok r) given = does_few s.counter (gives (cache_of s
 
 pub return_few : (s : CoreState) (l : NfsLists) (current : Option ℕ) (stateid : Stateid) → AreGivenOut s.counter l → AreFew s.counter (deleg_return s l current stateid)
 unfolding deleg_return
-return_few s l current stateid given =
-    let m : NfsLists = renewed_for s l (state_client s l stateid) in
-    let once : AreGivenOut s.counter m = renewed_given s.counter s l (state_client s l stateid) given in
-    (once, λ t le. return_done_few t m current (returned t m current stateid) (later_on s.counter t.counter m le once))
+return_few s l current stateid given = (given, λ t le. return_done_few t l current (returned t l current stateid) (later_on s.counter t.counter l le given))
 
 -- ---- each operation
 

@@ -19,7 +19,7 @@ use Rattle.xl_nfs_state.specs.Alike.{kinds_are}
 use Rattle.xl_nfs_state.specs.Filed.{changed}
 use Rattle.xl_nfs_state.specs.Keys.{place_of, same_kind, same_place}
 use Rattle.xl_nfs_state.specs.Rows.{with_standing, with_seqids}
-use Rattle.xl_nfs_state.specs.State.{NfsLists, IsRising, can_hang, is_client, is_kept, is_owner, is_stateid, is_whose, next_owner, owned_on, with_stateids, without, without_owner}
+use Rattle.xl_nfs_state.specs.State.{NfsLists, IsRising, can_hang, is_kept, is_owner, is_stateid, is_whose, next_owner, owned_on, with_stateids, without, without_owner}
 use Rattle.xl_nfs_state.specs.Verdict.{next_seqid}
 use Rattle.xl_nfs_state.specs.declared.client.ClientRow.{ClientRow}
 use Rattle.xl_nfs_state.specs.declared.kept.KeptRow.{KeptRow}
@@ -32,17 +32,14 @@ use Rattle.xl_nfs_state.specs.declared.stateid.Holder.TheVariants as holders
 use Rattle.xl_nfs_state.specs.declared.stateid.Standing.{Standing}
 use Rattle.xl_nfs_state.specs.declared.stateid.StateidRow.{StateidRow}
 use Rattle.xl_nfs_state.specs.declared.stateid.Whose.TheVariants as whose
-use Rattle.xl_core.specs.Deeds.{all_done}
 use Rattle.xl_core.specs.State.{CoreState, drawn}
 use Rattle.xl_core.specs.declared.ask.Answer.{Answer}
 use Rattle.xl_nfs_opens.specs.Closing.{checked, close, close_by, close_done, confirm_by, confirm_done, Returning, returned, return_done, deleg_return, done_lists, failed_lists, next_seqids, open_confirm, standing_fault, state_told}
 use Rattle.xl_nfs_opens.specs.Downgrades.{downgrade_by, downgrade_done, downgrade_fault, open_downgrade}
-use Rattle.xl_nfs_opens.specs.Opens.{answer_status, answered, can_enter, can_stand, delegated, delegated_in, delegation_row, delegation_told, drawn_for, granted_wish, wish_of, either_bits, entered, granted_by, has_room, is_granted, judged, live, open_as, open_at, open_by, open_claimed, open_file, open_held, open_judged, open_of, open_row, open_seqids, opened_file, opened_told, opener_of, claim_client, client_in, reclaims, refused_lists, repeated, stood}
+use Rattle.xl_nfs_opens.specs.Opens.{answer_status, answered, can_enter, can_stand, delegated, delegated_in, delegation_row, delegation_told, drawn_for, granted_wish, wish_of, either_bits, entered, granted_by, has_room, is_granted, judged, live, open_as, open_at, open_by, open_claimed, open_file, open_held, open_judged, open_of, open_row, open_seqids, opened_file, opened_told, opener_of, client_in, reclaims, refused_lists, repeated, stood}
 use Rattle.xl_nfs_laws.specs.Orderly.{are_apart, closes, IsHeldBy, IsOrderly, IsOwnedBy}
-use Rattle.xl_core.specs.Ids.{number_in}
 use Rattle.xl_plan.specs.Plans.{AllKept}
 use Rattle.xl_nfs_opens.specs.Plans.{Plan}
-use Rattle.xl_nfs_opens.specs.Renewing.{renewed_for, renewed_if, state_client}
 use Rattle.xl_nfs_opens.specs.Results.{spelled}
 use Rattle.xl_nfs_opens.specs.Seqids.{advances, closed_gone, counted, is_opener, is_room_for, kept_for, new_owner, number_by, opener_number, remembered, seated, seated_by, seated_new, seqid_set}
 use Rattle.xl_nfs_opens.specs.declared.opener.Checked.{Checked}
@@ -70,14 +67,6 @@ same_orderly l new e f orderly = record {
 
 pub kept_orderly : (owner : ℕ) (bytes : List ℕ) (l : NfsLists) → IsOrderly l → IsOrderly (kept_for owner bytes l)
 kept_orderly owner bytes l orderly = same_orderly l (kept_for owner bytes l) (kept_owners owner bytes l) (kept_stateids owner bytes l) orderly
-
-pub renewed_orderly : (s : CoreState) (l : NfsLists) (client : Option ℕ) → IsOrderly l → IsOrderly (renewed_for s l client)
-renewed_orderly s l None orderly = orderly
-renewed_orderly s l (Some number) orderly = by (find (is_client number true) l.clients)
-  where
-    by : (o : Option ClientRow) → IsOrderly (renewed_if s l number o)
-    by None = orderly
-    by (Some r) = same_orderly l (renewed_if s l number (Some r)) refl refl orderly
 
 -- ---- a request on an open
 
@@ -392,9 +381,7 @@ at_keeps files others s l a (Some at) orderly = of (client_in s l a.owner.client
 
 pub open_keeps : (files : List (List ℕ)) (others : ℕ) (s : CoreState) (l : NfsLists) (current : Option ℕ) (a : OpenArgsItem) → IsOrderly l → Keeps (open_file files others s l current a)
 unfolding open_file open_claimed
-open_keeps files others s l current a orderly =
-    let once = renewed_orderly s l (number_in s a.owner.clientid) orderly in
-    (once, λ t. (let twice = renewed_orderly t (renewed_for s l (number_in s a.owner.clientid)) (claim_client t (renewed_for s l (number_in s a.owner.clientid)) a.claim) once in (twice, λ u. at_keeps files others u _ a current twice)))
+open_keeps files others s l current a orderly = (orderly, λ t. (orderly, λ u. at_keeps files others u l a current orderly))
 
 -- ---- OPEN_CONFIRM, OPEN_DOWNGRADE, CLOSE, DELEGRETURN
 
@@ -409,10 +396,7 @@ confirm_by_keeps s l current a (Passed r owner seqids) passed orderly = confirm_
 
 pub confirm_keeps : (s : CoreState) (l : NfsLists) (current : Option ℕ) (a : OpenConfirmArgs) → IsOrderly l → Keeps (open_confirm s l current a)
 unfolding open_confirm
-confirm_keeps s l current a orderly =
-    let m = renewed_for s l (state_client s l a.stateid) in
-    let once : IsOrderly m = renewed_orderly s l (state_client s l a.stateid) orderly in
-    (once, λ t. confirm_by_keeps t m current a (checked t m current 20 a.seqid a.stateid) (checked_passed t m current 20 a.seqid a.stateid) once)
+confirm_keeps s l current a orderly = (orderly, λ t. confirm_by_keeps t l current a (checked t l current 20 a.seqid a.stateid) (checked_passed t l current 20 a.seqid a.stateid) orderly)
 
 downgrade_done_keeps : (s : CoreState) (l : NfsLists) (current : Option ℕ) (a : OpenDowngradeArgs) (r : StateidRow) (owner : ℕ) (seqids : SeqidState) (x : Option NfsStatus) → IsPassed l r owner seqids → IsOrderly l → Keeps (downgrade_done s l current a r owner seqids x)
 downgrade_done_keeps s l current a r owner seqids (Some status) passed orderly = failed_orderly l owner passed.row seqids 21 a.seqid status passed.owned passed.seqids_is orderly
@@ -425,10 +409,7 @@ downgrade_by_keeps s l current a (Passed r owner seqids) passed orderly = downgr
 
 pub downgrade_keeps : (s : CoreState) (l : NfsLists) (current : Option ℕ) (a : OpenDowngradeArgs) → IsOrderly l → Keeps (open_downgrade s l current a)
 unfolding open_downgrade
-downgrade_keeps s l current a orderly =
-    let m = renewed_for s l (state_client s l a.stateid) in
-    let once : IsOrderly m = renewed_orderly s l (state_client s l a.stateid) orderly in
-    (once, λ t. downgrade_by_keeps t m current a (checked t m current 21 a.seqid a.stateid) (checked_passed t m current 21 a.seqid a.stateid) once)
+downgrade_keeps s l current a orderly = (orderly, λ t. downgrade_by_keeps t l current a (checked t l current 21 a.seqid a.stateid) (checked_passed t l current 21 a.seqid a.stateid) orderly)
 
 close_done_keeps : (s : CoreState) (l : NfsLists) (current : Option ℕ) (a : CloseArgs) (r : StateidRow) (owner : ℕ) (seqids : SeqidState) (x : Option NfsStatus) → IsPassed l r owner seqids → IsOrderly l → Keeps (close_done s l current a r owner seqids x)
 close_done_keeps s l current a r owner seqids (Some status) passed orderly = failed_orderly l owner passed.row seqids 4 a.seqid status passed.owned passed.seqids_is orderly
@@ -441,18 +422,12 @@ close_by_keeps s l current a (Passed r owner seqids) passed orderly = close_done
 
 pub close_keeps : (s : CoreState) (l : NfsLists) (current : Option ℕ) (a : CloseArgs) → IsOrderly l → Keeps (close s l current a)
 unfolding close
-close_keeps s l current a orderly =
-    let m = renewed_for s l (state_client s l a.stateid) in
-    let once : IsOrderly m = renewed_orderly s l (state_client s l a.stateid) orderly in
-    (once, λ t. close_by_keeps t m current a (checked t m current 4 a.seqid a.stateid) (checked_passed t m current 4 a.seqid a.stateid) once)
+close_keeps s l current a orderly = (orderly, λ t. close_by_keeps t l current a (checked t l current 4 a.seqid a.stateid) (checked_passed t l current 4 a.seqid a.stateid) orderly)
 
 pub return_keeps : (s : CoreState) (l : NfsLists) (current : Option ℕ) (stateid : Stateid) → IsOrderly l → Keeps (deleg_return s l current stateid)
 unfolding deleg_return
-return_keeps s l current stateid orderly =
-    let m = renewed_for s l (state_client s l stateid) in
-    let once : IsOrderly m = renewed_orderly s l (state_client s l stateid) orderly in
-    (once, λ t. by t (returned t m current stateid) once)
+return_keeps s l current stateid orderly = (orderly, λ t. by t (returned t l current stateid))
   where
-    by : (t : CoreState) (x : Returning) → (let m = renewed_for s l (state_client s l stateid) in IsOrderly m → Keeps (return_done t m current x))
-    by t (Err status) orderly = orderly
-    by t (Ok r) orderly = stateids_go _ (is_whose (whose.Stateid r.number)) orderly
+    by : (t : CoreState) (x : Returning) → Keeps (return_done t l current x)
+    by t (Err status) = orderly
+    by t (Ok r) = stateids_go l (is_whose (whose.Stateid r.number)) orderly

@@ -254,7 +254,7 @@ begun_kind ask s file number good =
 
 way_kind : (left : Rooms) (s : CoreState) (a : Ask) (file number : ℕ) → IsGood s → kind_in (way left s a).1.claims file number ≡ kind_in s.claims file number
 way_kind left s a file number good =
-    elim (way_is (plea_of left s a) (asked_claims a (asked_whats a.act) s.names) s) [
+    elim (way_is s.waiters (plea_of left s a) (asked_claims a (asked_whats a.act) s.names) s) [
       | NoWay e ↦ ap (λ (way : List Effect × CoreState). kind_in way.1.claims file number) e
       | Begins c cs is does e ↦ ap (λ (way : List Effect × CoreState). kind_in way.1.claims file number) e ∙ begun_kind c s file number good
     ]

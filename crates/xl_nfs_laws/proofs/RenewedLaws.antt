@@ -7,14 +7,10 @@ use Rattle.std.specs.List.{find}
 use Rattle.std.specs.Option.{option_and_then}
 use Rattle.xl_base.proofs.Members.{in_append_left, in_append_right}
 use Rattle.xl_base.specs.Lists.{IsIn}
-use Rattle.xl_base.specs.declared.event.Moment.{Moment}
 use Rattle.xl_names.specs.declared.name.Name.TheVariants.{NfsParty}
 use Rattle.xl_nfs.specs.Locks.{LockArgsItem, LockerItem, New, Known}
 use Rattle.xl_nfs.specs.Opens.{OpenArgsItem, OpenClaimItem, Null, Previous, DelegateCurrent, DelegatePrevious}
 use Rattle.xl_nfs.specs.Ops.{OpItem, Close, DelegReturn, GetFh, Lock, LockT, LockU, Lookup, Open, OpenConfirm, OpenDowngrade, PutFh, PutRootFh, Renew, SetClientId, SetClientIdConfirm, ReleaseLockOwner, NotSupported, Illegal}
-use Rattle.xl_nfs.specs.declared.basics.Stateid.{Stateid}
-use Rattle.xl_nfs_state.specs.Filed.{changed}
-use Rattle.xl_nfs_state.specs.Rows.{with_time}
 use Rattle.xl_nfs_state.specs.State.{NfsLists, is_client, is_client_named}
 use Rattle.xl_nfs_state.specs.declared.client.ClientRow.{ClientRow}
 use Rattle.xl_core.specs.Askers.{party_named}
@@ -32,11 +28,10 @@ use Rattle.xl_nfs_locks.specs.Unlocks.{unlock}
 use Rattle.xl_nfs_opens.specs.Closing.{open_confirm, close, deleg_return}
 use Rattle.xl_nfs_opens.specs.Downgrades.{open_downgrade}
 use Rattle.xl_core.specs.Ids.{number_in}
-use Rattle.xl_nfs_opens.specs.Leases.{lease_end}
 use Rattle.xl_nfs_opens.specs.Opens.{claim_client, open_claimed, open_file}
-use Rattle.xl_nfs_opens.specs.Owners.{is_named, is_holder, is_claimant, is_locker, Names}
+use Rattle.xl_nfs_opens.specs.Owners.{is_claimant, is_locker, Names}
 use Rattle.xl_plan.specs.Plans.{deeds_of}
-use Rattle.xl_nfs_opens.specs.Renewing.{number_of, state_numbered, state_client, renewals_by, renewals, renewed_if, renewed_for}
+use Rattle.xl_nfs_opens.specs.Renewing.{number_of, state_numbered, state_client, renewals_by, renewals}
 
 -- ---- behind a renewal
 
@@ -55,51 +50,29 @@ renewed_first l (Some number) id is = by (find (is_client number true) l.clients
 renewed_in : (l : NfsLists) (who : Option ℕ) (id : List ℕ) (ds : List Deed) → id_in l.clients who ≡ Some id → IsIn (Renews id) (renewals l who ++ ds)
 renewed_in l who id ds is = in_append_left (Renews id) (renewals l who) ds (renewed_first l who id is)
 
--- a client that is named before another's lease is renewed is named then
-id_stays : (number other : ℕ) (time : Moment) (rs : List ClientRow) → option_map (λ r. r.id) (find (is_client number true) (changed (is_client other true) (with_time time) rs)) ≡ option_map (λ r. r.id) (find (is_client number true) rs)
-id_stays number other time [] = refl
-id_stays number other time (r ∷ rs) =
-    elim (cases_Bool (is_client other true r)) [
-      | inl e ↦ rw e (elim (cases_Bool (is_client number true r)) [
-        | inl d ↦ rw d refl
-        | inr d ↦ rw d refl
-      ])
-      | inr e ↦ rw e (elim (cases_Bool (is_client number true r)) [
-        | inl d ↦ rw d refl
-        | inr d ↦ rw d (id_stays number other time rs)
-      ])
-    ]
-
-in_stays : (other : ℕ) (time : Moment) (rs : List ClientRow) (who : Option ℕ) (id : List ℕ) → id_in rs who ≡ Some id → id_in (changed (is_client other true) (with_time time) rs) who ≡ Some id
-in_stays other time rs None id is = is
-in_stays other time rs (Some number) id is = id_stays number other time rs ∙ is
-
-named_then : (n : ℕ) (s : CoreState) (l : NfsLists) (who : Option ℕ) (clientid : ℕ) (id : List ℕ) → is_named s l clientid true id → is_named (all_done n s (renewals l who)) (renewed_for s l who) clientid true id
+-- who is named before another's lease is renewed is named then
+number_then : (n : ℕ) (s : CoreState) (l : NfsLists) (who : Option ℕ) (clientid : ℕ) → number_in (all_done n s (renewals l who)) clientid ≡ number_in s clientid
 unfolding renew_lease
-named_then n s l None clientid id is = is
-named_then n s l (Some other) clientid id is = by (find (is_client other true) l.clients)
+number_then n s l None clientid = refl
+number_then n s l (Some other) clientid = by (find (is_client other true) l.clients)
   where
-    by : (o : Option ClientRow) → is_named (all_done n s (renewals_by o)) (renewed_if s l other o) clientid true id
-    by None = is
-    by (Some r) = in_stays other (lease_end s) l.clients (number_in s clientid) id is
+    by : (o : Option ClientRow) → number_in (all_done n s (renewals_by o)) clientid ≡ number_in s clientid
+    by None = refl
+    by (Some r) = refl
 
-holder_then : (n : ℕ) (s : CoreState) (l : NfsLists) (who : Option ℕ) (stateid : Stateid) (id : List ℕ) → is_holder s l stateid id → is_holder (all_done n s (renewals l who)) (renewed_for s l who) stateid id
+other_then : (n : ℕ) (s : CoreState) (l : NfsLists) (who : Option ℕ) (other : List ℕ) → number_of (all_done n s (renewals l who)) other ≡ number_of s other
 unfolding renew_lease number_of
-holder_then n s l None stateid id is = is
-holder_then n s l (Some other) stateid id is = by (find (is_client other true) l.clients)
+other_then n s l None other = refl
+other_then n s l (Some number) other = by (find (is_client number true) l.clients)
   where
-    numbered : (r : ClientRow) (o : Option ℕ) → id_in l.clients (state_numbered l o) ≡ Some id → (let m = renewed_if s l other (Some r) in id_in m.clients (state_numbered m o) ≡ Some id)
-    numbered r None e = e
-    numbered r (Some number) e = in_stays other (lease_end s) l.clients (state_numbered l (Some number)) id e
-
-    by : (o : Option ClientRow) → is_holder (all_done n s (renewals_by o)) (renewed_if s l other o) stateid id
-    by None = is
-    by (Some r) = numbered r (number_of s stateid.other) is
+    by : (o : Option ClientRow) → number_of (all_done n s (renewals_by o)) other ≡ number_of s other
+    by None = refl
+    by (Some r) = refl
 
 -- ---- OPEN and LOCK, which may name two
 
-claimant_then : (n : ℕ) (s : CoreState) (l : NfsLists) (who : Option ℕ) (claim : OpenClaimItem) (id : List ℕ) → is_claimant s l claim id → (let m = renewed_for s l who in id_in m.clients (claim_client (all_done n s (renewals l who)) m claim) ≡ Some id)
-claimant_then n s l who (DelegateCurrent a) id is = holder_then n s l who a.stateid id is
+claimant_then : (n : ℕ) (s : CoreState) (l : NfsLists) (who : Option ℕ) (claim : OpenClaimItem) (id : List ℕ) → is_claimant s l claim id → id_in l.clients (claim_client (all_done n s (renewals l who)) l claim) ≡ Some id
+claimant_then n s l who (DelegateCurrent a) id is = ap (λ (o : Option ℕ). id_in l.clients (state_numbered l o)) (other_then n s l who a.stateid.other) ∙ is
 claimant_then n s l who (Null name) id is = absurd is
 claimant_then n s l who (Previous type) id is = absurd is
 claimant_then n s l who (DelegatePrevious name) id is = absurd is
@@ -110,8 +83,7 @@ open_renews n files others s l current a id (inl is) = renewed_in l (number_in s
 open_renews n files others s l current a id (inr is) =
     let who = number_in s a.owner.clientid in
     let t = all_done n s (renewals l who) in
-    let m = renewed_for s l who in
-    in_append_right (Renews id) (renewals l who) _ (renewed_in m (claim_client t m a.claim) id _ (claimant_then n s l who a.claim id is))
+    in_append_right (Renews id) (renewals l who) _ (renewed_in l (claim_client t l a.claim) id _ (claimant_then n s l who a.claim id is))
 
 lock_renews : (n : ℕ) (s : CoreState) (l : NfsLists) (current : Option ℕ) (a : LockArgsItem) (x : LockerItem) (id : List ℕ) → is_locker s l x id → IsIn (Renews id) (deeds_of n s (lock_by s l current a x))
 unfolding lock_new lock_named lock_known
@@ -119,16 +91,16 @@ lock_renews n s l current a (New x) id (inl is) = renewed_in l (state_client s l
 lock_renews n s l current a (New x) id (inr is) =
     let who = state_client s l x.open_stateid in
     let t = all_done n s (renewals l who) in
-    in_append_right (Renews id) (renewals l who) _ (renewed_in (renewed_for s l who) (number_in t x.owner.clientid) id _ (named_then n s l who x.owner.clientid id is))
+    in_append_right (Renews id) (renewals l who) _ (renewed_in l (number_in t x.owner.clientid) id _ (ap (λ (o : Option ℕ). id_in l.clients o) (number_then n s l who x.owner.clientid) ∙ is))
 lock_renews n s l current a (Known x) id is = renewed_in l (state_client s l x.stateid) id _ is
 
 -- ---- RENEW and SETCLIENTID_CONFIRM
 
-renew_renews : (n : ℕ) (s : CoreState) (l : NfsLists) (current who : Option ℕ) (id : List ℕ) → id_in l.clients who ≡ Some id → IsIn (Renews id) (deeds_of n s (renew_number s l current who))
+renew_renews : (n : ℕ) (s : CoreState) (l : NfsLists) (current who : Option ℕ) (id : List ℕ) → id_in l.clients who ≡ Some id → IsIn (Renews id) (deeds_of n s (renew_number l current who))
 renew_renews n s l current None id is = absurd cc
 renew_renews n s l current (Some number) id is = by (find (is_client number true) l.clients) is
   where
-    by : (o : Option ClientRow) → option_map (λ r. r.id) o ≡ Some id → IsIn (Renews id) (deeds_of n s (renew_found s l current number o))
+    by : (o : Option ClientRow) → option_map (λ r. r.id) o ≡ Some id → IsIn (Renews id) (deeds_of n s (renew_found l current o))
     by None e = absurd cc
     by (Some r) e = inl (ap Renews (same_Some r.id id e))
 
@@ -147,7 +119,7 @@ confirm_renews n s l current verifier (Some number) id is = by (confirmed_by ver
           | inr d ↦ rw d (in_append_right (Renews id) (ends (party_named s.names (NfsParty r.id))) (Renews r.id ∷ []) (inl (ap Renews e)))
         ]
 
-    held : (o : Option ClientRow) → option_map (λ r. r.id) o ≡ Some id → IsIn (Renews id) (deeds_of n s (confirm_held s l current number verifier o))
+    held : (o : Option ClientRow) → option_map (λ r. r.id) o ≡ Some id → IsIn (Renews id) (deeds_of n s (confirm_held l current verifier o))
     held None e = absurd cc
     held (Some r) e = inl (ap Renews (same_Some r.id id e))
 

@@ -44,15 +44,14 @@ use Rattle.xl_nfs_laws.proofs.OpenDelegationLaws.{open_tied, return_tied}
 use Rattle.xl_nfs_laws.proofs.OpenOrderLaws.{none_in}
 use Rattle.xl_plan.proofs.BudgetLaws.{drawn_number}
 use Rattle.xl_nfs_laws.proofs.QuietCacheLaws.{IsLeft, IsQuiet, all_quiet, deed_leaves, find_gone_in, find_kept, named_held}
-use Rattle.xl_nfs_laws.proofs.StillDelegatedLaws.{AreStill, details_still, later_set, still_kept, still_self, still_then, time_still}
+use Rattle.xl_nfs_laws.proofs.StillDelegatedLaws.{AreStill, details_still, later_set, still_kept, still_self, still_then}
 use Rattle.xl_nfs_laws.specs.Delegated.{AreDelegated, AreSet, AreTied, AreTiedBut, IsShut, clients_apart, delegation_held, delegation_kept, delegation_numbered, is_one_client, is_open_still, number_confirmed, written_by}
 use Rattle.xl_nfs_opens.specs.Files.{file_named}
 use Rattle.xl_core.specs.Ids.{number_in}
-use Rattle.xl_nfs_opens.specs.Leases.{lease_end}
 use Rattle.xl_nfs_laws.specs.Orderly.{IsOrderly}
 use Rattle.xl_nfs_opens.specs.Plans.{Plan, carried}
 use Rattle.xl_nfs_laws.proofs.RequestOrderLaws.{item_orderly}
-use Rattle.xl_front_nfs.specs.Clients.{come, come_again, confirm_found, confirm_held, confirm_number, confirm_over, confirmed_by, confirmed_row, draws, ends, has_room, number_kept, numbers, renew, renew_found, renew_number, row_of, set_by, set_client_id, set_client_id_confirm, set_under, with_row, without_found, without_named, without_number}
+use Rattle.xl_front_nfs.specs.Clients.{come, come_again, confirm_found, confirm_held, confirm_number, confirm_over, confirmed_by, confirmed_row, draws, ends, has_room, number_kept, numbers, record_end, renew, renew_found, renew_number, row_of, set_by, set_client_id, set_client_id_confirm, set_under, with_row, without_found, without_named, without_number}
 use Rattle.xl_front_nfs.specs.FrontNfs.{Called, Compound, Garbage, Null, Refused, call_in, nfs_step, replied}
 use Rattle.xl_front_nfs.specs.Handles.{found_file, get_fh, look_up, put_fh, put_file, put_root_fh}
 use Rattle.xl_front_nfs.specs.State.{FrontNfs, empty_nfs_front, forgotten, nfs_shown, nfs_tick}
@@ -195,13 +194,13 @@ renews_tied n s l m id good tied still =
     let quiet = all_quiet n s (Renews id ∷ []) good (tt, tt) (tt, tt) in
     tied_by s (all_done n s (Renews id ∷ [])) s.counter l m tied quiet quiet.later still
 
-renew_tied : (n : ℕ) (s : CoreState) (l : NfsLists) (current x : Option ℕ) → IsGood s → AreTied s l → Ties n s l (renew_number s l current x)
+renew_tied : (n : ℕ) (s : CoreState) (l : NfsLists) (current x : Option ℕ) → IsGood s → AreTied s l → Ties n s l (renew_number l current x)
 renew_tied n s l current None good tied = tied
 renew_tied n s l current (Some number) good tied = by (find (is_client number true) l.clients)
   where
-    by : (o : Option ClientRow) → Ties n s l (renew_found s l current number o)
+    by : (o : Option ClientRow) → Ties n s l (renew_found l current o)
     by None = tied
-    by (Some r) = renews_tied n s l _ r.id good tied (time_still s.counter (lease_end s) number l tied.set)
+    by (Some r) = renews_tied n s l l r.id good tied (still_self s.counter l tied.set)
 
 above_one : (last number : ℕ) (r row : ClientRow) → r.number ≤ last → last < row.number → is_one_client r row ≡ true
 above_one last number r row le above =
@@ -218,7 +217,7 @@ set_tied n s k l current a x e good tied =
     ]
   where
     time : Moment
-    time = lease_end s
+    time = record_end s
 
     new : AreTied (all_done n s (Draws ∷ Draws ∷ [])) (set_under time l a (s.counter + 1) (s.counter + 2))
     new =
@@ -469,14 +468,11 @@ over_tied n s l current number r x found e good tied = by x e
     m : NfsLists
     m = without_number number l
 
-    time : Moment
-    time = lease_end s
-
     first : AreStill s.counter l m
     first = number_still s.counter number l tied.set
 
     row : ClientRow
-    row = confirmed_row time number r
+    row = confirmed_row number r
 
     within : (q : ClientRow) → IsIn q m.clients → IsIn q l.clients
     within q there = (in_filter_from (λ (c : ClientRow). not (is_client number false c)) q l.clients there).0
@@ -495,12 +491,12 @@ over_tied n s l current number r x found e good tied = by x e
           | inl same ↦ rw (same, (bytes_decides q.id r.id).1 (its_id q there (sym (eqb-true q.number number same)))) refl
         ]
 
-    new : find (is_client_named r.id true) m.clients ≡ None → AreTied (all_done n s (Renews r.id ∷ [])) (come time m number r)
+    new : find (is_client_named r.id true) m.clients ≡ None → AreTied (all_done n s (Renews r.id ∷ [])) (come m number r)
     new none =
         let quiet = all_quiet n s (Renews r.id ∷ []) good (tt, tt) (tt, tt) in
         let unnumbered : find (is_client number true) m.clients ≡ None = nobody (find (is_client number true) m.clients) refl in
         record {
-          set = later_set s.counter (all_done n s (Renews r.id ∷ [])).counter (come time m number r) quiet.later (come_set s.counter m row refl none unnumbered le (all_from (λ q. is_one_client q row ≡ true) m.clients (λ q there. one q (within q there))) first.set);
+          set = later_set s.counter (all_done n s (Renews r.id ∷ [])).counter (come m number r) quiet.later (come_set s.counter m row refl none unnumbered le (all_from (λ q. is_one_client q row ≡ true) m.clients (λ q there. one q (within q there))) first.set);
           delegated = λ id file. quiet.held id file ∙ tied.delegated id file ∙ sym (still_kept s.counter l m first id file) ∙ agrees unnumbered id file;
         }
       where
@@ -513,18 +509,18 @@ over_tied n s l current number r x found e good tied = by x e
             let same = its_id c (within c at.0) is.0 in
             absurd (true≢false (sym (and_from (bytes_eq r.id c.id) (beq true c.confirmed) ((bytes_decides r.id c.id).1 (sym same)) (rw is.1 refl)) ∙ named))
 
-        agrees : find (is_client number true) m.clients ≡ None → (id : List ℕ) (file : ℕ) → delegation_kept m id file ≡ delegation_kept (come time m number r) id file
+        agrees : find (is_client number true) m.clients ≡ None → (id : List ℕ) (file : ℕ) → delegation_kept m id file ≡ delegation_kept (come m number r) id file
         agrees unnumbered id file =
             elim (cases_Bool (bytes_eq id r.id)) [
               | inl same ↦
                   let is = (bytes_decides id r.id).0 same in
                   ap (λ (x : Option ClientRow). option_and_then (delegation_numbered m.stateids file) (option_map (λ (c : ClientRow). c.number) x)) (ap (λ (i : List ℕ). find (is_client_named i true) m.clients) is ∙ none)
-                  ∙ sym (ap (λ (i : List ℕ). delegation_kept (come time m number r) i file) is ∙ own_none s.counter m row refl none unnumbered file)
+                  ∙ sym (ap (λ (i : List ℕ). delegation_kept (come m number r) i file) is ∙ own_none s.counter m row refl none unnumbered file)
               | inr other ↦ sym (other_kept s.counter m row refl none unnumbered id file (λ f. true≢false (sym ((bytes_decides id r.id).1 f) ∙ other)))
             ]
 
     -- another client of the id string makes way
-    over : (o : ClientRow) → find (is_client_named r.id true) m.clients ≡ Some o → (o.number == number) ≡ false → AreTied (all_done n s (ends (party_named s.names (NfsParty r.id)) ++ Renews r.id ∷ [])) (come time (without_client o.number m) number r)
+    over : (o : ClientRow) → find (is_client_named r.id true) m.clients ≡ Some o → (o.number == number) ≡ false → AreTied (all_done n s (ends (party_named s.names (NfsParty r.id)) ++ Renews r.id ∷ [])) (come (without_client o.number m) number r)
     over o f other =
         let at = found_in (is_client_named r.id true) m.clients o f in
         let is = named_is r.id o at.1 in
@@ -536,8 +532,8 @@ over_tied n s l current number r x found e good tied = by x e
         let set = left_set s.counter m o at.0 is.1 first.set in
         let unnamed : find (is_client_named r.id true) k.clients ≡ None = ap (λ (i : List ℕ). find (is_client_named i true) k.clients) is.0 ∙ own_gone s.counter m o at.0 is.1 first.set in
         let unnumbered = nobody o at.0 is other (find (is_client number true) k.clients) refl in
-        subst (λ (v : CoreState). AreTied v (come time k number r)) (sym (all_done_append n s ds (Renews r.id ∷ []))) (record {
-          set = later_set s.counter (all_done n t (Renews r.id ∷ [])).counter (come time k number r) (omega (arith, gone.later, quiet.later))
+        subst (λ (v : CoreState). AreTied v (come k number r)) (sym (all_done_append n s ds (Renews r.id ∷ []))) (record {
+          set = later_set s.counter (all_done n t (Renews r.id ∷ [])).counter (come k number r) (omega (arith, gone.later, quiet.later))
               (come_set s.counter k row refl unnamed unnumbered le (all_from (λ q. is_one_client q row ≡ true) k.clients (λ q there. one q (within q (in_filter_from (λ (c : ClientRow). not (is_client o.number true c)) q m.clients there).0))) set);
           delegated = λ id file. quiet.held id file ∙ agrees o at.0 is unnamed unnumbered gone id file;
         })
@@ -553,14 +549,14 @@ over_tied n s l current number r x found e good tied = by x e
             absurd (true≢false (sym (eq-eqb o.number number (ap (λ (q : ClientRow). q.number) (sym one) ∙ sym its.0)) ∙ other))
 
         agrees : (o : ClientRow) → IsIn o m.clients → (r.id ≡ o.id) × (o.confirmed ≡ true) → find (is_client_named r.id true) (without_client o.number m).clients ≡ None → find (is_client number true) (without_client o.number m).clients ≡ None → {t : CoreState} → IsLeft s t r.id
-            → (id : List ℕ) (file : ℕ) → delegation_held t id file ≡ delegation_kept (come time (without_client o.number m) number r) id file
+            → (id : List ℕ) (file : ℕ) → delegation_held t id file ≡ delegation_kept (come (without_client o.number m) number r) id file
         agrees o here is unnamed unnumbered {t} gone id file =
             let k : NfsLists = without_client o.number m in
             elim (cases_Bool (bytes_eq id r.id)) [
               | inl same ↦
                   let eq = (bytes_decides id r.id).0 same in
                   ap (λ (i : List ℕ). delegation_held t i file) eq ∙ gone.own file
-                  ∙ sym (ap (λ (i : List ℕ). delegation_kept (come time k number r) i file) eq ∙ own_none s.counter k row refl unnamed unnumbered file)
+                  ∙ sym (ap (λ (i : List ℕ). delegation_kept (come k number r) i file) eq ∙ own_none s.counter k row refl unnamed unnumbered file)
               | inr differs ↦
                   let apart : id ≡ r.id → ⊥ = λ f. true≢false (sym ((bytes_decides id r.id).1 f) ∙ differs) in
                   gone.others id file apart ∙ tied.delegated id file ∙ sym (still_kept s.counter l m first id file)
@@ -572,7 +568,7 @@ over_tied n s l current number r x found e good tied = by x e
     by None f = new f
     by (Some o) f =
         elim (cases_Bool (o.number == number)) [
-          | inl same ↦ rw same (renews_tied n s l (come_again time m number r) r.id good tied (still_then s.counter s.counter l m (come_again time m number r) first (details_still s.counter (is_client number true) (with_details row.details) m (λ c. (refl, refl, refl)) first.set)))
+          | inl same ↦ rw same (renews_tied n s l (come_again m number r) r.id good tied (still_then s.counter s.counter l m (come_again m number r) first (details_still s.counter (is_client number true) (with_details row.details) m (λ c. (refl, refl, refl)) first.set)))
           | inr other ↦ rw other (over o f other)
         ]
 
@@ -588,9 +584,9 @@ confirm_tied_by : (n : ℕ) (s : CoreState) (l : NfsLists) (current : Option ℕ
 confirm_tied_by n s l current verifier None good tied = tied
 confirm_tied_by n s l current verifier (Some number) good tied = by (confirmed_by verifier (find (is_client number false) l.clients)) refl
   where
-    held : (o : Option ClientRow) → Ties n s l (confirm_held s l current number verifier o)
+    held : (o : Option ClientRow) → Ties n s l (confirm_held l current verifier o)
     held None = tied
-    held (Some r) = renews_tied n s l _ r.id good tied (time_still s.counter (lease_end s) number l tied.set)
+    held (Some r) = renews_tied n s l l r.id good tied (still_self s.counter l tied.set)
 
     by : (y : Option ClientRow) → confirmed_by verifier (find (is_client number false) l.clients) ≡ y → Ties n s l (confirm_found s l current number verifier y)
     by None e = held (find (is_client number true) l.clients)

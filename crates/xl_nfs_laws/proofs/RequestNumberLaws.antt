@@ -23,7 +23,6 @@ use Rattle.xl_nfs_laws.proofs.OpenNumberLaws.{AreFew, carried_few, close_few, co
 use Rattle.xl_nfs_laws.proofs.LockNumberLaws.{lock_few, release_few, test_few, unlock_few}
 use Rattle.xl_nfs_opens.specs.Files.{file_named}
 use Rattle.xl_core.specs.Ids.{number_in}
-use Rattle.xl_nfs_opens.specs.Leases.{lease_end}
 use Rattle.xl_nfs_laws.specs.StateidNumbers.{AreGivenOut, StayGivenOut}
 use Rattle.xl_plan.specs.Plans.{deeds_of}
 use Rattle.xl_nfs_opens.specs.Plans.{Plan, carried}
@@ -65,11 +64,11 @@ look_few last files l (Some file) name given =
 
 -- ---- operations of clients
 
-renew_few : (last : ℕ) (s : CoreState) (l : NfsLists) (current : Option ℕ) (o : Option ℕ) → AreGivenOut last l → AreFew last (renew_number s l current o)
-renew_few last s l current None given = tt
-renew_few last s l current (Some number) given = by (find (is_client number true) l.clients)
+renew_few : (last : ℕ) (l : NfsLists) (current : Option ℕ) (o : Option ℕ) → AreGivenOut last l → AreFew last (renew_number l current o)
+renew_few last l current None given = tt
+renew_few last l current (Some number) given = by (find (is_client number true) l.clients)
   where
-    by : (o : Option ClientRow) → AreFew last (renew_found s l current number o)
+    by : (o : Option ClientRow) → AreFew last (renew_found l current o)
     by None = tt
     by (Some r) = does_few last (Renews r.id ∷ []) l given
 
@@ -84,23 +83,23 @@ set_few last s l current a kept given =
       | inr e ↦ rw e (does_few last [] l given)
     ]
 
-come_given : (last : ℕ) (time : Moment) (l : NfsLists) (number : ℕ) (r : ClientRow) → AreGivenOut last l → AreGivenOut last (come time l number r)
-come_given last time l number r given = less_given last (λ q. number == q.client) l given
+come_given : (last : ℕ) (l : NfsLists) (number : ℕ) (r : ClientRow) → AreGivenOut last l → AreGivenOut last (come l number r)
+come_given last l number r given = less_given last (λ q. number == q.client) l given
 
 over_few : (last : ℕ) (s : CoreState) (l : NfsLists) (current : Option ℕ) (number : ℕ) (r : ClientRow) (o : Option ClientRow) → AreGivenOut last l → AreFew last (confirm_over s l current number r o)
-over_few last s l current number r None given = does_few last (Renews r.id ∷ []) (come (lease_end s) l number r) (come_given last (lease_end s) l number r given)
+over_few last s l current number r None given = does_few last (Renews r.id ∷ []) (come l number r) (come_given last l number r given)
 over_few last s l current number r (Some o) given =
     elim (cases_Bool (o.number == number)) [
       | inl e ↦ rw e (does_few last (Renews r.id ∷ []) l given)
-      | inr e ↦ rw e (does_few last (ends (party_named s.names (NfsParty r.id)) ++ Renews r.id ∷ []) (come (lease_end s) (without_client o.number l) number r) (come_given last (lease_end s) (without_client o.number l) number r (less_given last (λ q. o.number == q.client) l given)))
+      | inr e ↦ rw e (does_few last (ends (party_named s.names (NfsParty r.id)) ++ Renews r.id ∷ []) (come (without_client o.number l) number r) (come_given last (without_client o.number l) number r (less_given last (λ q. o.number == q.client) l given)))
     ]
 
-held_few : (last : ℕ) (s : CoreState) (l : NfsLists) (current : Option ℕ) (number : ℕ) (verifier : List ℕ) (o : Option ClientRow) → AreGivenOut last l → AreFew last (confirm_held s l current number verifier o)
-held_few last s l current number verifier None given = tt
-held_few last s l current number verifier (Some r) given = does_few last (Renews r.id ∷ []) l given
+held_few : (last : ℕ) (l : NfsLists) (current : Option ℕ) (verifier : List ℕ) (o : Option ClientRow) → AreGivenOut last l → AreFew last (confirm_held l current verifier o)
+held_few last l current verifier None given = tt
+held_few last l current verifier (Some r) given = does_few last (Renews r.id ∷ []) l given
 
 found_number_few : (last : ℕ) (s : CoreState) (l : NfsLists) (current : Option ℕ) (number : ℕ) (verifier : List ℕ) (o : Option ClientRow) → AreGivenOut last l → AreFew last (confirm_found s l current number verifier o)
-found_number_few last s l current number verifier None given = held_few last s l current number verifier (find (is_client number true) l.clients) given
+found_number_few last s l current number verifier None given = held_few last l current verifier (find (is_client number true) l.clients) given
 found_number_few last s l current number verifier (Some r) given =
     let m = without_number number l in
     over_few last s m current number r (find (is_client_named r.id true) m.clients) given
@@ -119,7 +118,7 @@ item_few files others s l current GetFh given = get_few s.counter l current give
 item_few files others s l current (Lookup name) given = look_few s.counter files l current name given
 item_few files others s l current (SetClientId a) given = (let m = without_named a.id l in set_few s.counter s m current a (number_kept a.verifier (find (is_client_named a.id true) m.clients)) (found_given s.counter l (find (is_client_named a.id false) l.clients) given))
 item_few files others s l current (SetClientIdConfirm a) given = number_few s.counter s l current a.verifier (number_in s a.clientid) given
-item_few files others s l current (Renew clientid) given = renew_few s.counter s l current (number_in s clientid) given
+item_few files others s l current (Renew clientid) given = renew_few s.counter l current (number_in s clientid) given
 item_few files others s l current (Open a) given = open_few files others s l current a given
 item_few files others s l current (OpenConfirm a) given = confirm_few s l current a given
 item_few files others s l current (OpenDowngrade a) given = downgrade_few s l current a given

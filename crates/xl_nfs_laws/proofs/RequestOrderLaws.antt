@@ -32,11 +32,10 @@ use Rattle.xl_nfs_locks.specs.Tests.{lock_test, locker_of, test_at, test_of, tes
 use Rattle.xl_nfs_opens.specs.Closing.{Returning, deleg_return, return_done, returned}
 use Rattle.xl_nfs_opens.specs.Files.{file_named}
 use Rattle.xl_core.specs.Ids.{number_in}
-use Rattle.xl_nfs_opens.specs.Leases.{lease_end}
 use Rattle.xl_nfs_laws.specs.Orderly.{IsOrderly}
 use Rattle.xl_nfs_opens.specs.Plans.{carried}
 use Rattle.xl_nfs_opens.specs.Opens.{client_in}
-use Rattle.xl_nfs_opens.specs.Renewing.{renewals, renewed_for, renewed_if, state_client}
+use Rattle.xl_nfs_opens.specs.Renewing.{renewals, state_client}
 use Rattle.xl_front_nfs.specs.Clients.{come, come_again, confirm_found, confirm_held, confirm_number, confirm_over, confirmed_by, has_room, number_kept, renew, renew_found, renew_number, set_by, set_client_id, set_client_id_confirm, without_found, without_named, without_number}
 use Rattle.xl_front_nfs.specs.FrontNfs.{Called, Garbage, Null, Refused, Compound, call_in, nfs_step, replied}
 use Rattle.xl_front_nfs.specs.Handles.{found_file, get_fh, look_up, put_fh, put_file, put_root_fh}
@@ -74,13 +73,13 @@ look_keeps files l (Some file) name orderly =
 
 -- ---- operations of clients
 
-renew_keeps : (s : CoreState) (l : NfsLists) (current : Option ℕ) (o : Option ℕ) → IsOrderly l → Keeps (renew_number s l current o)
-renew_keeps s l current None orderly = tt
-renew_keeps s l current (Some number) orderly = by (find (is_client number true) l.clients)
+renew_keeps : (l : NfsLists) (current : Option ℕ) (o : Option ℕ) → IsOrderly l → Keeps (renew_number l current o)
+renew_keeps l current None orderly = tt
+renew_keeps l current (Some number) orderly = by (find (is_client number true) l.clients)
   where
-    by : (o : Option ClientRow) → Keeps (renew_found s l current number o)
+    by : (o : Option ClientRow) → Keeps (renew_found l current o)
     by None = tt
-    by (Some r) = same_orderly l _ refl refl orderly
+    by (Some r) = orderly
 
 without_orderly : (l : NfsLists) (o : Option ClientRow) → IsOrderly l → IsOrderly (without_found l o)
 without_orderly l None orderly = orderly
@@ -93,23 +92,23 @@ set_keeps s l current a kept orderly =
       | inr e ↦ rw e orderly
     ]
 
-come_orderly : (time : Moment) (l : NfsLists) (number : ℕ) (r : ClientRow) → IsOrderly l → IsOrderly (come time l number r)
-come_orderly time l number r orderly = same_orderly (without_client number l) (come time l number r) refl refl (client_goes l number orderly)
+come_orderly : (l : NfsLists) (number : ℕ) (r : ClientRow) → IsOrderly l → IsOrderly (come l number r)
+come_orderly l number r orderly = same_orderly (without_client number l) (come l number r) refl refl (client_goes l number orderly)
 
 over_keeps : (s : CoreState) (l : NfsLists) (current : Option ℕ) (number : ℕ) (r : ClientRow) (o : Option ClientRow) → IsOrderly l → Keeps (confirm_over s l current number r o)
-over_keeps s l current number r None orderly = come_orderly (lease_end s) l number r orderly
+over_keeps s l current number r None orderly = come_orderly l number r orderly
 over_keeps s l current number r (Some o) orderly =
     elim (cases_Bool (o.number == number)) [
-      | inl e ↦ rw e (same_orderly l (come_again (lease_end s) l number r) refl refl orderly)
-      | inr e ↦ rw e (come_orderly (lease_end s) (without_client o.number l) number r (client_goes l o.number orderly))
+      | inl e ↦ rw e (same_orderly l (come_again l number r) refl refl orderly)
+      | inr e ↦ rw e (come_orderly (without_client o.number l) number r (client_goes l o.number orderly))
     ]
 
-held_keeps : (s : CoreState) (l : NfsLists) (current : Option ℕ) (number : ℕ) (verifier : List ℕ) (o : Option ClientRow) → IsOrderly l → Keeps (confirm_held s l current number verifier o)
-held_keeps s l current number verifier None orderly = tt
-held_keeps s l current number verifier (Some r) orderly = same_orderly l _ refl refl orderly
+held_keeps : (l : NfsLists) (current : Option ℕ) (verifier : List ℕ) (o : Option ClientRow) → IsOrderly l → Keeps (confirm_held l current verifier o)
+held_keeps l current verifier None orderly = tt
+held_keeps l current verifier (Some r) orderly = orderly
 
 found_number_keeps : (s : CoreState) (l : NfsLists) (current : Option ℕ) (number : ℕ) (verifier : List ℕ) (o : Option ClientRow) → IsOrderly l → Keeps (confirm_found s l current number verifier o)
-found_number_keeps s l current number verifier None orderly = held_keeps s l current number verifier (find (is_client number true) l.clients) orderly
+found_number_keeps s l current number verifier None orderly = held_keeps l current verifier (find (is_client number true) l.clients) orderly
 found_number_keeps s l current number verifier (Some r) orderly =
     let m = without_number number l in
     over_keeps s m current number r (find (is_client_named r.id true) m.clients) (same_orderly l m refl refl orderly)
@@ -128,7 +127,7 @@ item_keeps files others s l current GetFh orderly = get_keeps l current orderly
 item_keeps files others s l current (Lookup name) orderly = look_keeps files l current name orderly
 item_keeps files others s l current (SetClientId a) orderly = (let m = without_named a.id l in set_keeps s m current a (number_kept a.verifier (find (is_client_named a.id true) m.clients)) (without_orderly l (find (is_client_named a.id false) l.clients) orderly))
 item_keeps files others s l current (SetClientIdConfirm a) orderly = number_keeps s l current a.verifier (number_in s a.clientid) orderly
-item_keeps files others s l current (Renew clientid) orderly = renew_keeps s l current (number_in s clientid) orderly
+item_keeps files others s l current (Renew clientid) orderly = renew_keeps l current (number_in s clientid) orderly
 item_keeps files others s l current (Open a) orderly = open_keeps files others s l current a orderly
 item_keeps files others s l current (OpenConfirm a) orderly = confirm_keeps s l current a orderly
 item_keeps files others s l current (OpenDowngrade a) orderly = downgrade_keeps s l current a orderly
@@ -180,27 +179,27 @@ shown_orderly f effect orderly = shown_by f.state effect orderly
 abbrev Stood : NfsLists → NfsLists → Type 0
 Stood l m = (o : OwnerRow) → IsIn o m.owners → IsIn o l.owners
 
-come_stood : (time : Moment) (l : NfsLists) (number : ℕ) (r : ClientRow) → Stood l (come time l number r)
-come_stood time l number r o here = (in_filter_from (λ x. not (number == x.name.client)) o l.owners here).0
+come_stood : (l : NfsLists) (number : ℕ) (r : ClientRow) → Stood l (come l number r)
+come_stood l number r o here = (in_filter_from (λ x. not (number == x.name.client)) o l.owners here).0
 
 over_stood : (n : ℕ) (s : CoreState) (l m : NfsLists) (current : Option ℕ) (number : ℕ) (r : ClientRow) (x : Option ClientRow) → Stood l m → Stood l (carried n s l (confirm_over s m current number r x)).3
-over_stood n s l m current number r None stood = λ o here. stood o (come_stood (lease_end s) m number r o here)
+over_stood n s l m current number r None stood = λ o here. stood o (come_stood m number r o here)
 over_stood n s l m current number r (Some x) stood =
     elim (cases_Bool (x.number == number)) [
       | inl e ↦ rw e stood
-      | inr e ↦ rw e (λ o here. stood o (in_filter_from (λ y. not (x.number == y.name.client)) o m.owners (come_stood (lease_end s) (without_client x.number m) number r o here)).0)
+      | inr e ↦ rw e (λ o here. stood o (in_filter_from (λ y. not (x.number == y.name.client)) o m.owners (come_stood (without_client x.number m) number r o here)).0)
     ]
 
-held_stood : (n : ℕ) (s : CoreState) (l : NfsLists) (current : Option ℕ) (number : ℕ) (verifier : List ℕ) (x : Option ClientRow) → Stood l (carried n s l (confirm_held s l current number verifier x)).3
-held_stood n s l current number verifier None = λ o here. here
-held_stood n s l current number verifier (Some r) = λ o here. here
+held_stood : (n : ℕ) (s : CoreState) (l : NfsLists) (current : Option ℕ) (verifier : List ℕ) (x : Option ClientRow) → Stood l (carried n s l (confirm_held l current verifier x)).3
+held_stood n s l current verifier None = λ o here. here
+held_stood n s l current verifier (Some r) = λ o here. here
 
 number_stood : (n : ℕ) (s : CoreState) (l : NfsLists) (current : Option ℕ) (verifier : List ℕ) (x : Option ℕ) → Stood l (carried n s l (confirm_number s l current verifier x)).3
 number_stood n s l current verifier None = λ o here. here
 number_stood n s l current verifier (Some number) = by (confirmed_by verifier (find (is_client number false) l.clients))
   where
     by : (x : Option ClientRow) → Stood l (carried n s l (confirm_found s l current number verifier x)).3
-    by None = held_stood n s l current number verifier (find (is_client number true) l.clients)
+    by None = held_stood n s l current verifier (find (is_client number true) l.clients)
     by (Some r) = (let m = without_number number l in over_stood n s l m current number r (find (is_client_named r.id true) m.clients) (λ o here. here))
 
 put_stood : (n : ℕ) (s : CoreState) (count : ℕ) (l : NfsLists) (current : Option ℕ) (x : Option ℕ) → Stood l (carried n s l (put_file count l current x)).3
@@ -239,64 +238,50 @@ without_stood : (l : NfsLists) (x : Option ClientRow) → Stood l (without_found
 without_stood l None = λ o here. here
 without_stood l (Some r) = λ o here. here
 
-renew_stood : (n : ℕ) (s : CoreState) (l : NfsLists) (current : Option ℕ) (x : Option ℕ) → Stood l (carried n s l (renew_number s l current x)).3
+renew_stood : (n : ℕ) (s : CoreState) (l : NfsLists) (current : Option ℕ) (x : Option ℕ) → Stood l (carried n s l (renew_number l current x)).3
 renew_stood n s l current None = λ o here. here
 renew_stood n s l current (Some number) = by (find (is_client number true) l.clients)
   where
-    by : (x : Option ClientRow) → Stood l (carried n s l (renew_found s l current number x)).3
-    by None = λ o here. here
-    by (Some r) = λ o here. here
-
-renewed_stood : (s : CoreState) (l : NfsLists) (x : Option ℕ) → Stood l (renewed_for s l x)
-renewed_stood s l None = λ o here. here
-renewed_stood s l (Some number) = by (find (is_client number true) l.clients)
-  where
-    by : (x : Option ClientRow) → Stood l (renewed_if s l number x)
+    by : (x : Option ClientRow) → Stood l (carried n s l (renew_found l current x)).3
     by None = λ o here. here
     by (Some r) = λ o here. here
 
 test_stood : (n : ℕ) (s : CoreState) (l : NfsLists) (current : Option ℕ) (a : LockTestArgsItem) → Stood l (carried n s l (lock_test s l current a)).3
 unfolding lock_test
-test_stood n s l current a = λ o here. renewed_stood s l (number_in s a.owner.clientid) o (looked o current here)
+test_stood n s l current a = λ o here. looked o current here
   where
-    m : NfsLists
-    m = renewed_for s l (number_in s a.owner.clientid)
-
     t : CoreState
     t = all_done n s (renewals l (number_in s a.owner.clientid))
 
-    to : (at : ℕ) (c : ClientRow) (last : Option ℕ) → Stood m (carried n t m (test_to m (Some at) a at (locker_of c a.owner.owner) last)).3
+    to : (at : ℕ) (c : ClientRow) (last : Option ℕ) → Stood l (carried n t l (test_to l (Some at) a at (locker_of c a.owner.owner) last)).3
     to at c None = λ o here. here
     to at c (Some last) = λ o here. here
 
-    of : (at : ℕ) (c : Option ClientRow) → Stood m (carried n t m (test_of m (Some at) a at c)).3
+    of : (at : ℕ) (c : Option ClientRow) → Stood l (carried n t l (test_of l (Some at) a at c)).3
     of at None = λ o here. here
     of at (Some c) = to at c (last_byte a.offset a.len)
 
-    looked : (o : OwnerRow) (current : Option ℕ) → IsIn o (carried n t m (test_at t m a current)).3.owners → IsIn o m.owners
+    looked : (o : OwnerRow) (current : Option ℕ) → IsIn o (carried n t l (test_at t l a current)).3.owners → IsIn o l.owners
     looked o None here = here
-    looked o (Some number) here = elim (cases_Bool (number == 0)) [ inl e ↦ (rw e at here) | inr e ↦ of number (client_in t m a.owner.clientid) o (rw e at here) ]
+    looked o (Some number) here = elim (cases_Bool (number == 0)) [ inl e ↦ (rw e at here) | inr e ↦ of number (client_in t l a.owner.clientid) o (rw e at here) ]
 
 release_stood : (n : ℕ) (s : CoreState) (l : NfsLists) (current : Option ℕ) (a : OwnerItem) → Stood l (carried n s l (release s l current a)).3
 unfolding release released
-release_stood n s l current a = λ o here. renewed_stood s l (number_in s a.clientid) o (by (client_in t m a.clientid) o here)
+release_stood n s l current a = λ o here. by (client_in t l a.clientid) o here
   where
-    m : NfsLists
-    m = renewed_for s l (number_in s a.clientid)
-
     t : CoreState
     t = all_done n s (renewals l (number_in s a.clientid))
 
-    gone : (x : Option OwnerRow) → Stood m (without_owner_found m x)
+    gone : (x : Option OwnerRow) → Stood l (without_owner_found l x)
     gone None = λ o here. here
-    gone (Some r) = λ o here. (in_filter_from (λ y. not (is_owner r.number y)) o m.owners here).0
+    gone (Some r) = λ o here. (in_filter_from (λ y. not (is_owner r.number y)) o l.owners here).0
 
-    by : (c : Option ClientRow) → Stood m (carried n t m (release_of t m current a.owner c)).3
+    by : (c : Option ClientRow) → Stood l (carried n t l (release_of t l current a.owner c)).3
     by None = λ o here. here
     by (Some c) =
         elim (cases_Bool (holds_any t c.id a.owner)) [
           | inl e ↦ rw e (λ o here. here)
-          | inr e ↦ rw e (gone (find (is_owner_named c.number kinds.Lock a.owner) m.owners))
+          | inr e ↦ rw e (gone (find (is_owner_named c.number kinds.Lock a.owner) l.owners))
         ]
 
 return_stood : (n : ℕ) (s : CoreState) (l : NfsLists) (current : Option ℕ) (x : Returning) → Stood l (carried n s l (return_done s l current x)).3
@@ -318,8 +303,7 @@ others_stood n files others s l current (OpenDowngrade a) o none here = absurd (
 others_stood n files others s l current (Close a) o none here = absurd (true≢false none)
 others_stood n files others s l current (DelegReturn stateid) o none here =
     let t = all_done n s (renewals l (state_client s l stateid)) in
-    let m : NfsLists = renewed_for s l (state_client s l stateid) in
-    renewed_stood s l (state_client s l stateid) o (return_stood n t m current (returned t m current stateid) o here)
+    return_stood n t l current (returned t l current stateid) o here
 others_stood n files others s l current (Lock a) o none here = absurd (true≢false none)
 others_stood n files others s l current (LockT a) o none here = test_stood n s l current a o here
 others_stood n files others s l current (LockU a) o none here = absurd (true≢false none)

@@ -72,11 +72,11 @@ renew_by : (n : ℕ) (s : CoreState) (l : NfsLists) (current : Option ℕ) (clie
 unfolding renew
 renew_by n s l current clientid = by (number_in s clientid) refl
   where
-    found : (number : ℕ) → number_in s clientid ≡ Some number → (o : Option ClientRow) → find (is_client number true) l.clients ≡ o → By n s (λ id. is_named s l clientid true id) (renew_found s l current number o)
+    found : (number : ℕ) → number_in s clientid ≡ Some number → (o : Option ClientRow) → find (is_client number true) l.clients ≡ o → By n s (λ id. is_named s l clientid true id) (renew_found l current o)
     found number named None e = tt
     found number named (Some r) e = (named_by s l clientid number true r named e, tt)
 
-    by : (o : Option ℕ) → number_in s clientid ≡ o → By n s (λ id. is_named s l clientid true id) (renew_number s l current o)
+    by : (o : Option ℕ) → number_in s clientid ≡ o → By n s (λ id. is_named s l clientid true id) (renew_number l current o)
     by None named = tt
     by (Some number) named = found number named (find (is_client number true) l.clients) refl
 
@@ -118,7 +118,7 @@ confirm_by n s l current a = by (number_in s a.clientid) refl
     Client : List ℕ → Type 0
     Client id = is_named s l a.clientid true id ⊎ is_named s l a.clientid false id
 
-    held : (number : ℕ) → number_in s a.clientid ≡ Some number → (o : Option ClientRow) → find (is_client number true) l.clients ≡ o → By n s Client (confirm_held s l current number a.verifier o)
+    held : (number : ℕ) → number_in s a.clientid ≡ Some number → (o : Option ClientRow) → find (is_client number true) l.clients ≡ o → By n s Client (confirm_held l current a.verifier o)
     held number named None e = tt
     held number named (Some r) e = (inl (named_by s l a.clientid number true r named e), tt)
 

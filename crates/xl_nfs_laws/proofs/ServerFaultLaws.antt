@@ -12,7 +12,6 @@ use Rattle.xl_nfs.specs.declared.locks.KnownLocker.{KnownLocker}
 use Rattle.xl_nfs.specs.declared.locks.UnlockArgs.{UnlockArgs}
 use Rattle.xl_nfs.specs.declared.status.NfsStatus.{NfsStatus}
 use Rattle.xl_nfs.specs.declared.status.NfsStatus.TheVariants as statuses
-use Rattle.xl_nfs_state.proofs.SoundLaws.{client_renewed}
 use Rattle.xl_nfs_state.specs.State.{NfsLists, IsSound, is_client, is_kept}
 use Rattle.xl_nfs_state.specs.declared.client.ClientRow.{ClientRow}
 use Rattle.xl_nfs_state.specs.declared.kept.KeptRow.{KeptRow}
@@ -31,10 +30,9 @@ use Rattle.xl_nfs_laws.proofs.OpenSeqidLaws.{IfRefused, refused_not}
 use Rattle.xl_nfs_opens.specs.Asks.{unlock_ask}
 use Rattle.xl_nfs_opens.specs.Closing.{checked, opener_by, standing_fault}
 use Rattle.xl_core.specs.Ids.{number_in}
-use Rattle.xl_nfs_opens.specs.Leases.{lease_end}
 use Rattle.xl_nfs_opens.specs.Opens.{all_rooms, client_in, repeated}
 use Rattle.xl_nfs_opens.specs.Plans.{carried, status_of}
-use Rattle.xl_nfs_opens.specs.Renewing.{renewals, renewals_by, renewed_for, renewed_if, state_client}
+use Rattle.xl_nfs_opens.specs.Renewing.{renewals, renewals_by, state_client}
 use Rattle.xl_nfs_opens.specs.Seqids.{advances, is_room_for}
 use Rattle.xl_nfs_opens.specs.declared.opener.Checked.{Checked}
 use Rattle.xl_nfs_opens.specs.declared.opener.Checked.TheVariants.{Passed, Refused, Repeated}
@@ -103,15 +101,7 @@ repeat_sound : (n : ℕ) (s : CoreState) (l : NfsLists) (current : Option ℕ) (
 repeat_sound n s l current None = λ d. cc
 repeat_sound n s l current (Some k) = λ d. cc
 
--- ---- the lists and the core behind a renewal
-
-renewed_sound : (s : CoreState) (l : NfsLists) (client : Option ℕ) → IsSound l → IsSound (renewed_for s l client)
-renewed_sound s l None sound = sound
-renewed_sound s l (Some number) sound = by (find (is_client number true) l.clients)
-  where
-    by : (o : Option ClientRow) → IsSound (renewed_if s l number o)
-    by None = sound
-    by (Some r) = client_renewed l (is_client number true) (lease_end s) sound
+-- ---- the core behind a renewal
 
 renewals_fit : (n : ℕ) (s : CoreState) (l : NfsLists) (client : Option ℕ) → AreFit n s (renewals l client)
 renewals_fit n s l None = tt
@@ -149,9 +139,8 @@ known_sound : (n : ℕ) (s : CoreState) (l : NfsLists) (current : Option ℕ) (a
 unfolding lock_known
 known_sound n s l current a x sound =
     let who = state_client s l x.stateid in
-    let m : NfsLists = renewed_for s l who in
     let t : CoreState = all_done n s (renewals l who) in
-    lock_found_sound n t m current a x (locks_found t m current 12 x.seqid x.stateid) (renewed_sound s l who sound) (locks_refused t m current 12 x.seqid x.stateid) (found_next t m current 12 x.seqid x.stateid)
+    lock_found_sound n t l current a x (locks_found t l current 12 x.seqid x.stateid) sound (locks_refused t l current 12 x.seqid x.stateid) (found_next t l current 12 x.seqid x.stateid)
 
 -- ---- LOCK under an open
 
@@ -189,12 +178,10 @@ first_sound : (n : ℕ) (s : CoreState) (l : NfsLists) (current : Option ℕ) (a
 unfolding lock_new lock_named
 first_sound n s l current a x =
     let opens = state_client s l x.open_stateid in
-    let m : NfsLists = renewed_for s l opens in
     let t : CoreState = all_done n s (renewals l opens) in
     let locks = number_in t x.owner.clientid in
-    let k : NfsLists = renewed_for t m locks in
-    let u : CoreState = all_done n t (renewals m locks) in
-    join_checked_sound n u k current a x (checked u k current 12 x.open_seqid x.open_stateid) (refused_not u k current 12 x.open_seqid x.open_stateid)
+    let u : CoreState = all_done n t (renewals l locks) in
+    join_checked_sound n u l current a x (checked u l current 12 x.open_seqid x.open_stateid) (refused_not u l current 12 x.open_seqid x.open_stateid)
 
 pub lock_sound : (n : ℕ) (s : CoreState) (l : NfsLists) (current : Option ℕ) (a : LockArgsItem) → IsSound l → (carried n s l (lock s l current a)).0 ≡ Ended statuses.ServerFault → ⊥
 unfolding lock
@@ -252,6 +239,5 @@ pub unlock_sound : (n : ℕ) (s : CoreState) (l : NfsLists) (current : Option �
 unfolding unlock
 unlock_sound n s l current a good sound =
     let who = state_client s l a.stateid in
-    let m : NfsLists = renewed_for s l who in
     let t : CoreState = all_done n s (renewals l who) in
-    unlock_found_sound n t m current a (locks_found t m current 14 a.seqid a.stateid) (renewed_good n s l who good) (renewed_sound s l who sound) (locks_refused t m current 14 a.seqid a.stateid) (found_next t m current 14 a.seqid a.stateid)
+    unlock_found_sound n t l current a (locks_found t l current 14 a.seqid a.stateid) (renewed_good n s l who good) sound (locks_refused t l current 14 a.seqid a.stateid) (found_next t l current 14 a.seqid a.stateid)

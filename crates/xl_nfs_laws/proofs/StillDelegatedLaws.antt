@@ -7,12 +7,11 @@ use Rattle.std.specs.Option.{option_and_then}
 use Rattle.std.specs.Prelude.{◌&&◌, ◌||◌, bytes_eq}
 use Rattle.xl_base.proofs.Members.{all_append, all_from, all_in, all_weaker}
 use Rattle.xl_base.specs.Lists.{IsIn, Pairwise}
-use Rattle.xl_base.specs.declared.event.Moment.{Moment}
 use Rattle.xl_nfs_state.proofs.AnyLaws.{all_changed, all_left}
 use Rattle.xl_nfs_state.specs.Filed.{changed}
 use Rattle.xl_nfs_state.specs.Keys.{held_at as place_at, same_place}
-use Rattle.xl_nfs_state.specs.Rows.{with_standing, with_time, with_seqids}
-use Rattle.xl_nfs_state.specs.State.{NfsLists, delegated_on, hangs_on, is_client, is_client_named, is_kept, is_owner, is_stateid, is_under, is_whose, next_owner, with_clients, with_stateids, without, without_owner}
+use Rattle.xl_nfs_state.specs.Rows.{with_standing, with_seqids}
+use Rattle.xl_nfs_state.specs.State.{NfsLists, delegated_on, hangs_on, is_client_named, is_kept, is_owner, is_stateid, is_under, is_whose, next_owner, with_clients, with_stateids, without, without_owner}
 use Rattle.xl_nfs_state.specs.Verdict.{next_seqid}
 use Rattle.xl_nfs_state.specs.declared.client.ClientRow.{ClientRow}
 use Rattle.xl_nfs_state.specs.declared.owner.OwnerRow.{OwnerRow}
@@ -24,12 +23,9 @@ use Rattle.xl_nfs_state.specs.declared.stateid.Standing.{Standing}
 use Rattle.xl_nfs_state.specs.declared.stateid.StateidRow.{StateidRow}
 use Rattle.xl_nfs_state.specs.declared.stateid.Whose.TheVariants as whose
 use Rattle.xl_core.proofs.DeedLeaves.{found_in}
-use Rattle.xl_core.specs.State.{CoreState}
 use Rattle.xl_nfs_opens.specs.Closing.{locks_gone, next_seqids, failed_lists}
 use Rattle.xl_nfs_laws.specs.Delegated.{AreClients, AreSet, AreShut, IsShut, clients_apart, is_one_client, delegation_kept, delegation_numbered, is_open_still, number_confirmed, written_by}
-use Rattle.xl_nfs_opens.specs.Leases.{lease_end, renewed}
 use Rattle.xl_nfs_opens.specs.Opens.{can_enter, entered, freed, open_seqids, refused_lists, stood}
-use Rattle.xl_nfs_opens.specs.Renewing.{renewed_for, renewed_if}
 use Rattle.xl_nfs_opens.specs.Results.{spelled}
 use Rattle.xl_nfs_opens.specs.Seqids.{advances, closed_gone, counted, is_opener, is_room_for, kept_for, opener_number, remembered, seated, seated_by, seated_new, seqid_set}
 use Rattle.xl_nfs_opens.specs.declared.opener.Opener.{Opener}
@@ -386,14 +382,3 @@ details_still last which to l same set = record {
 
     right_one : (a b : ClientRow) → is_one_client a (to b) ≡ is_one_client a b
     right_one a b = (λ i. not (a.number == (same b).0 i) || bytes_eq a.id ((same b).2 i))
-
-pub time_still : (last : ℕ) (time : Moment) (number : ℕ) (l : NfsLists) → AreSet last l → AreStill last l (renewed time number l)
-time_still last time number l set = details_still last (is_client number true) (with_time time) l (λ c. (refl, refl, refl)) set
-
-pub renewed_still : (last : ℕ) (s : CoreState) (l : NfsLists) (client : Option ℕ) → AreSet last l → AreStill last l (renewed_for s l client)
-renewed_still last s l None set = still_self last l set
-renewed_still last s l (Some number) set = by (find (is_client number true) l.clients)
-  where
-    by : (o : Option ClientRow) → AreStill last l (renewed_if s l number o)
-    by None = still_self last l set
-    by (Some r) = time_still last (lease_end s) number l set

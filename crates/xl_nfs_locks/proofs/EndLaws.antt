@@ -32,9 +32,8 @@ use Rattle.xl_nfs_locks.specs.declared.joining.BothOwners.{BothOwners}
 use Rattle.xl_nfs_locks.specs.declared.joining.Joined.{Joined}
 use Rattle.xl_nfs_locks.specs.declared.joining.Joined.TheVariants.{Bad, Again, Joins}
 use Rattle.xl_nfs_opens.specs.Closing.{checked, standing_fault, opener_by}
-use Rattle.xl_core.specs.Ids.{number_in}
 use Rattle.xl_nfs_opens.specs.Opens.{client_in, is_granted}
-use Rattle.xl_nfs_opens.specs.Renewing.{number_of, state_client, renewed_for}
+use Rattle.xl_nfs_opens.specs.Renewing.{number_of}
 use Rattle.xl_nfs_opens.specs.Results.{ToldFits}
 use Rattle.xl_nfs_opens.specs.Seqids.{is_room_for}
 use Rattle.xl_nfs_opens.specs.declared.opener.Checked.{Checked}
@@ -96,7 +95,7 @@ lock_found_ends s l current a x (Passed r owner seqids) f = lock_standing_ends l
 
 known_ends : (s : CoreState) (l : NfsLists) (current : Option ℕ) (a : LockArgsItem) (x : KnownLocker) → Ends 12 current (lock_known s l current a x)
 unfolding lock_known
-known_ends s l current a x = λ t. (let m = renewed_for s l (state_client s l x.stateid) in lock_found_ends t m current a x (locks_found t m current 12 x.seqid x.stateid) (found_fault t m current 12 x.seqid x.stateid))
+known_ends s l current a x = λ t. lock_found_ends t l current a x (locks_found t l current 12 x.seqid x.stateid) (found_fault t l current 12 x.seqid x.stateid)
 
 -- ---- LOCK under an open
 
@@ -143,7 +142,7 @@ join_checked_ends s l current a x (Passed r owner seqids) f = join_standing_ends
 
 new_ends : (s : CoreState) (l : NfsLists) (current : Option ℕ) (a : LockArgsItem) (x : NewLockerItem) → Ends 12 current (lock_new s l current a x)
 unfolding lock_new lock_named
-new_ends s l current a x = λ t u. join_checked_ends u _ current a x (checked u _ current 12 x.open_seqid x.open_stateid) (checked_fault u _ current 12 x.open_seqid x.open_stateid)
+new_ends s l current a x = λ t u. join_checked_ends u l current a x (checked u l current 12 x.open_seqid x.open_stateid) (checked_fault u l current 12 x.open_seqid x.open_stateid)
 
 by_ends : (s : CoreState) (l : NfsLists) (current : Option ℕ) (a : LockArgsItem) (x : LockerItem) → Ends 12 current (lock_by s l current a x)
 by_ends s l current a (New x) = new_ends s l current a x
@@ -180,7 +179,7 @@ test_at_ends s l a (Some at) =
 
 pub test_ends : (s : CoreState) (l : NfsLists) (current : Option ℕ) (a : LockTestArgsItem) → Ends 13 current (lock_test s l current a)
 unfolding lock_test
-test_ends s l current a = λ t. test_at_ends t (renewed_for s l (number_in s a.owner.clientid)) a current
+test_ends s l current a = λ t. test_at_ends t l a current
 
 -- ---- LOCKU
 
@@ -222,7 +221,7 @@ unlock_found_ends s l current a (Passed r owner seqids) f = unlock_standing_ends
 
 pub unlock_ends : (s : CoreState) (l : NfsLists) (current : Option ℕ) (a : UnlockArgs) → Ends 14 current (unlock s l current a)
 unfolding unlock
-unlock_ends s l current a = λ t. (let m = renewed_for s l (state_client s l a.stateid) in unlock_found_ends t m current a (locks_found t m current 14 a.seqid a.stateid) (found_fault t m current 14 a.seqid a.stateid))
+unlock_ends s l current a = λ t. unlock_found_ends t l current a (locks_found t l current 14 a.seqid a.stateid) (found_fault t l current 14 a.seqid a.stateid)
 
 -- ---- RELEASE_LOCKOWNER
 
@@ -236,4 +235,4 @@ release_of_ends s l current owner (Some c) =
 
 pub release_ends : (s : CoreState) (l : NfsLists) (current : Option ℕ) (a : OwnerItem) → Ends 39 current (release s l current a)
 unfolding release
-release_ends s l current a = λ t. (let m = renewed_for s l (number_in s a.clientid) in release_of_ends t m current a.owner (client_in t m a.clientid))
+release_ends s l current a = λ t. release_of_ends t l current a.owner (client_in t l a.clientid)

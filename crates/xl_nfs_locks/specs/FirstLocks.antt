@@ -170,11 +170,11 @@ join_checked s l current a x (Passed r owner seqids) = join_standing s l current
 
 -- behind the renewal of the lock owner's client
 unfoldable pub lock_named : CoreState → NfsLists → Option ℕ → LockArgsItem → NewLockerItem → Plan
-lock_named s l current a x = renewing s l (number_in s x.owner.clientid) (λ t m. join_checked t m current a x (checked t m current 12 x.open_seqid x.open_stateid))
+lock_named s l current a x = renewing l (number_in s x.owner.clientid) (λ t. join_checked t l current a x (checked t l current 12 x.open_seqid x.open_stateid))
 
 -- behind the renewal of the open's client
 unfoldable pub lock_new : CoreState → NfsLists → Option ℕ → LockArgsItem → NewLockerItem → Plan
-lock_new s l current a x = renewing s l (state_client s l x.open_stateid) (λ t m. lock_named t m current a x)
+lock_new s l current a x = renewing l (state_client s l x.open_stateid) (λ t. lock_named t l current a x)
 
 -- ---- LOCK (16.10)
 

@@ -80,4 +80,4 @@ lock_found s l current a x (Passed r owner seqids) = lock_standing l current a r
 
 -- the client is renewed before
 unfoldable pub lock_known : CoreState → NfsLists → Option ℕ → LockArgsItem → KnownLocker → Plan
-lock_known s l current a x = renewing s l (state_client s l x.stateid) (λ t m. lock_found t m current a x (locks_found t m current 12 x.seqid x.stateid))
+lock_known s l current a x = renewing l (state_client s l x.stateid) (λ t. lock_found t l current a x (locks_found t l current 12 x.seqid x.stateid))

@@ -44,4 +44,4 @@ release_of s l current owner (Some c) =
 
 -- the client is renewed before
 unfoldable pub release : CoreState → NfsLists → Option ℕ → OwnerItem → Plan
-release s l current a = renewing s l (number_in s a.clientid) (λ t m. release_of t m current a.owner (client_in t m a.clientid))
+release s l current a = renewing l (number_in s a.clientid) (λ t. release_of t l current a.owner (client_in t l a.clientid))

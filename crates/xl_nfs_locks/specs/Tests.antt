@@ -40,4 +40,4 @@ test_at s l a (Some at) = if at == 0 then Does [] l (Ended statuses.IsDir, Some 
 
 -- the client is renewed before
 unfoldable pub lock_test : CoreState → NfsLists → Option ℕ → LockTestArgsItem → Plan
-lock_test s l current a = renewing s l (number_in s a.owner.clientid) (λ t m. test_at t m a current)
+lock_test s l current a = renewing l (number_in s a.owner.clientid) (λ t. test_at t l a current)

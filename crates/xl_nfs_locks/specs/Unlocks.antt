@@ -54,4 +54,4 @@ unlock_found s l current a (Passed r owner seqids) = unlock_standing l current a
 
 -- the client is renewed before
 unfoldable pub unlock : CoreState → NfsLists → Option ℕ → UnlockArgs → Plan
-unlock s l current a = renewing s l (state_client s l a.stateid) (λ t m. unlock_found t m current a (locks_found t m current 14 a.seqid a.stateid))
+unlock s l current a = renewing l (state_client s l a.stateid) (λ t. unlock_found t l current a (locks_found t l current 14 a.seqid a.stateid))

@@ -8,7 +8,7 @@ use Rattle.xl_nfs_state.specs.State.{is_whose, without_owner}
 use Rattle.xl_nfs_state.specs.declared.client.ClientRow.{ClientRow}
 use Rattle.xl_nfs_state.specs.declared.stateid.StateidRow.{StateidRow}
 use Rattle.xl_nfs_state.specs.declared.stateid.Whose.TheVariants as whose
-use Rattle.xl_nfs_opens.specs.Renewing.{renewals, renewed_for, renewing}
+use Rattle.xl_nfs_opens.specs.Renewing.{renewals, renewing}
 use Rattle.xl_nfs_opens.specs.declared.opener.Judged.{Judged}
 use Rattle.xl_nfs_opens.specs.declared.opener.Judged.TheVariants as judgements
 use Rattle.xl_nfs_opens.specs.declared.opener.Opener.{Opener}
@@ -47,11 +47,10 @@ unfolding open_as
 open_done n files others s l current at o a confirmed found r is e = ap (λ (x : Result ℕ NfsStatus). carried n s l (open_by others s l current o a confirmed x)) (sym is) ∙ e
 
 -- the lease of the client that is named is renewed, and then the rest
-pub renewing_done : (n : ℕ) (s t : CoreState) (l m : NfsLists) (client who : Option ℕ) (rest : CoreState → NfsLists → Plan) (r : Outcome) → client ≡ who → all_done n s (renewals l client) ≡ t → all_told_of n s (renewals l client) ≡ [] → m ≡ renewed_for s l client → carried n t m (rest t m) ≡ r → carried n s l (renewing s l who rest) ≡ r
-renewing_done n s t l m client who rest r same done told is e =
-    ap (λ (w : Option ℕ). carried n s l (renewing s l w rest)) (sym same)
-    ∙ (λ i. told_behind (told i) (carried n (done i) (renewed_for s l client) (rest (done i) (renewed_for s l client))))
-    ∙ ap (λ (x : NfsLists). told_behind [] (carried n t x (rest t x))) (sym is)
+pub renewing_done : (n : ℕ) (s t : CoreState) (l : NfsLists) (client who : Option ℕ) (rest : CoreState → Plan) (r : Outcome) → client ≡ who → all_done n s (renewals l client) ≡ t → all_told_of n s (renewals l client) ≡ [] → carried n t l (rest t) ≡ r → carried n s l (renewing l who rest) ≡ r
+renewing_done n s t l client who rest r same done told e =
+    ap (λ (w : Option ℕ). carried n s l (renewing l w rest)) (sym same)
+    ∙ (λ i. told_behind (told i) (carried n (done i) l (rest (done i))))
     ∙ ap (λ (x : Outcome). told_behind [] x) e
 
 -- an owner that was never confirmed goes with its open, and is new

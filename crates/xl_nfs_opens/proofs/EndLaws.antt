@@ -36,7 +36,7 @@ use Rattle.xl_nfs_state.specs.declared.stateid.StateidRow.{StateidRow}
 use Rattle.xl_nfs_opens.specs.Closing.{seqid_checked, owner_checked, holder_checked, row_checked, number_checked, checked, standing_fault, confirm_done, confirm_by, open_confirm, can_weaken, close_done, close_by, close, Returning, seqid_returned, holder_returned, row_returned, number_returned, returned, return_done, deleg_return}
 use Rattle.xl_nfs_opens.specs.Downgrades.{range_fault, first_fault, downgrade_fault, downgrade_done, downgrade_by, open_downgrade}
 use Rattle.xl_nfs_opens.specs.Opens.{check_claim, check_bits, check_how, found_name, named_file, is_delegation, by_delegation, file_of_claim, or_else, opened_file, judged, handle_by, handle_again, repeated, reclaims, open_held, has_room, granted_by, is_granted, answer_status, granted_wish, wish_of, answered, open_on, open_by, open_as, open_judged, opener_of, open_of, client_in, open_at, open_claimed, open_file}
-use Rattle.xl_nfs_opens.specs.Renewing.{number_of, state_client, renewed_for}
+use Rattle.xl_nfs_opens.specs.Renewing.{number_of}
 use Rattle.xl_nfs_opens.specs.Seqids.{read_status, kept_status, is_short}
 use Rattle.xl_nfs_opens.specs.declared.opener.Checked.{Checked}
 use Rattle.xl_nfs_opens.specs.declared.opener.Checked.TheVariants.{Refused, Repeated, Passed}
@@ -209,7 +209,7 @@ at_ends files others s l a (Some at) = of_ends files others s l (Some at) at a (
 
 pub open_ends : (files : List (List ℕ)) (others : ℕ) (s : CoreState) (l : NfsLists) (current : Option ℕ) (a : OpenArgsItem) → Ends 18 current (open_file files others s l current a)
 unfolding open_file open_claimed
-open_ends files others s l current a = λ t u. at_ends files others u _ a current
+open_ends files others s l current a = λ t u. at_ends files others u l a current
 
 -- ---- what names an open
 
@@ -282,7 +282,7 @@ confirm_by_ends s l current a (Passed r owner seqids) f = confirm_done_ends s l 
 
 pub confirm_ends : (s : CoreState) (l : NfsLists) (current : Option ℕ) (a : OpenConfirmArgs) → Ends 20 current (open_confirm s l current a)
 unfolding open_confirm
-confirm_ends s l current a = λ t. (let m = renewed_for s l (state_client s l a.stateid) in confirm_by_ends t m current a (checked t m current 20 a.seqid a.stateid) (checked_fault t m current 20 a.seqid a.stateid))
+confirm_ends s l current a = λ t. confirm_by_ends t l current a (checked t l current 20 a.seqid a.stateid) (checked_fault t l current 20 a.seqid a.stateid)
 
 range_is_fault : (r : StateidRow) (a : OpenDowngradeArgs) → IfFault (range_fault r a)
 range_is_fault r a =
@@ -310,7 +310,7 @@ downgrade_by_ends s l current a (Passed r owner seqids) f = downgrade_done_ends 
 
 pub downgrade_ends : (s : CoreState) (l : NfsLists) (current : Option ℕ) (a : OpenDowngradeArgs) → Ends 21 current (open_downgrade s l current a)
 unfolding open_downgrade
-downgrade_ends s l current a = λ t. (let m = renewed_for s l (state_client s l a.stateid) in downgrade_by_ends t m current a (checked t m current 21 a.seqid a.stateid) (checked_fault t m current 21 a.seqid a.stateid))
+downgrade_ends s l current a = λ t. downgrade_by_ends t l current a (checked t l current 21 a.seqid a.stateid) (checked_fault t l current 21 a.seqid a.stateid)
 
 close_done_ends : (s : CoreState) (l : NfsLists) (current : Option ℕ) (a : CloseArgs) (r : StateidRow) (owner : ℕ) (seqids : SeqidState) (o : Option NfsStatus) → IfFault o → Ends 4 current (close_done s l current a r owner seqids o)
 close_done_ends s l current a r owner seqids None f = λ t. (tt, λ _. refl)
@@ -323,7 +323,7 @@ close_by_ends s l current a (Passed r owner seqids) f = close_done_ends s l curr
 
 pub close_ends : (s : CoreState) (l : NfsLists) (current : Option ℕ) (a : CloseArgs) → Ends 4 current (close s l current a)
 unfolding close
-close_ends s l current a = λ t. (let m = renewed_for s l (state_client s l a.stateid) in close_by_ends t m current a (checked t m current 4 a.seqid a.stateid) (checked_fault t m current 4 a.seqid a.stateid))
+close_ends s l current a = λ t. close_by_ends t l current a (checked t l current 4 a.seqid a.stateid) (checked_fault t l current 4 a.seqid a.stateid)
 
 abbrev ReturnFault : Returning → Type 0
 ReturnFault (Ok r) = Unit {0}
@@ -367,4 +367,4 @@ return_done_ends s l current (Ok r) f = (plain_8 statuses.Ok, λ _. refl)
 
 pub return_ends : (s : CoreState) (l : NfsLists) (current : Option ℕ) (stateid : Stateid) → Ends 8 current (deleg_return s l current stateid)
 unfolding deleg_return
-return_ends s l current stateid = λ t. (let m = renewed_for s l (state_client s l stateid) in return_done_ends t m current (returned t m current stateid) (returned_fault t m current stateid))
+return_ends s l current stateid = λ t. return_done_ends t l current (returned t l current stateid) (returned_fault t l current stateid)

@@ -7,7 +7,6 @@ use Rattle.std.specs.Option.{option_and_then}
 use Rattle.std.specs.Prelude.{◌&&◌, ◌||◌, nat_lt, not, if◌then◌else◌}
 use Rattle.xl_base.proofs.Members.{all_in}
 use Rattle.xl_base.specs.Stable.{Stable}
-use Rattle.xl_base.specs.declared.event.Moment.{Moment}
 use Rattle.xl_base.specs.declared.name.Owner.{Owner}
 use Rattle.xl_base.specs.declared.name.Owner.TheVariants as owners
 use Rattle.xl_base.specs.declared.name.Protocol.TheVariants.{Nfs}
@@ -25,8 +24,6 @@ use Rattle.xl_nfs.specs.declared.opens.OpenConfirmArgs.{OpenConfirmArgs}
 use Rattle.xl_nfs.specs.declared.opens.OpenDowngradeArgs.{OpenDowngradeArgs}
 use Rattle.xl_nfs.specs.declared.status.NfsStatus.{NfsStatus}
 use Rattle.xl_nfs.specs.declared.status.NfsStatus.TheVariants as statuses
-use Rattle.xl_nfs_state.specs.Filed.{changed}
-use Rattle.xl_nfs_state.specs.Rows.{with_time}
 use Rattle.xl_nfs_state.specs.State.{NfsLists, without_owner, is_client, is_kept, is_owner, is_stateid, is_whose}
 use Rattle.xl_nfs_state.specs.Verdict.{verdict}
 use Rattle.xl_nfs_state.specs.declared.client.ClientRow.{ClientRow}
@@ -58,7 +55,6 @@ use Rattle.xl_core.specs.State.{CoreState}
 use Rattle.xl_core.specs.Ticks.{renew}
 use Rattle.xl_core.specs.declared.ask.Answer.{Answer}
 use Rattle.xl_core.specs.Ids.{number_in}
-use Rattle.xl_nfs_opens.specs.Leases.{lease_end}
 use Rattle.xl_nfs_opens.specs.Closing.{seqid_checked, owner_checked, holder_checked, row_checked, number_checked, checked, standing_fault, confirm_done, confirm_by, open_confirm, opener_named, opener_by, share_by_opener, share_of_open, Returning, seqid_returned, holder_returned, row_returned, number_returned, returned, cache_of_client, cache_of, return_done, deleg_return}
 use Rattle.xl_nfs_opens.specs.Downgrades.{downgrade_fault, downgrade_done, downgrade_by, open_downgrade, weakens}
 use Rattle.xl_nfs_opens.specs.Opens.{rights_of, share_by, share_held, gives, given_up, gives_all, share_ask, all_rooms, repeated, reclaims, open_held, has_room, granted_wish, wish_of, cache_by, cache_held, granted_by, is_granted, answered, open_on, open_by, open_as, open_judged, opener_of, open_of, client_in, open_at, claim_client, open_claimed, open_file, judged, opened_file}
@@ -67,7 +63,7 @@ use Rattle.xl_plan.specs.Plans.{deeds_of}
 use Rattle.xl_nfs_opens.specs.Plans.{Plan}
 use Rattle.xl_nfs.specs.Ops.{DelegReturn, Open, OpenConfirm, OpenDowngrade}
 use Rattle.std.specs.Int.{w32, w64, from_be_bytes}
-use Rattle.xl_nfs_opens.specs.Renewing.{number_of as number_in_other, client_if_live, state_numbered, state_client, renewals_by, renewals, renewed_if, renewed_for, renewing}
+use Rattle.xl_nfs_opens.specs.Renewing.{number_of as number_in_other, client_if_live, state_numbered, state_client, renewals_by, renewals, renewing}
 use Rattle.xl_nfs_opens.specs.declared.opener.Checked.{Checked}
 use Rattle.xl_nfs_opens.specs.declared.opener.Checked.TheVariants.{Refused, Repeated, Passed}
 use Rattle.xl_nfs_opens.specs.declared.opener.Judged.{Judged}
@@ -103,66 +99,31 @@ renews_own n s l Client (Some number) each = by (find (is_client number true) l.
     by None e = (tt, tt)
     by (Some r) e = ((tt, tt), (each number r refl e, tt))
 
-pub renewing_own : (n : ℕ) (s : CoreState) (l : NfsLists) (Client : List ℕ → Type 0) (who : Option ℕ) (rest : CoreState → NfsLists → Plan) → IsGood s
+pub renewing_own : (n : ℕ) (s : CoreState) (l : NfsLists) (Client : List ℕ → Type 0) (who : Option ℕ) (rest : CoreState → Plan) → IsGood s
     → ((number : ℕ) (r : ClientRow) → who ≡ Some number → find (is_client number true) l.clients ≡ Some r → Client r.id)
-    → ((t : CoreState) → t.stable ≡ s.stable → IsGood t → Owned n t Client (rest t (renewed_for s l who))) → Owned n s Client (renewing s l who rest)
+    → ((t : CoreState) → t.stable ≡ s.stable → IsGood t → Owned n t Client (rest t)) → Owned n s Client (renewing l who rest)
 renewing_own n s l Client who rest good each later =
     let ds = renewals l who in
     let t = all_done n s ds in
     let first = renews_own n s l Client who each in
     let second = later t (stable_kept n s l who) (deeds_good n s ds good first.0) in
-    let es = deeds_of n t (rest t (renewed_for s l who)) in
+    let es = deeds_of n t (rest t) in
     (fit_append n s ds es first.0 second.0, by_append n s Client ds es first.1 second.1)
 
 -- ---- who is named, once a lease is renewed
 
-id_kept : (m k : ℕ) (b : Bool) (time : Moment) (cs : List ClientRow) → option_map (λ r. r.id) (find (is_client m b) (changed (is_client k true) (with_time time) cs)) ≡ option_map (λ r. r.id) (find (is_client m b) cs)
-id_kept m k b time [] = refl
-id_kept m k b time (c ∷ cs) =
-    elim (cases_Bool (is_client k true c)) [
-      | inl e ↦ rw e (elim (cases_Bool (is_client m b c)) [
-        | inl d ↦ rw d refl
-        | inr d ↦ rw d refl
-      ])
-      | inr e ↦ rw e (elim (cases_Bool (is_client m b c)) [
-        | inl d ↦ rw d refl
-        | inr d ↦ rw d (id_kept m k b time cs)
-      ])
-    ]
-
-found_as : (s : CoreState) (l : NfsLists) (who : Option ℕ) (o : Option ℕ) → option_map (λ r. r.id) (option_and_then (λ m. find (is_client m true) (renewed_for s l who).clients) o) ≡ option_map (λ r. r.id) (option_and_then (λ m. find (is_client m true) l.clients) o)
-found_as s l None o = refl
-found_as s l (Some k) o = by (find (is_client k true) l.clients) o
-  where
-    by : (c : Option ClientRow) (x : Option ℕ) → option_map (λ r. r.id) (option_and_then (λ m. find (is_client m true) (renewed_if s l k c).clients) x) ≡ option_map (λ r. r.id) (option_and_then (λ m. find (is_client m true) l.clients) x)
-    by None x = refl
-    by (Some c) None = refl
-    by (Some c) (Some m) = id_kept m k true (lease_end s) l.clients
-
 number_as : (s t : CoreState) (clientid : ℕ) → t.stable ≡ s.stable → number_in t clientid ≡ number_in s clientid
 number_as s t clientid e = ap (λ (x : Stable). if clientid / 2 ^ 32 == x.epoch then Some (clientid % 2 ^ 32) else None) e
 
-pub named_as : (s t : CoreState) (l : NfsLists) (who : Option ℕ) (clientid : ℕ) (id : List ℕ) → t.stable ≡ s.stable → is_named t (renewed_for s l who) clientid true id → is_named s l clientid true id
-named_as s t l who clientid id e is = sym (found_as s l who (number_in s clientid)) ∙ ap (λ (o : Option ℕ). option_map (λ r. r.id) (option_and_then (λ m. find (is_client m true) (renewed_for s l who).clients) o)) (sym (number_as s t clientid e)) ∙ is
+pub named_as : (s t : CoreState) (l : NfsLists) (clientid : ℕ) (id : List ℕ) → t.stable ≡ s.stable → is_named t l clientid true id → is_named s l clientid true id
+named_as s t l clientid id e is = ap (λ (o : Option ℕ). option_map (λ r. r.id) (option_and_then (λ m. find (is_client m true) l.clients) o)) (sym (number_as s t clientid e)) ∙ is
 
 other_as : (s t : CoreState) (other : List ℕ) → t.stable ≡ s.stable → number_in_other t other ≡ number_in_other s other
 unfolding number_in_other
 other_as s t other e = ap (λ (x : Stable). if from_be_bytes w32 (take 4 other) == x.epoch then Some (from_be_bytes w64 (drop 4 other)) else None) e
 
-numbered_as : (s : CoreState) (l : NfsLists) (who o : Option ℕ) → state_numbered (renewed_for s l who) o ≡ state_numbered l o
-numbered_as s l None o = refl
-numbered_as s l (Some k) o = by (find (is_client k true) l.clients) o
-  where
-    by : (c : Option ClientRow) (x : Option ℕ) → state_numbered (renewed_if s l k c) x ≡ state_numbered l x
-    by None x = refl
-    by (Some c) None = refl
-    by (Some c) (Some m) = refl
-
-state_as_before : (s t : CoreState) (l : NfsLists) (who : Option ℕ) (stateid : Stateid) → t.stable ≡ s.stable → state_client t (renewed_for s l who) stateid ≡ state_client s l stateid
-state_as_before s t l who stateid e = ap (λ (o : Option ℕ). state_numbered (renewed_for s l who) o) (other_as s t stateid.other e) ∙ numbered_as s l who (number_in_other s stateid.other)
-
-pub holder_as : (s t : CoreState) (l : NfsLists) (who : Option ℕ) (stateid : Stateid) (id : List ℕ) → t.stable ≡ s.stable → is_holder t (renewed_for s l who) stateid id → is_holder s l stateid id
-holder_as s t l who stateid id e is = sym (found_as s l who (state_client s l stateid)) ∙ ap (λ (o : Option ℕ). option_map (λ r. r.id) (option_and_then (λ m. find (is_client m true) (renewed_for s l who).clients) o)) (sym (state_as_before s t l who stateid e)) ∙ is
+pub holder_as : (s t : CoreState) (l : NfsLists) (stateid : Stateid) (id : List ℕ) → t.stable ≡ s.stable → is_holder t l stateid id → is_holder s l stateid id
+holder_as s t l stateid id e is = ap (λ (o : Option ℕ). option_map (λ r. r.id) (option_and_then (λ m. find (is_client m true) l.clients) (state_numbered l o))) (sym (other_as s t stateid.other e)) ∙ is
 
 pub by_number : (l : NfsLists) (o : Option ℕ) (number : ℕ) (r : ClientRow) → o ≡ Some number → find (is_client number true) l.clients ≡ Some r → option_map (λ c. c.id) (option_and_then (λ m. find (is_client m true) l.clients) o) ≡ Some r.id
 by_number l o number r e found = ap (λ (x : Option ℕ). option_map (λ c. c.id) (option_and_then (λ m. find (is_client m true) l.clients) x)) e ∙ ap (λ (x : Option ClientRow). option_map (λ c. c.id) x) found
@@ -268,22 +229,20 @@ at_own n files others s l a (Some at) Client good each = by (client_in s l a.own
     by None e = (tt, tt)
     by (Some c) e = judged_own n files others s l (Some at) at (opener_of c a) a Client (judged l (opener_of c a) a.seqid) good (each c.id (ap (λ (o : Option ClientRow). option_map (λ r. r.id) o) e))
 
-claimant : (s t : CoreState) (l : NfsLists) (who : Option ℕ) (claim : OpenClaimItem) (number : ℕ) (r : ClientRow) → t.stable ≡ s.stable → claim_client t (renewed_for s l who) claim ≡ Some number → find (is_client number true) (renewed_for s l who).clients ≡ Some r → is_claimant s l claim r.id
-claimant s t l who (DelegateCurrent a) number r stable e found = holder_as s t l who a.stateid r.id stable (by_number (renewed_for s l who) (state_client t (renewed_for s l who) a.stateid) number r e found)
-claimant s t l who (Null name) number r stable e found = absurd cc
-claimant s t l who (Previous type) number r stable e found = absurd cc
-claimant s t l who (DelegatePrevious name) number r stable e found = absurd cc
+claimant : (s t : CoreState) (l : NfsLists) (claim : OpenClaimItem) (number : ℕ) (r : ClientRow) → t.stable ≡ s.stable → claim_client t l claim ≡ Some number → find (is_client number true) l.clients ≡ Some r → is_claimant s l claim r.id
+claimant s t l (DelegateCurrent a) number r stable e found = holder_as s t l a.stateid r.id stable (by_number l (state_client t l a.stateid) number r e found)
+claimant s t l (Null name) number r stable e found = absurd cc
+claimant s t l (Previous type) number r stable e found = absurd cc
+claimant s t l (DelegatePrevious name) number r stable e found = absurd cc
 
 pub open_own : (n : ℕ) (files : List (List ℕ)) (others : ℕ) (s : CoreState) (l : NfsLists) (current : Option ℕ) (a : OpenArgsItem) → IsGood s → Owned n s (Names s l (Open a)) (open_file files others s l current a)
 unfolding open_file open_claimed
 open_own n files others s l current a good =
     let Client = Names s l (Open a) in
     let who = number_in s a.owner.clientid in
-    renewing_own n s l Client who (λ t m. renewing t m (claim_client t m a.claim) (λ u k. open_at files others u k a current)) good (λ number r e found. inl (by_number l who number r e found))
-    (λ t stable left.
-    let m = renewed_for s l who in
-    renewing_own n t m Client (claim_client t m a.claim) (λ u k. open_at files others u k a current) left (λ number r e found. inr (claimant s t l who a.claim number r stable e found))
-    (λ u next kept. at_own n files others u (renewed_for t m (claim_client t m a.claim)) a current Client kept (λ id is. inl (named_as s t l who a.owner.clientid id stable (named_as t u m (claim_client t m a.claim) a.owner.clientid id next is)))))
+    renewing_own n s l Client who (λ t. renewing l (claim_client t l a.claim) (λ u. open_at files others u l a current)) good (λ number r e found. inl (by_number l who number r e found))
+    (λ t stable left. renewing_own n t l Client (claim_client t l a.claim) (λ u. open_at files others u l a current) left (λ number r e found. inr (claimant s t l a.claim number r stable e found))
+    (λ u next kept. at_own n files others u l a current Client kept (λ id is. inl (named_as s u l a.owner.clientid id (next ∙ stable) is))))
 
 -- ---- what names an open
 
@@ -341,8 +300,8 @@ pub open_share : (s : CoreState) (l : NfsLists) (Client : List ℕ → Type 0) (
 unfolding opener_by
 open_share s l Client r owner claim good each e = opener_held s Client r.file (find (is_client r.client true) l.clients) (find (is_owner owner) l.owners) claim good each e
 
-pub state_own : (n : ℕ) (s : CoreState) (l : NfsLists) (stateid : Stateid) (by : CoreState → NfsLists → Plan) → IsGood s
-    → ((t : CoreState) → t.stable ≡ s.stable → IsGood t → Owned n t (λ id. is_holder s l stateid id) (by t (renewed_for s l (state_client s l stateid)))) → Owned n s (λ id. is_holder s l stateid id) (renewing s l (state_client s l stateid) by)
+pub state_own : (n : ℕ) (s : CoreState) (l : NfsLists) (stateid : Stateid) (by : CoreState → Plan) → IsGood s
+    → ((t : CoreState) → t.stable ≡ s.stable → IsGood t → Owned n t (λ id. is_holder s l stateid id) (by t)) → Owned n s (λ id. is_holder s l stateid id) (renewing l (state_client s l stateid) by)
 state_own n s l stateid by good each = renewing_own n s l (λ id. is_holder s l stateid id) (state_client s l stateid) by good (λ number r e found. by_number l (state_client s l stateid) number r e found) each
 
 confirm_done_own : (n : ℕ) (s : CoreState) (l : NfsLists) (current : Option ℕ) (a : OpenConfirmArgs) (r : StateidRow) (owner : ℕ) (seqids : SeqidState) (Client : List ℕ → Type 0) (o : Option NfsStatus) → Owned n s Client (confirm_done s l current a r owner seqids o)
@@ -356,7 +315,7 @@ confirm_by_own n s l current a Client (Passed r owner seqids) = confirm_done_own
 
 pub confirm_own : (n : ℕ) (s : CoreState) (l : NfsLists) (current : Option ℕ) (a : OpenConfirmArgs) → IsGood s → Owned n s (Names s l (OpenConfirm a)) (open_confirm s l current a)
 unfolding open_confirm
-confirm_own n s l current a good = state_own n s l a.stateid (λ t m. confirm_by t m current a (checked t m current 20 a.seqid a.stateid)) good (λ t stable left. (let m = renewed_for s l (state_client s l a.stateid) in confirm_by_own n t m current a (λ id. is_holder s l a.stateid id) (checked t m current 20 a.seqid a.stateid)))
+confirm_own n s l current a good = state_own n s l a.stateid (λ t. confirm_by t l current a (checked t l current 20 a.seqid a.stateid)) good (λ t stable left. confirm_by_own n t l current a (λ id. is_holder s l a.stateid id) (checked t l current 20 a.seqid a.stateid))
 
 weakens_own : (n : ℕ) (s : CoreState) (Client : List ℕ → Type 0) (share : Option Claim) (access deny : Rwd) → ((claim : Claim) → share ≡ Some claim → IsIn claim s.claims × ((id : List ℕ) × Client id × (party_named s.names (NfsParty id) ≡ Some claim.party))) → AreFit n s (weakens share access deny) × AreBy n s Client (weakens share access deny)
 weakens_own n s Client None access deny each = (tt, tt)
@@ -377,11 +336,9 @@ downgrade_by_own n s l current a Client (Passed r owner seqids) good each = down
 
 pub downgrade_own : (n : ℕ) (s : CoreState) (l : NfsLists) (current : Option ℕ) (a : OpenDowngradeArgs) → IsGood s → Owned n s (Names s l (OpenDowngrade a)) (open_downgrade s l current a)
 unfolding open_downgrade
-downgrade_own n s l current a good = state_own n s l a.stateid (λ t m. downgrade_by t m current a (checked t m current 21 a.seqid a.stateid)) good
-    (λ t stable left.
-    let m = renewed_for s l (state_client s l a.stateid) in
-    downgrade_by_own n t m current a (λ id. is_holder s l a.stateid id) (checked t m current 21 a.seqid a.stateid) left
-    (λ r w v x e found. holder_as s t l (state_client s l a.stateid) a.stateid x.id stable (by_number m (state_client t m a.stateid) r.client x (checked_client t m current 21 a.seqid a.stateid r w v e) found)))
+downgrade_own n s l current a good = state_own n s l a.stateid (λ t. downgrade_by t l current a (checked t l current 21 a.seqid a.stateid)) good
+    (λ t stable left. downgrade_by_own n t l current a (λ id. is_holder s l a.stateid id) (checked t l current 21 a.seqid a.stateid) left
+    (λ r w v x e found. holder_as s t l a.stateid x.id stable (by_number l (state_client t l a.stateid) r.client x (checked_client t l current 21 a.seqid a.stateid r w v e) found)))
 
 pub no_range : (w : What) → is_cache w ≡ true → is_range w ≡ false
 no_range (whats.Cache kind running) h = refl
@@ -452,8 +409,6 @@ returned_client s l (Some at) stateid r e = returned_number_client l at stateid.
 
 pub return_own : (n : ℕ) (s : CoreState) (l : NfsLists) (current : Option ℕ) (stateid : Stateid) → IsGood s → Owned n s (Names s l (DelegReturn stateid)) (deleg_return s l current stateid)
 unfolding deleg_return
-return_own n s l current stateid good = state_own n s l stateid (λ t m. return_done t m current (returned t m current stateid)) good
-    (λ t stable left.
-    let m = renewed_for s l (state_client s l stateid) in
-    return_done_own n t m current (λ id. is_holder s l stateid id) (returned t m current stateid)
-    (λ r c e found. holder_as s t l (state_client s l stateid) stateid c.id stable (by_number m (state_client t m stateid) r.client c (returned_client t m current stateid r e) found)))
+return_own n s l current stateid good = state_own n s l stateid (λ t. return_done t l current (returned t l current stateid)) good
+    (λ t stable left. return_done_own n t l current (λ id. is_holder s l stateid id) (returned t l current stateid)
+    (λ r c e found. holder_as s t l stateid c.id stable (by_number l (state_client t l stateid) r.client c (returned_client t l current stateid r e) found)))

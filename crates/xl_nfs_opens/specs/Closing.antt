@@ -110,7 +110,7 @@ confirm_by s l current a (Repeated owner) = repeated s l current (find (is_kept 
 confirm_by s l current a (Passed r owner seqids) = confirm_done s l current a r owner seqids (standing_fault r seqids a.stateid.seqid false)
 
 unfoldable pub open_confirm : CoreState → NfsLists → Option ℕ → OpenConfirmArgs → Plan
-open_confirm s l current a = renewing s l (state_client s l a.stateid) (λ t m. confirm_by t m current a (checked t m current 20 a.seqid a.stateid))
+open_confirm s l current a = renewing l (state_client s l a.stateid) (λ t. confirm_by t l current a (checked t l current 20 a.seqid a.stateid))
 
 -- ---- OPEN_DOWNGRADE
 
@@ -179,7 +179,7 @@ close_by s l current a (Repeated owner) = repeated s l current (find (is_kept ow
 close_by s l current a (Passed r owner seqids) = close_done s l current a r owner seqids (standing_fault r seqids a.stateid.seqid true)
 
 unfoldable pub close : CoreState → NfsLists → Option ℕ → CloseArgs → Plan
-close s l current a = renewing s l (state_client s l a.stateid) (λ t m. close_by t m current a (checked t m current 4 a.seqid a.stateid))
+close s l current a = renewing l (state_client s l a.stateid) (λ t. close_by t l current a (checked t l current 4 a.seqid a.stateid))
 
 -- ---- DELEGRETURN
 
@@ -229,7 +229,7 @@ return_done s l current (Err status) = Does [] l (Ended status, current)
 return_done s l current (Ok r) = Does (gives (cache_of s l r)) (freed r.number l) (Ended statuses.Ok, current)
 
 unfoldable pub deleg_return : CoreState → NfsLists → Option ℕ → Stateid → Plan
-deleg_return s l current stateid = renewing s l (state_client s l stateid) (λ t m. return_done t m current (returned t m current stateid))
+deleg_return s l current stateid = renewing l (state_client s l stateid) (λ t. return_done t l current (returned t l current stateid))
 
 -- what was found is there: the open, which isn't closed, and its owner
 abbrev pub IsChecked : NfsLists → Checked → Type 0

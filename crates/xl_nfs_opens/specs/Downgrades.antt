@@ -48,4 +48,4 @@ downgrade_by s l current a (Repeated owner) = repeated s l current (find (is_kep
 downgrade_by s l current a (Passed r owner seqids) = downgrade_done s l current a r owner seqids (downgrade_fault r seqids a)
 
 unfoldable pub open_downgrade : CoreState → NfsLists → Option ℕ → OpenDowngradeArgs → Plan
-open_downgrade s l current a = renewing s l (state_client s l a.stateid) (λ t m. downgrade_by t m current a (checked t m current 21 a.seqid a.stateid))
+open_downgrade s l current a = renewing l (state_client s l a.stateid) (λ t. downgrade_by t l current a (checked t l current 21 a.seqid a.stateid))

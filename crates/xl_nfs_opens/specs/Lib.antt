@@ -1,5 +1,4 @@
 pub mod Short
-pub mod Leases
 pub mod Files
 pub mod Seqids
 pub mod Plans

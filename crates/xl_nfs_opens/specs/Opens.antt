@@ -476,8 +476,8 @@ claim_client s l _ = None
 
 -- behind the renewal of that client
 unfoldable pub open_claimed : List (List ℕ) → ℕ → CoreState → NfsLists → Option ℕ → OpenArgsItem → Plan
-open_claimed files others s l current a = renewing s l (claim_client s l a.claim) (λ t m. open_at files others t m a current)
+open_claimed files others s l current a = renewing l (claim_client s l a.claim) (λ t. open_at files others t l a current)
 
 -- OPEN: the client, and that of the delegation by which a file is claimed, are renewed before (NFS-15)
 unfoldable pub open_file : List (List ℕ) → ℕ → CoreState → NfsLists → Option ℕ → OpenArgsItem → Plan
-open_file files others s l current a = renewing s l (number_in s a.owner.clientid) (λ t m. open_claimed files others t m current a)
+open_file files others s l current a = renewing l (number_in s a.owner.clientid) (λ t. open_claimed files others t l current a)

@@ -8,7 +8,6 @@ use Rattle.xl_nfs_state.specs.declared.client.ClientRow.{ClientRow}
 use Rattle.xl_nfs_state.specs.declared.stateid.StateidRow.{StateidRow}
 use Rattle.xl_core.specs.Deeds.{Deed, Renews}
 use Rattle.xl_core.specs.State.{CoreState}
-use Rattle.xl_nfs_opens.specs.Leases.{lease_end, renewed}
 use Rattle.xl_plan.specs.Plans.{Behind}
 use Rattle.xl_nfs_opens.specs.Plans.{Plan}
 
@@ -49,14 +48,6 @@ abbrev pub renewals : NfsLists → Option ℕ → List Deed
 renewals l None = []
 renewals l (Some number) = renewals_by (find (is_client number true) l.clients)
 
-abbrev pub renewed_if : CoreState → NfsLists → ℕ → Option ClientRow → NfsLists
-renewed_if s l number None = l
-renewed_if s l number (Some r) = renewed (lease_end s) number l
-
-abbrev pub renewed_for : CoreState → NfsLists → Option ℕ → NfsLists
-renewed_for s l None = l
-renewed_for s l (Some number) = renewed_if s l number (find (is_client number true) l.clients)
-
--- behind the renewal of that lease
-abbrev pub renewing : CoreState → NfsLists → Option ℕ → (CoreState → NfsLists → Plan) → Plan
-renewing s l client rest = Behind (renewals l client) (renewed_for s l client) (λ t. rest t (renewed_for s l client))
+-- behind the renewal of that lease, of which the core alone knows
+abbrev pub renewing : NfsLists → Option ℕ → (CoreState → Plan) → Plan
+renewing l client rest = Behind (renewals l client) l rest

@@ -2,21 +2,11 @@
 ghost use Rattle.std.specs.Prelude.{◌≡◌, ℕ, ◌+◌, [], ◌∷◌, OnOk};
 ghost use Rattle.xl_core.specs.Deeds.{all_done, all_told_of, Renews};
 ghost use Rattle.xl_core.specs.State.{drawn};
-ghost use Rattle.xl_nfs_opens.specs.Leases.{lease_end};
 ghost use Rattle.xl_plan.specs.Budgets.{IsReady};
 ghost use Rattle.xl_nfs_opens.specs.Short.{Leaves};
 
 use std::alloc::{AllocError, Global};
-use xl_base::{Moment, Party, Protocol, Sequence};
-use xl_core::{Core, Effect};
-use xl_names::Name;
-
-/// When a lease ends that is renewed now.
-pub fn lease_end(core: &Core) -> Moment
-    ensures { result ≡ lease_end core.now }
-{
-    Moment(core.clock().0.saturating_add(core.times().lease))
-}
+use xl_core::Core;
 
 /// Renews the lease of the client of this id string.
 #[tactic(auto, unfolding(xl_core::specs::Ticks::renew))]

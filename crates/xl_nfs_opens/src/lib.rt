@@ -31,7 +31,7 @@ pub use done::{Done, beside, ended_as};
 pub use downgrading::open_downgrade;
 pub use entering::{held_on, stand};
 pub use files::file_named;
-pub use leases::{drawn, lease_end, renewed};
+pub use leases::{drawn, renewed};
 pub use opener::{Checked, Opener};
 pub use opening::{answer_status, client_in, open_file};
 pub use renewing::{number_of, renew_for, state_client, stateid_of};

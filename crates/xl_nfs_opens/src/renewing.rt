@@ -1,11 +1,11 @@
 //! Whose leases an operation renews (RFC 7530 9.5), and the numbers in a stateid.
 ghost use Rattle.std.specs.Prelude.{◌≡◌, ℕ, [], Some, OnOk};
 ghost use Rattle.xl_core.specs.Deeds.{all_done, all_told_of};
-ghost use Rattle.xl_nfs_opens.specs.Renewing.{number_of, renewals, renewed_for, same_stateid, state_client, stateid_of};
+ghost use Rattle.xl_nfs_opens.specs.Renewing.{number_of, renewals, same_stateid, state_client, stateid_of};
 ghost use Rattle.xl_plan.specs.Budgets.{IsReady};
 ghost use Rattle.xl_nfs_opens.specs.Short.{Leaves};
 
-use crate::leases::{lease_end, renewed};
+use crate::leases::renewed;
 use std::alloc::{AllocError, Global};
 use xl_core::Core;
 use xl_nfs::Stateid;
@@ -59,14 +59,13 @@ pub fn state_client(state: &NfsState, core: &Core, stateid: &Stateid) -> Option<
 #[tactic(auto, using(xl_plan::proofs::BudgetLaws::leaves_self, crate::proofs::RenewLaws::renewals_done, crate::proofs::RenewLaws::renewals_told))]
 pub fn renew_for(
     alloc: Global,
-    state: &mut NfsState,
+    state: &NfsState,
     core: &mut Core,
     client: Option<u32>,
 ) -> Result<(), AllocError>
     requires ready { IsReady 0 core.old }
-    ensures done { (n : ℕ) → OnOk result (all_done n core.old (renewals state.old client) ≡ core.new) }
-    ensures told { (n : ℕ) → OnOk result (all_told_of n core.old (renewals state.old client) ≡ []) }
-    ensures lists { OnOk result (state.new ≡ renewed_for core.old state.old client) }
+    ensures done { (n : ℕ) → OnOk result (all_done n core.old (renewals state.now client) ≡ core.new) }
+    ensures told { (n : ℕ) → OnOk result (all_told_of n core.old (renewals state.now client) ≡ []) }
     ensures leaves { OnOk result (Leaves 0 core.old core.new) }
 {
     let Some(number) = client else {
@@ -75,8 +74,6 @@ pub fn renew_for(
     let Some(row) = state.find_client(number, true) else {
         return Ok(());
     };
-    let time = lease_end(core);
     renewed(alloc, core, row.id.as_slice())?;
-    state.renew_client(number, time);
     Ok(())
 }

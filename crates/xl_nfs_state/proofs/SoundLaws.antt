@@ -12,7 +12,7 @@ use Rattle.xl_nfs_state.proofs.ResultMapLaws.{some_found}
 use Rattle.xl_nfs_state.proofs.AnyLaws.{any_more, any_left, any_changed, all_left, all_changed}
 use Rattle.xl_nfs_state.specs.Filed.{changed}
 use Rattle.xl_nfs_state.specs.Keys.{same_kind}
-use Rattle.xl_nfs_state.specs.Rows.{with_details, with_time, with_seqids, with_standing, with_result}
+use Rattle.xl_nfs_state.specs.Rows.{with_details, with_seqids, with_standing, with_result}
 use Rattle.xl_nfs_state.specs.State as st
 use Rattle.xl_nfs_state.specs.State.{NfsLists, IsSound, IsRising, hangs, holder_hangs, has_client, has_owner, has_open, is_client, is_owner, is_kept, is_live, opens, with_clients, with_owners, with_stateids, with_kept, without}
 use Rattle.xl_nfs_state.specs.declared.client.ClientDetails.{ClientDetails}
@@ -107,11 +107,6 @@ pub client_changed : (l : NfsLists) (which : ClientRow → Bool) (details : Clie
 client_changed l which details sound =
     clients_stay l (changed which (with_details details) l.clients) sound (omega (arith, sound.clients_room, length_changed which (with_details details) l.clients))
     (λ client h. any_changed (is_client client true) which (with_details details) l.clients (λ r. refl) ∙ h)
-
-pub client_renewed : (l : NfsLists) (which : ClientRow → Bool) (time : Moment) → IsSound l → IsSound (with_clients l (changed which (with_time time) l.clients))
-client_renewed l which time sound =
-    clients_stay l (changed which (with_time time) l.clients) sound (omega (arith, sound.clients_room, length_changed which (with_time time) l.clients))
-    (λ client h. any_changed (is_client client true) which (with_time time) l.clients (λ r. refl) ∙ h)
 
 module _ {A : Type 0} where
   all_apart : (test : A → Bool) (xs : List A) → list_any test xs ≡ false → AllByRecursion (λ x. test x ≡ false) xs

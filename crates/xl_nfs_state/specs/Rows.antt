@@ -1,6 +1,5 @@
 -- Rows with a part changed.
 use Rattle.std.specs.Prelude.{ℕ, List}
-use Rattle.xl_base.specs.declared.event.Moment.{Moment}
 use Rattle.xl_nfs_state.specs.declared.client.ClientRow.{ClientRow}
 use Rattle.xl_nfs_state.specs.declared.client.ClientDetails.{ClientDetails}
 use Rattle.xl_nfs_state.specs.declared.kept.KeptRow.{KeptRow}
@@ -11,9 +10,6 @@ use Rattle.xl_nfs_state.specs.declared.stateid.Standing.{Standing}
 
 abbrev pub with_details : ClientDetails → ClientRow → ClientRow
 with_details details r = record { number = r.number; confirmed = r.confirmed; id = r.id; details = details }
-
-abbrev pub with_time : Moment → ClientRow → ClientRow
-with_time time r = with_details (record { verifier = r.details.verifier; confirm = r.details.confirm; callback = r.details.callback; time = time }) r
 
 abbrev pub with_seqids : SeqidState → OwnerRow → OwnerRow
 with_seqids seqids r = record { number = r.number; name = r.name; seqids = seqids }

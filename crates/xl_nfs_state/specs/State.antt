@@ -1,10 +1,7 @@
 -- What an NFSv4.0 server remembers of its clients: four lists, each in order of arrival (RFC 7530 9.1).
-use Rattle.std.specs.Prelude.{◌≡◌, ℕ, ◌+◌, ◌<◌, ◌≤◌, ◌^◌, Bool, true, false, not, ◌&&◌, ◌||◌, ◌==◌, if◌then◌else◌, nat_lt, List, [], ◌∷◌, length, map, Option, Some, None, is_some}
+use Rattle.std.specs.Prelude.{◌≡◌, ℕ, ◌+◌, ◌<◌, ◌≤◌, ◌^◌, Bool, true, false, not, ◌&&◌, ◌||◌, ◌==◌, if◌then◌else◌, nat_lt, List, [], ◌∷◌, length, Option, Some, None, is_some}
 use Rattle.std.specs.List.{AllByRecursion, filter, find, list_any}
-use Rattle.std.specs.Cmp.Lexicographic.{slice_cmp}
-use Rattle.std.specs.Ordering.{nat_cmp, is_lt}
 pub use Rattle.xl_base.specs.Limits.{most_owners, most_opens}
-use Rattle.xl_base.specs.Lists.{sorted}
 use Rattle.xl_base.specs.declared.event.Moment.{Moment}
 use Rattle.xl_nfs_state.specs.declared.client.ClientRow.{ClientRow}
 use Rattle.xl_nfs_state.specs.declared.kept.KeptRow.{KeptRow}
@@ -238,18 +235,6 @@ without_client client l =
 
 -- Time.
 
--- the record isn't confirmed, and its time has come
+-- the record isn't confirmed, and its time has come (STATE-7)
 abbrev pub is_due : Moment → ClientRow → Bool
 is_due now r = not r.confirmed && not (nat_lt now.0 r.details.time.0)
-
--- the record is confirmed, and its lease has ended
-abbrev pub is_ended : Moment → ClientRow → Bool
-is_ended now r = r.confirmed && not (nat_lt now.0 r.details.time.0)
-
--- the id string of the first record stands before that of the second, by bytes
-abbrev pub id_below : ClientRow → ClientRow → Bool
-id_below a b = is_lt (slice_cmp nat_cmp a.id b.id)
-
--- the numbers of the clients whose lease has ended, in the order of their id strings (STATE-7)
-abbrev pub ended : Moment → List ClientRow → List ℕ
-ended now clients = map (λ r. r.number) (sorted id_below (filter (is_ended now) clients))

@@ -3,7 +3,7 @@ ghost use Rattle.std.specs.Prelude.{◌≡◌, refl, IfOk};
 ghost use Rattle.std.proofs.Common.{ap};
 ghost use Rattle.xl_nfs_state.specs.Alike.{client_names_are};
 ghost use Rattle.xl_nfs_state.specs.Keys.{client_key, client_name, same_client_name};
-ghost use Rattle.xl_nfs_state.specs.Rows.{with_details, with_time};
+ghost use Rattle.xl_nfs_state.specs.Rows.{with_details};
 
 use crate::filed::{Change, Row};
 use indexmap::Equivalent;
@@ -33,7 +33,8 @@ pub struct ClientDetails {
     pub confirm: [u8; 8],
     /// Where the client is called back.
     pub callback: Callback,
-    /// Of a confirmed record the end of its lease; of another the moment at which it is dropped.
+    /// The moment at which the record is dropped, if it isn't confirmed before. When a confirmed client's lease ends, the core
+    /// alone knows.
     pub time: Moment,
 }
 
@@ -146,22 +147,6 @@ impl Change<ClientRow> for ClientDetails {
 
     fn change(self, row: &mut ClientRow) {
         row.details = self;
-    }
-
-    ghost keeps_number = { λ c r. refl };
-
-    ghost keeps_name = { λ c r. refl };
-}
-
-/// A later time of a record.
-#[derive(Clone, Copy)]
-pub(crate) struct Renewal(pub(crate) Moment);
-
-impl Change<ClientRow> for Renewal {
-    ghost after = { λ c. with_time c.0 };
-
-    fn change(self, row: &mut ClientRow) {
-        row.details.time = self.0;
     }
 
     ghost keeps_number = { λ c r. refl };

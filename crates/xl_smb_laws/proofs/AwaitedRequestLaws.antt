@@ -370,7 +370,7 @@ way_settles n s l lists deeds answer e distinct here same way is =
 pub asked_waits : (n : ℕ) (left : Rooms) (s : CoreState) (a : Ask) → IsGood s → is_client a.owner a.party ≡ true → (ask n left s a).2.waiters ≡ s.waiters ++ come_by a (ask n left s a).0 s.names
 asked_waits n left s a good client =
     (ask_frame n left s a good client).waiters
-    ∙ ap (λ (ids : List ℕ). all_cancelled ids s.waiters ++ come_by a (ask n left s a).0 s.names) (ap who_left (ask_quiet n left s a good client) ∙ way_leaves (plea_of left s a) (asked_claims a (asked_whats a.act) s.names) s)
+    ∙ ap (λ (ids : List ℕ). all_cancelled ids s.waiters ++ come_by a (ask n left s a).0 s.names) (ap who_left (ask_quiet n left s a good client) ∙ way_leaves s.waiters (plea_of left s a) (asked_claims a (asked_whats a.act) s.names) s)
 
 pub drawn_waits : (s : CoreState) → (drawn s).waiters ≡ s.waiters
 unfolding drawn

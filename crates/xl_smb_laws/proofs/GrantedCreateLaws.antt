@@ -24,7 +24,7 @@ use Rattle.xl_core.proofs.FrameLaws.{way_leaves}
 use Rattle.xl_core.proofs.LimitLaws.{grant_found}
 use Rattle.xl_core.proofs.SettleLaws.{turn_is}
 use Rattle.xl_core.specs.Blockers.{blockers, cache_against, is_stopped}
-use Rattle.xl_core.specs.Causes.{IsEachDue, IsTurn, Answered, WaitsOn}
+use Rattle.xl_core.specs.Causes.{IsEachBehind, IsTurn, Answered, WaitsOn}
 use Rattle.xl_core.specs.Frames.{who_left}
 use Rattle.xl_core.specs.Good.{IsGood, are_apart}
 use Rattle.xl_core.specs.Limits.{first_passed, grant_limits, is_passed, most_hosts, most_owners}
@@ -67,18 +67,18 @@ second_passed : (a b : Bool) (rest : List (ℕ × Bool)) → is_passed ((most_ho
 second_passed a false rest h = refl
 second_passed a true rest h = absurd (true≢false h)
 
-each_room : (left rows : Rooms) (kept : ℕ) (first c d : Claim) (s : CoreState) → IsEachDue left rows kept first (c ∷ []) s (answers.Granted d) → rows.opens ≤ left.opens
-each_room left rows kept first c d s due =
-    let moves : is_stopped s.claims c ≡ false = free_of (least s.names (blockers [] s c)) refl in
+each_room : (earlier : List Waiter) (left rows : Rooms) (kept : ℕ) (first c d : Claim) (s : CoreState) → IsEachBehind earlier left rows kept first (c ∷ []) s (answers.Granted d) → rows.opens ≤ left.opens
+each_room earlier left rows kept first c d s due =
+    let moves : is_stopped earlier s c ≡ false = free_of (least s.names (blockers earlier s c)) refl in
     let clear : cache_against s.claims c ≡ None = none_of moves (cache_against s.claims c) refl in
-    let free : is_blocked s.claims c ≡ false = free_unless s.claims c moves clear in
+    let free : is_blocked s.claims c ≡ false = free_unless earlier s c moves clear in
     by free (first_passed (grant_limits left rows (length (granted_claims c s.claims)) kept)) refl
   where
-    free_of : (o : Option Claim) → least s.names (blockers [] s c) ≡ o → is_stopped s.claims c ≡ false
-    free_of None e = blockers_none [] s c e
+    free_of : (o : Option Claim) → least s.names (blockers earlier s c) ≡ o → is_stopped earlier s c ≡ false
+    free_of None e = blockers_none earlier s c e
     free_of (Some x) e = absurd (not_conflict (due.0 x e))
 
-    none_of : is_stopped s.claims c ≡ false → (o : Option Claim) → cache_against s.claims c ≡ o → o ≡ None
+    none_of : is_stopped earlier s c ≡ false → (o : Option Claim) → cache_against s.claims c ≡ o → o ≡ None
     none_of moves None e = refl
     none_of moves (Some x) e = absurd (not_recall (due.1 x moves e))
 
@@ -152,8 +152,8 @@ pub record IsGrantOf (left : Rooms) (s : CoreState) (told : List Effect) (id : �
 
 pub served_grant : (left : Rooms) (s t : CoreState) (told : List Effect) (id : ℕ) (claim : Claim) → IsTurn left s told t → IsIn (effects.Served id (answers.Granted claim)) told → IsGrantOf left s told id claim
 served_grant left s t told id claim turn here =
-    elim (in_either (effects.Served id (answers.Granted claim)) (way_again s turn.waiter).0 turn.told (subst (λ (es : List Effect). IsIn (effects.Served id (answers.Granted claim)) es) turn.effects_are here)) [
-      | inl begun ↦ absurd (none_served id (answers.Granted claim) (way_again s turn.waiter).0 (way_leaves (plea_again s turn.waiter) turn.waiter.asked s) begun)
+    elim (in_either (effects.Served id (answers.Granted claim)) (way_again turn.before s turn.waiter).0 turn.told (subst (λ (es : List Effect). IsIn (effects.Served id (answers.Granted claim)) es) turn.effects_are here)) [
+      | inl begun ↦ absurd (none_served id (answers.Granted claim) (way_again turn.before s turn.waiter).0 (way_leaves turn.before (plea_again s turn.waiter) turn.waiter.asked s) begun)
       | inr last ↦ elim turn.served [
         | WaitsOn none up same ↦ absurd (subst (λ (es : List Effect). IsIn (effects.Served id (answers.Granted claim)) es) none last)
         | Answered answer is granted due new free ↦ elim (subst (λ (es : List Effect). IsIn (effects.Served id (answers.Granted claim)) es) is last) [
@@ -162,27 +162,27 @@ served_grant left s t told id claim turn here =
               let own : answer ≡ answers.Granted claim = same_answer one in
               let this : claim ≡ turn.claim = granted claim own in
               record {
-                before = (way_again s turn.waiter).0;
-                begun = way_leaves (plea_again s turn.waiter) turn.waiter.asked s;
-                last = turn.effects_are ∙ ap (λ (es : List Effect). (way_again s turn.waiter).0 ++ es) is ∙ ap (λ (x : Effect). (way_again s turn.waiter).0 ++ x ∷ []) one;
+                before = (way_again turn.before s turn.waiter).0;
+                begun = way_leaves turn.before (plea_again s turn.waiter) turn.waiter.asked s;
+                last = turn.effects_are ∙ ap (λ (es : List Effect). (way_again turn.before s turn.waiter).0 ++ es) is ∙ ap (λ (x : Effect). (way_again turn.before s turn.waiter).0 ++ x ∷ []) one;
                 waiter = turn.waiter;
                 waits = subst (λ (ws : List Waiter). IsIn turn.waiter ws) (sym turn.stood) (in_append_right turn.waiter turn.before (turn.waiter ∷ turn.behind) (inl refl));
                 number = same_id one;
                 claims = turn.claims;
                 asked = turn.asked ∙ ap (λ (c : Claim). c ∷ turn.claims) (sym this);
-                room = λ alone. each_room left turn.waiter.rows (length (way_again s turn.waiter).1.names) turn.claim turn.claim claim (way_again s turn.waiter).1
+                room = λ alone. each_room turn.before left turn.waiter.rows (length (way_again turn.before s turn.waiter).1.names) turn.claim turn.claim claim (way_again turn.before s turn.waiter).1
                     (due_of turn answer own (turn.asked ∙ ap (λ (cs : List Claim). turn.claim ∷ cs) alone) due);
               })
         ]
       ]
     ]
   where
-    due_of : (turn : IsTurn left s told t) (answer : Answer) → answer ≡ answers.Granted claim → turn.waiter.asked ≡ turn.claim ∷ [] → IsEachDue left turn.waiter.rows (length (way_again s turn.waiter).1.names) turn.claim turn.waiter.asked (way_again s turn.waiter).1 answer
-        → IsEachDue left turn.waiter.rows (length (way_again s turn.waiter).1.names) turn.claim (turn.claim ∷ []) (way_again s turn.waiter).1 (answers.Granted claim)
+    due_of : (turn : IsTurn left s told t) (answer : Answer) → answer ≡ answers.Granted claim → turn.waiter.asked ≡ turn.claim ∷ [] → IsEachBehind turn.before left turn.waiter.rows (length (way_again turn.before s turn.waiter).1.names) turn.claim turn.waiter.asked (way_again turn.before s turn.waiter).1 answer
+        → IsEachBehind turn.before left turn.waiter.rows (length (way_again turn.before s turn.waiter).1.names) turn.claim (turn.claim ∷ []) (way_again turn.before s turn.waiter).1 (answers.Granted claim)
     due_of turn answer own alone due =
-        let u : CoreState = (way_again s turn.waiter).1 in
-        subst (λ (cs : List Claim). IsEachDue left turn.waiter.rows (length u.names) turn.claim cs u (answers.Granted claim)) alone
-        (subst (λ (a : Answer). IsEachDue left turn.waiter.rows (length u.names) turn.claim turn.waiter.asked u a) own due)
+        let u : CoreState = (way_again turn.before s turn.waiter).1 in
+        subst (λ (cs : List Claim). IsEachBehind turn.before left turn.waiter.rows (length u.names) turn.claim cs u (answers.Granted claim)) alone
+        (subst (λ (a : Answer). IsEachBehind turn.before left turn.waiter.rows (length u.names) turn.claim turn.waiter.asked u a) own due)
 
 -- ---- so the open may stand
 

@@ -217,7 +217,7 @@ new_kept m a waiting names w answers.StoreFailed asks rows here = absurd here
 ask_silent : (n : ℕ) (left : Rooms) (u : CoreState) (a : Ask) (k : ℕ) → IsGood u → is_client a.owner a.party ≡ true → over k (ask n left u a).1 ≡ false
 ask_silent n left u a k good client =
     let told : List Effect = (ask n left u a).1 in
-    let none : who_left told ≡ [] = ap who_left (ask_quiet n left u a good client) ∙ way_leaves (plea_of left u a) (asked_claims a (asked_whats a.act) u.names) u in
+    let none : who_left told ≡ [] = ap who_left (ask_quiet n left u a good client) ∙ way_leaves u.waiters (plea_of left u a) (asked_claims a (asked_whats a.act) u.names) u in
     elim (cases_Bool (over k told)) [ inl is ↦ absurd (subst (λ (ids : List ℕ). IsIn k ids) none (over_left k told is)) | inr quiet ↦ quiet ]
 
 ask_keeps : (n : ℕ) (left : Rooms) (u : CoreState) (a : Ask) (l m : Lists) (waiting : Waiting) → IsGood u → is_client a.owner a.party ≡ true → AsksFor a waiting.opened → AreKept u l

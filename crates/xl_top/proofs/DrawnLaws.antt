@@ -164,12 +164,12 @@ no_wait false x y e hurries may = both_ways y hurries may
 plain_claim : (left : Rooms) (s : CoreState) (a : Ask) (claim : Claim) (answer : Answer) → a.blocking ≡ false → a.awaits ≡ false → IsRoom (limits_of_grant left s a claim) → a.reclaim ≡ false → IsClaimDue left s a claim answer → IsPlain answer
 plain_claim left s a claim (answers.Granted c) hurries rests fits new due = tt
 plain_claim left s a claim (answers.Conflict c) hurries rests fits new due = tt
-plain_claim left s a claim (answers.Queued number) hurries rests fits new due = absurd (no_wait (is_stopped s.claims claim) a.blocking a.awaits hurries rests due.2)
+plain_claim left s a claim (answers.Queued number) hurries rests fits new due = absurd (no_wait (is_stopped s.waiters s claim) a.blocking a.awaits hurries rests due.2)
 plain_claim left s a claim (answers.NoGrace clock) hurries rests fits new due = absurd (both_ways a.reclaim new due.1)
 plain_claim left s a claim (answers.Full limit) hurries rests fits new due =
     elim due.1 [
       | inl over ↦ absurd (both_ways (is_passed (limits_of_grant left s a claim) limit) (fits limit) over.1.0)
-      | inr waits ↦ absurd (no_wait (is_stopped s.claims claim) a.blocking a.awaits hurries rests waits.0)
+      | inr waits ↦ absurd (no_wait (is_stopped s.waiters s claim) a.blocking a.awaits hurries rests waits.0)
     ]
 plain_claim left s a claim answers.NotHeld hurries rests fits new due = tt
 plain_claim left s a claim (answers.Recall c) hurries rests fits new due = tt

@@ -1,14 +1,14 @@
 //! The clients among the lists.
-ghost use Rattle.std.specs.Prelude.{◌≡◌, ◌<◌, ◌≤◌, ◌++◌, ◌∷◌, [], true, length, map, None, IsSome, IsTrue, ◌↔◌, IfOk, OnOk, OnErr, option_copied};
+ghost use Rattle.std.specs.Prelude.{◌≡◌, ◌<◌, ◌≤◌, ◌++◌, ◌∷◌, [], true, length, map, None, IsSome, IsTrue, ◌↔◌, OnOk, OnErr, option_copied};
 ghost use Rattle.std.specs.List.{IsDistinct, find};
 ghost use Rattle.xl_nfs_state.specs.Filed.{changed};
 ghost use Rattle.xl_nfs_state.specs.Keys.{client_key, client_name, same_client_key, same_client_name};
-ghost use Rattle.xl_nfs_state.specs.Rows.{with_details, with_time};
-ghost use Rattle.xl_nfs_state.specs.State.{IsIdleClient, ended, is_client, is_client_named, is_due, most_clients, with_clients, without};
+ghost use Rattle.xl_nfs_state.specs.Rows.{with_details};
+ghost use Rattle.xl_nfs_state.specs.State.{IsIdleClient, is_client, is_client_named, is_due, most_clients, with_clients, without};
 
 use super::{NfsState, NfsStateErr};
-use crate::client::{ClientDetails, ClientKey, ClientNamed, ClientRow, Renewal};
-use crate::listing::{has_any, list_ended};
+use crate::client::{ClientDetails, ClientKey, ClientNamed, ClientRow};
+use crate::listing::has_any;
 use crate::picks::{Due, OwnersOf};
 use crate::stateid::Whose;
 use std::alloc::Global;
@@ -64,18 +64,6 @@ impl NfsState {
             .change(&ClientKey { number, confirmed }, details);
     }
 
-    /// Sets the end of the lease of the confirmed client of this number, which is there (RFC 7530 9.5).
-    pub fn renew_client(&mut self, number: u32, time: Moment)
-        requires { IsSome (find (is_client number true) self.old.clients) }
-        ensures { self.new ≡ with_clients self.old (changed (is_client number true) (with_time time) self.old.clients) }
-    {
-        let key = ClientKey {
-            number,
-            confirmed: true,
-        };
-        self.clients.change(&key, Renewal(time));
-    }
-
     /// Whether the client of this number has no owner and no stateid. It walks over both lists.
     pub fn is_client_idle(&self, number: u32) -> bool
         ensures { IsTrue result ↔ IsIdleClient number self.now }
@@ -98,12 +86,5 @@ impl NfsState {
         ensures { self.new ≡ with_clients self.old (without (is_due now) self.old.clients) }
     {
         self.clients.drop_picked(&Due(now));
-    }
-
-    /// The numbers of the confirmed clients whose lease has ended, in the order of their id strings, by bytes.
-    pub fn ended_clients(&self, alloc: Global, now: Moment) -> Result<Vec<u32>, NfsStateErr>
-        ensures { IfOk result (λ numbers. numbers.items ≡ ended now self.now.clients) }
-    {
-        Ok(list_ended(alloc, &self.clients, now)?)
     }
 }

@@ -78,16 +78,13 @@ pub(super) fn is_judged(row: &str) -> bool {
 enum Step {
     /// A record of a client comes: its number, whether it is confirmed, its id string, and the moment of its coming or its lease.
     Comes(u32, bool, &'static [u8], u64),
-    Confirms(u32, u64),
-    Renews(u32, u64),
+    Confirms(u32),
     /// The details of a confirmed client change.
     Changes(u32),
     /// The records that aren't confirmed go by this moment.
     Due(u64),
     ClientIs(u32, bool, u32),
     ClientNamed(&'static [u8], bool, u32),
-    /// The two clients whose leases have ended, in the order of their id strings.
-    Ended(u64, u32, u32),
     ClientIsIdle(u32),
     ForgetsClient(u32),
     /// An owner of this kind and name comes, under this number; 0 if none may.
@@ -179,22 +176,7 @@ fn has_number(found: Option<&ClientRow>, number: u32) -> bool {
     matches!(found, Some(row) if row.number == number && row.details.callback.program == number.wrapping_add(1))
 }
 
-fn ended(alloc: Global, state: &NfsState, now: u64) -> Vec<u32> {
-    match state.ended_clients(alloc, Moment(now)) {
-        Ok(numbers) => numbers,
-        Err(_) => Vec::new(alloc),
-    }
-}
-
-fn renews(state: &mut NfsState, number: u32, time: u64) -> bool {
-    let Some(_) = state.find_client(number, true) else {
-        return false;
-    };
-    state.renew_client(number, Moment(time));
-    true
-}
-
-fn confirms(alloc: Global, state: &mut NfsState, number: u32, time: u64) -> bool {
+fn confirms(alloc: Global, state: &mut NfsState, number: u32) -> bool {
     let Some(row) = state.find_client(number, false) else {
         return false;
     };
@@ -202,7 +184,6 @@ fn confirms(alloc: Global, state: &mut NfsState, number: u32, time: u64) -> bool
         return false;
     };
     row.confirmed = true;
-    row.details.time = Moment(time);
     state.drop_client(number, false);
     adds_client(alloc, state, row)
 }
@@ -216,11 +197,6 @@ fn changes(alloc: Global, state: &mut NfsState, number: u32) -> bool {
     };
     state.change_client(number, true, later);
     matches!(state.find_client(number, true), Some(row) if row.details.callback.program == 41)
-}
-
-/// Whether the leases of these two have ended, in this order.
-fn are_ended(alloc: Global, state: &NfsState, now: u64, first: u32, second: u32) -> bool {
-    matches!(ended(alloc, state, now).as_slice(), [a, b] if *a == first && *b == second)
 }
 
 fn named<'a>(kind: OwnerKind, owner: &'a [u8]) -> OwnerNamed<'a>
@@ -445,8 +421,7 @@ fn client_step(alloc: Global, state: &mut NfsState, step: &Step) -> Option<bool>
         Step::Comes(number, confirmed, id, time) => {
             comes(alloc, state, *number, *confirmed, id, *time)
         }
-        Step::Confirms(number, time) => confirms(alloc, state, *number, *time),
-        Step::Renews(number, time) => renews(state, *number, *time),
+        Step::Confirms(number) => confirms(alloc, state, *number),
         Step::Changes(number) => changes(alloc, state, *number),
         Step::Due(now) => {
             state.drop_due_clients(Moment(*now));
@@ -458,7 +433,6 @@ fn client_step(alloc: Global, state: &mut NfsState, step: &Step) -> Option<bool>
         Step::ClientNamed(id, confirmed, found) => {
             is_client(state.find_client_named(id, *confirmed), *found)
         }
-        Step::Ended(now, first, second) => are_ended(alloc, state, *now, *first, *second),
         Step::ClientIsIdle(number) => state.is_client_idle(*number),
         Step::ForgetsClient(number) => {
             state.forget_client(*number);
@@ -539,7 +513,8 @@ fn is_done(alloc: Global, state: &mut NfsState, step: &Step) -> bool {
     stateid_step(alloc, state, step)
 }
 
-/// Two clients come, and a third of a name that one has doesn't. One is confirmed, others come, and leases end.
+/// Two clients come, and a third of a name that one has doesn't. One is confirmed, others come; of those whose time has come only
+/// the one goes that isn't confirmed.
 const CLIENTS: &[(Step, bool)] = &[
     (Step::Comes(1, true, b"abcd", 10), true),
     (Step::Comes(2, false, b"abcde", 20), true),
@@ -552,15 +527,14 @@ const CLIENTS: &[(Step, bool)] = &[
     (Step::ClientNamed(b"abcd", true, 1), true),
     (Step::Due(19), true),
     (Step::Counts([2, 0, 0, 0, 0]), true),
-    (Step::Confirms(2, 15), true),
+    (Step::Confirms(2), true),
     (Step::Comes(4, true, b"Z", 12), true),
     (Step::Comes(5, false, b"Z", 15), true),
-    (Step::Ended(14, 4, 1), true),
-    (Step::Renews(4, 30), true),
-    (Step::Ended(29, 1, 2), true),
     (Step::Due(15), true),
     (Step::Counts([3, 0, 0, 0, 0]), true),
     (Step::ClientNamed(b"Z", false, 0), true),
+    (Step::Due(20), true),
+    (Step::Counts([3, 0, 0, 0, 0]), true),
     (Step::Changes(4), true),
     (Step::ClientIs(1, true, 1), true),
 ];

@@ -1,6 +1,8 @@
-use Rattle.std.proofs.Common.{sym, ◌∙◌}
+use Rattle.std.proofs.Common.{◌≡◌, List, IfOk, sym, subst, ◌∙◌}
 use Rattle.xl_core.specs.Whole.{state_of}
-use Rattle.xl_core.proofs.WayCode.{no_way_for, locks_asked}
+use Rattle.xl_core.specs.State.{CoreState}
+use Rattle.xl_core.specs.declared.ask.Effect.{Effect}
+use Rattle.xl_core.proofs.WayCode.{no_way_for, locks_asked, way_of_share}
 use Rattle.xl_core.proofs.decide.make_way_for.Goals as goal
 
 pub returns-then-not-has_cache-clause-way : goal.returns-then-not-has_cache-clause-way
@@ -9,3 +11,10 @@ returns-then-not-has_cache-clause-way c =
 
 pub make_way-requires-in-Ranges-clause-locks : goal.make_way-requires-in-Ranges-clause-locks
 make_way-requires-in-Ranges-clause-locks c = locks_asked c.args.request.now c.args.parts.now.names _ c.deref.result.now (c.deref.ensures.value ∙ c.in_ok-claims-in-Ranges.ensures)
+
+pub returns-in-Share-clause-way : goal.returns-in-Share-clause-way
+returns-in-Share-clause-way c =
+    let s = state_of c.args.parts.now in
+    subst (λ (w : List Effect × CoreState). IfOk c.make_way.result (λ told. w ≡ (told, state_of c.make_way.new.parts)))
+    (way_of_share c.args.left.now s c.args.request.now c.in-Share.access c.in-Share.deny c.plea_of-plea.result c.asked_claim.result c.in-Share.is c.plea_of-plea.ensures.plea c.asked_claim.ensures)
+    (c.make_way.ensures.way s.waiters)

@@ -14,8 +14,8 @@ use Rattle.xl_core.proofs.settling.settle.Goals as goal
 pub returns-in_default-clause-turn : goal.returns-in_default-clause-turn
 unfolding settle
 returns-in_default-clause-turn c =
-    λ n. none_is_found c.args.left.now (state_of c.args.parts.now) c.args.parts.now.queue
-    (sym c.in_ok-called.ensures ∙ c.in_default.is) n []
+    λ n. none_is_found c.args.left.now (state_of c.args.parts.now) [] c.args.parts.now.queue
+    (sym c.in_ok-called.ensures ∙ c.in_default.is) n
 
 pub make_way-requires-clause-locks : goal.make_way-requires-clause-locks
 make_way-requires-clause-locks c =
@@ -34,13 +34,13 @@ judge_all-requires-clause-party c =
     subst (λ (cs : List Claim). AllByRecursion (λ d. AllByRecursion (λ e. has_one_party d e ≡ true) c.make_way.new.parts.table) cs) (sym c.as_slice-2.ensures)
     (called_alone_then c.args.parts.now c.make_way.new.parts c.in-Some.called c.in_ok-begun.begun c.requires.good
     (sym c.in_ok-called.ensures ∙ c.in-Some.is)
-    (ap (λ (cs : List Claim). made_way c.in-Some.called.plea cs (state_of c.args.parts.now)) (sym c.as_slice.ensures) ∙ c.in_ok-begun.ensures.way))
+    (λ earlier. ap (λ (cs : List Claim). made_way earlier c.in-Some.called.plea cs (state_of c.args.parts.now)) (sym c.as_slice.ensures) ∙ c.in_ok-begun.ensures.way earlier))
 
 pub returns-clause-turn : goal.returns-clause-turn
 unfolding settle
 returns-clause-turn c =
-    λ n. turn_is_found c.args.left.now (state_of c.args.parts.now) (state_of c.make_way.new.parts) (state_of c.judge_all.new.parts) (state_of c.serve.new.parts) c.args.parts.now.queue c.in-Some.called c.in_ok-begun.begun c.in_ok-ruling.ruling c.in_ok-serve.field-0
+    λ n. turn_is_found c.args.left.now (state_of c.args.parts.now) (state_of c.make_way.new.parts) (state_of c.judge_all.new.parts) (state_of c.serve.new.parts) [] c.args.parts.now.queue c.in-Some.called c.in_ok-begun.begun c.in_ok-ruling.ruling c.in_ok-serve.field-0
     (sym c.in_ok-called.ensures ∙ c.in-Some.is)
-    (ap (λ (cs : List Claim). made_way c.in-Some.called.plea cs (state_of c.args.parts.now)) (sym c.as_slice.ensures) ∙ c.in_ok-begun.ensures.way)
+    (λ earlier. ap (λ (cs : List Claim). made_way earlier c.in-Some.called.plea cs (state_of c.args.parts.now)) (sym c.as_slice.ensures) ∙ c.in_ok-begun.ensures.way earlier)
     (λ m earlier. ap (λ (cs : List Claim). judged m earlier c.args.left.now c.in-Some.called.plea cs (state_of c.make_way.new.parts)) (sym c.as_slice-2.ensures) ∙ c.in_ok-ruling.ensures.judged m earlier)
-    c.in_ok-serve.ensures.turned n []
+    c.in_ok-serve.ensures.turned n

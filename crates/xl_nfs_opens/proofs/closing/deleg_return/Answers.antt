@@ -8,5 +8,5 @@ use Rattle.xl_nfs_opens.proofs.closing.deleg_return.Goals as goal
 pub returns-clause-done : goal.returns-clause-done
 unfolding deleg_return
 returns-clause-done c = λ n.
-    renewing_done n c.args.core.now c.renew_for.new.core c.args.state.now c.renew_for.new.state c.state_client-client.result (state_client c.args.core.now c.args.state.now c.args.stateid.now) (λ t m. return_done t m c.args.current (returned t m c.args.current c.args.stateid.now)) _ c.state_client-client.ensures (c.in_ok-renew_for.ensures.done n) (c.in_ok-renew_for.ensures.told n) c.in_ok-renew_for.ensures.lists
-    (ap (λ (x : Returning). carried n c.renew_for.new.core c.renew_for.new.state (return_done c.renew_for.new.core c.renew_for.new.state c.args.current x)) (sym c.returned-found.ensures) ∙ c.in_ok-done.ensures.done n)
+    renewing_done n c.args.core.now c.renew_for.new.core c.args.state.now c.state_client-client.result (state_client c.args.core.now c.args.state.now c.args.stateid.now) (λ t. return_done t c.args.state.now c.args.current (returned t c.args.state.now c.args.current c.args.stateid.now)) _ c.state_client-client.ensures (c.in_ok-renew_for.ensures.done n) (c.in_ok-renew_for.ensures.told n)
+    (ap (λ (x : Returning). carried n c.renew_for.new.core c.args.state.now (return_done c.renew_for.new.core c.args.state.now c.args.current x)) (sym c.returned-found.ensures) ∙ c.in_ok-done.ensures.done n)

@@ -9,5 +9,5 @@ use Rattle.xl_nfs_opens.proofs.closing.open_confirm.Goals as goal
 pub returns-clause-done : goal.returns-clause-done
 unfolding open_confirm
 returns-clause-done c = λ n.
-    renewing_done n c.args.core.now c.renew_for.new.core c.args.state.now c.renew_for.new.state c.state_client-client.result (state_client c.args.core.now c.args.state.now c.args.args.now.stateid) (λ t m. confirm_by t m c.args.current c.args.args.now (checked t m c.args.current 20 c.args.args.now.seqid c.args.args.now.stateid)) _ c.state_client-client.ensures (c.in_ok-renew_for.ensures.done n) (c.in_ok-renew_for.ensures.told n) c.in_ok-renew_for.ensures.lists
-    (ap (λ (x : Checked). carried n c.renew_for.new.core c.renew_for.new.state (confirm_by c.renew_for.new.core c.renew_for.new.state c.args.current c.args.args.now x)) (sym c.check-found.ensures) ∙ c.in_ok-done.ensures.done n)
+    renewing_done n c.args.core.now c.renew_for.new.core c.args.state.now c.state_client-client.result (state_client c.args.core.now c.args.state.now c.args.args.now.stateid) (λ t. confirm_by t c.args.state.now c.args.current c.args.args.now (checked t c.args.state.now c.args.current 20 c.args.args.now.seqid c.args.args.now.stateid)) _ c.state_client-client.ensures (c.in_ok-renew_for.ensures.done n) (c.in_ok-renew_for.ensures.told n)
+    (ap (λ (x : Checked). carried n c.renew_for.new.core c.args.state.now (confirm_by c.renew_for.new.core c.args.state.now c.args.current c.args.args.now x)) (sym c.check-found.ensures) ∙ c.in_ok-done.ensures.done n)
