@@ -1,3 +1,4 @@
 pub mod Grown
+pub mod Seats
 pub mod Steps
 pub mod Totals

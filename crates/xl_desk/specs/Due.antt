@@ -7,7 +7,7 @@ use Rattle.xl_base.specs.declared.journal.Entry.{Entry}
 use Rattle.xl_desk.specs.declared.outs.Due.{Due}
 use Rattle.xl_desk.specs.declared.outs.Found.{Found}
 
--- the entries from an absolute place on, where the first has that place
+-- the entries from an absolute place on, if the first has that place
 abbrev pub entries_from : ℕ → ℕ → List Entry → List Entry
 entries_from first place log = drop (place - first) log
 
@@ -31,7 +31,7 @@ abbrev pub or_more : Option Out → ℕ → ℕ
 or_more None more = suc more
 or_more (Some call) more = 0
 
--- the first call that is due in these entries, and how many of them stand before its own; all, where none is
+-- the first call that is due in these entries, and how many of them stand before its own; all, if none is
 abbrev pub due_in : Due → List Entry → Option Out
 due_in due [] = None
 due_in due (e ∷ es) = or_later (due_of due e.outs) (due_in due es)

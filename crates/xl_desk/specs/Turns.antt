@@ -55,7 +55,7 @@ either_halt None other = other
 either_halt (Some reason) other = Some reason
 
 module _ {O : Type 0} where
-  -- 1 where the view has the turn, its calls, its shares, and how often an index stands among its calls
+  -- 1 if the view has the turn, its calls, its shares, and how often an index stands among its calls
   abbrev pub turn_of : View O → ℕ
   turn_of v = bit v.turn
 

@@ -20,7 +20,7 @@ pub struct Due {
 /// What a search for the next call found.
 #[derive(Drop)]
 pub struct Found {
-    /// The call, or None where none is due.
+    /// The call, or None if none is due.
     pub call: Option<Out>,
     /// The place of the entry that asks for it, or the place past the last entry.
     pub at: u64,

@@ -16,7 +16,7 @@ impl<H: Serial> TableRule<Option<H>, View<H::Origin>, Snapshot<H>> for InTurns {
     ghost first = { λ key. opened (H.origin key.value) (H.first (H.origin key.value)) (H.history key.value) (H.halt key.value) };
 }
 
-/// Takes the turn, where it is free.
+/// Takes the turn, if it is free.
 pub(crate) struct Take;
 
 impl<H: Serial> Play<Option<H>, View<H::Origin>> for Take {

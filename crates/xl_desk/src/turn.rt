@@ -36,6 +36,17 @@ pub(crate) fn number(halt: Option<Halt>) -> u64
     }
 }
 
+/// Takes the turn with the machine, if it is free, and returns whether it was.
+fn attempt<H: Serial>(top: &Top<H>, seat: &mut Chair<H>) -> bool
+    requires table { (seat.old.table_id ≡ top.now.table_id) × (top.now.table_id.words ≡ 3) × (top.now.table_id.slots ≡ 1) }
+    requires idle { (seat.old.me.1 ≡ []) × (seat.old.me.0.turn ≡ false) × (0 < seat.old.me.0.shares) }
+    ensures seat { seat.new.table_id ≡ seat.old.table_id }
+    ensures turn { result ≡ true → (h : H) × HasTurn H.history H.halt H.origin H.first seat.new.me h × (seat.new.me.0 ≡ with_turn seat.old.me.0 (H.history h) (H.halt h)) × IsPrefix seat.old.me.0.seen (H.history h) × H.lawful (H.origin h) (H.history h) × IfSome seat.old.me.0.halt (λ reason. H.halt h ≡ Some reason) × IfSome seat.old.me.0.halt (λ _. H.history h ≡ seat.old.me.0.seen) }
+    ensures busy { result ≡ false → seat.new.me ≡ seat.old.me }
+{
+    top.compare_exchange::<Take>(seat, 2, 0, 1) == 0
+}
+
 /// Waits for the turn, and takes it with the machine.
 pub(crate) fn take<H: Serial, R: Wait>(rt: &R, top: &Top<H>, seat: &mut Chair<H>)
     requires table { (seat.old.table_id ≡ top.now.table_id) × (top.now.table_id.words ≡ 3) × (top.now.table_id.slots ≡ 1) }
@@ -44,7 +55,7 @@ pub(crate) fn take<H: Serial, R: Wait>(rt: &R, top: &Top<H>, seat: &mut Chair<H>
     ensures turn { (h : H) × HasTurn H.history H.halt H.origin H.first seat.new.me h × (seat.new.me.0 ≡ with_turn seat.old.me.0 (H.history h) (H.halt h)) × IsPrefix seat.old.me.0.seen (H.history h) × H.lawful (H.origin h) (H.history h) × IfSome seat.old.me.0.halt (λ reason. H.halt h ≡ Some reason) × IfSome seat.old.me.0.halt (λ _. H.history h ≡ seat.old.me.0.seen) }
 {
     for _ in rt.forever() {
-        if top.compare_exchange::<Take>(seat, 2, 0, 1) == 0 {
+        if attempt(top, seat) {
             return;
         }
         thread::yield_now();

@@ -2,8 +2,17 @@ use Rattle.std.proofs.Common.{rules, sym, subst, ◌∙◌}
 use Rattle.std.specs.Option.{IsSome}
 use mathlib.Core.Option.{some-injective}
 use Rattle.xl_desk.specs.Turns.{IsClosed}
+use Rattle.xl_desk.proofs.Seats.{slot_0, emptied}
 use Rattle.xl_desk.proofs.Steps.{closes, same_some}
 use Rattle.xl_desk.proofs.desk.Desk.close.Goals as goal
+
+pub take-home-requires : goal.take-home-requires
+take-home-requires g c =
+    let low = slot_0 _ (c.close_with-closed.ensures.counts.1 ∙ c.self.invariant.1) in
+    (low, c.close_with-closed.ensures.values.1 0 (search rules) low)
+
+pub free-requires : goal.free-requires
+free-requires g c = λ k low. emptied _ _ _ k (c.take-home.ensures.others.2 ∙ c.close_with-closed.ensures.counts.1 ∙ c.self.invariant.1) c.take-home.ensures.others.1 low
 
 pub unwrap-requires : goal.unwrap-requires
 unwrap-requires g c =
