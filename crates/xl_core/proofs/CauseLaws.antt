@@ -1,5 +1,5 @@
 -- Each answer of an ask is given exactly where its cause stands.
-use Rattle.std.proofs.Common.{◌≡◌, ℕ, ◌+◌, ◌≤◌, Bool, true, false, not, if◌then◌else◌, ◌&&◌, nat_le, leb, max, ◌⊎◌, inl, inr, List, [], ◌∷◌, length, Option, Some, None, refl, sym, ap, subst, ◌∙◌, ◌↔◌, arith, map, is_some}
+use Rattle.std.proofs.Common.{◌≡◌, ℕ, ◌+◌, ◌≤◌, Bool, true, false, not, if◌then◌else◌, ◌&&◌, nat_le, leb, max, ◌⊎◌, inl, inr, List, [], ◌∷◌, length, Option, Some, None, option_map, refl, sym, ap, subst, ◌∙◌, ◌↔◌, arith, map, is_some}
 use Rattle.std.specs.List.{filter, list_any, AllByRecursion}
 use Rattle.std.proofs.lemmas.Bool.Decides.{nat_tests}
 use Rattle.std.proofs.lemmas.Bool.{cases_Bool, both_ways, and_from, and_right, or_parts, leb-true, le-leb, lt-leb, leb-false, and_parts}
@@ -29,7 +29,7 @@ use Rattle.xl_core.specs.Blockers.{test_blockers, blockers, is_stopped, cache_ag
 use Rattle.xl_core.specs.Causes.{limits_of_grant, limits_of_wait, may_wait, IsClaimDue, stands_against, IsTestDue, HasNoByte, HasByte, left_by_unlock, IsUnlockDue, IsElementDue, IsEachBehind, IsEachDue, IsWishBy, IsWishDue}
 use Rattle.xl_core.specs.Decide.{Answered, plea_of, answered, claims_asked, test_answered, tested, unlocked_claims, unlocked_bytes, unlocked, wish_by, wish_asked, acted, decided, unlocked_one, freed}
 use Rattle.xl_core.specs.Good.{IsGood}
-use Rattle.xl_core.specs.Judge.{Ruled, judged, check_held, held_by, kept_off_by, check_caches, room_by, check_room, held_with, waits, does_wait, at_once, or_else, unless, row}
+use Rattle.xl_core.specs.Judge.{Ruled, judged, followed, stopped, check_held, kept_off, check_caches, full, check_room, held_with, waits, does_wait, at_once, or_else, first_stop}
 use Rattle.xl_core.specs.Limits.{first_passed, IsRoom, grant_limits, wish_limits}
 use Rattle.xl_core.specs.declared.ask.Act.{Act}
 use Rattle.xl_core.specs.declared.ask.Act.TheVariants.{Share, Ranges, Test, Unlock, Wish}
@@ -47,7 +47,6 @@ use Rattle.xl_core.specs.declared.judge.Ruling.{Ruling}
 use Rattle.xl_core.specs.declared.judge.Ruling.TheVariants.{Gets, Waits, Told}
 use Rattle.xl_core.specs.declared.judge.Plea.{Plea}
 use Rattle.xl_table.specs.Elements.{element_held}
-use Rattle.xl_core.specs.declared.ask.Effect.{Effect}
 
 abbrev first_is : Answered → Answer
 first_is r = r.0
@@ -539,11 +538,12 @@ test_leaves n left s a extent exclusive act = ap (λ (r : Answered). r.2) (test_
 
 -- ---- several ranges
 
--- what is told of the ruling on several claims, of which this is the first
-abbrev pub tells : Claim → Ruling → Answer → Type 0
-tells first Gets answer = answer ≡ answers.Granted first
-tells first Waits answer = Unit {0}
-tells first (Told told) answer = answer ≡ told
+-- what is told if this stops one of several claims, of which this is the first
+abbrev pub tells : Claim → Option Ruling → Answer → Type 0
+tells first None answer = answer ≡ answers.Granted first
+tells first (Some Gets) answer = Unit {0}
+tells first (Some Waits) answer = Unit {0}
+tells first (Some (Told told)) answer = answer ≡ told
 
 -- the first of these isn't waited for
 abbrev IsJudgedNow : List Waiter → Plea → CoreState → List Claim → Type 0
@@ -558,7 +558,7 @@ judged_at_once earlier p s (c ∷ cs) = by (is_blocked s.claims c) (is_stopped e
   by true false = refl
   by false y = refl
 
-all_due : (earlier : List Waiter) (left : Rooms) (p : Plea) (first : Claim) (cs : List Claim) (s : CoreState) (answer : Answer) → IsJudgedNow earlier p s cs → tells first (row earlier left p cs s) answer → IsEachBehind earlier left p.rows p.kept first cs s answer
+all_due : (earlier : List Waiter) (left : Rooms) (p : Plea) (first : Claim) (cs : List Claim) (s : CoreState) (answer : Answer) → IsJudgedNow earlier p s cs → tells first (first_stop earlier left p cs s) answer → IsEachBehind earlier left p.rows p.kept first cs s answer
 unfolding check_held check_caches check_room held_with
 all_due earlier left p first [] s answer now is = is
 all_due earlier left p first (c ∷ cs) s answer now is = (
@@ -571,17 +571,17 @@ all_due earlier left p first (c ∷ cs) s answer now is = (
     limits : List (ℕ × Bool)
     limits = grant_limits left p.rows (length (granted_claims c s.claims)) p.kept
 
-    later : Ruling
-    later = row earlier left (at_once p) cs (record s { claims = granted_claims c s.claims })
+    later : Option Ruling
+    later = first_stop earlier left (at_once p) cs (record s { claims = granted_claims c s.claims })
 
-    ruling : Option Claim → Option Claim → Option ℕ → Ruling
-    ruling o k l = unless (or_else (held_by p o s).0 (or_else (kept_off_by p k s).0 (room_by l s).0)) later
+    stop : Option Claim → Option Claim → Option ℕ → Option Ruling
+    stop o k l = or_else (or_else (option_map (stopped p) o) (or_else (option_map (kept_off p) k) (option_map full l))) later
 
-    so : (o k : Option Claim) (l : Option ℕ) → least s.names (blockers earlier s c) ≡ o → cache_against s.claims c ≡ k → first_passed limits ≡ l → tells first (ruling o k l) answer
+    so : (o k : Option Claim) (l : Option ℕ) → least s.names (blockers earlier s c) ≡ o → cache_against s.claims c ≡ k → first_passed limits ≡ l → tells first (stop o k l) answer
     so o k l e f g =
-        subst (λ (x : Option Claim). tells first (ruling x k l) answer) e
-        (subst (λ (y : Option Claim). tells first (ruling (least s.names (blockers earlier s c)) y l) answer) f
-        (subst (λ (z : Option ℕ). tells first (ruling (least s.names (blockers earlier s c)) (cache_against s.claims c) z) answer) g is))
+        subst (λ (x : Option Claim). tells first (stop x k l) answer) e
+        (subst (λ (y : Option Claim). tells first (stop (least s.names (blockers earlier s c)) y l) answer) f
+        (subst (λ (z : Option ℕ). tells first (stop (least s.names (blockers earlier s c)) (cache_against s.claims c) z) answer) g is))
 
     hurries_so : (x y z u : Bool) → x ≡ true → y ≡ true → (x && (if y then z else u)) ≡ false → z ≡ false
     hurries_so x y z u e f g = rw (e, f) at g
@@ -592,18 +592,18 @@ all_due earlier left p first (c ∷ cs) s answer now is = (
     conflict : (d : Claim) → least s.names (blockers earlier s c) ≡ Some d → answer ≡ answers.Conflict d
     conflict d e =
         let hurries : p.blocking ≡ false = hurries_so (is_blocked s.claims c) (is_stopped earlier s c) p.blocking p.awaits (some_blocks earlier s c d e) (some_stops earlier s c d e) now in
-        subst (λ (b : Bool). tells first (if b then waits p.crowded else Told (answers.Conflict d)) answer) hurries (so (Some d) (cache_against s.claims c) (first_passed limits) e refl refl)
+        subst (λ (b : Bool). tells first (Some (if b then waits p.crowded else Told (answers.Conflict d))) answer) hurries (so (Some d) (cache_against s.claims c) (first_passed limits) e refl refl)
 
     recall : (d : Claim) → is_stopped earlier s c ≡ false → cache_against s.claims c ≡ Some d → answer ≡ answers.Recall d
     recall d moves e =
         let hurries : p.awaits ≡ false = moves_so (is_blocked s.claims c) (is_stopped earlier s c) p.blocking p.awaits (cache_blocked s.claims c d e) moves now in
-        subst (λ (b : Bool). tells first (if b then waits p.crowded else Told (answers.Recall d)) answer) hurries (so None (Some d) (first_passed limits) (none_blockers earlier s c moves) e refl)
+        subst (λ (b : Bool). tells first (Some (if b then waits p.crowded else Told (answers.Recall d))) answer) hurries (so None (Some d) (first_passed limits) (none_blockers earlier s c moves) e refl)
 
     rest : is_blocked s.claims c ≡ false → IsRoom limits → tells first later answer
     rest free room = so None None None (none_blockers earlier s c (free_moves earlier s c free)) (free_clear s.claims c free) (grant_least left p.rows (length (granted_claims c s.claims)) p.kept None room)
 
 -- each of these is judged beside those before it, where the first isn't waited for
-pub row_due : (earlier : List Waiter) (left : Rooms) (p : Plea) (first : Claim) (cs : List Claim) (s : CoreState) (answer : Answer) (c : Claim) (rest : List Claim) → cs ≡ c ∷ rest → does_wait earlier p s c ≡ false → tells first (row earlier left p cs s) answer → IsEachBehind earlier left p.rows p.kept first cs s answer
+pub row_due : (earlier : List Waiter) (left : Rooms) (p : Plea) (first : Claim) (cs : List Claim) (s : CoreState) (answer : Answer) (c : Claim) (rest : List Claim) → cs ≡ c ∷ rest → does_wait earlier p s c ≡ false → tells first (first_stop earlier left p cs s) answer → IsEachBehind earlier left p.rows p.kept first cs s answer
 row_due earlier left p first cs s answer c rest e now is = all_due earlier left p first cs s answer (subst (λ (ds : List Claim). IsJudgedNow earlier p s ds) (sym e) now) is
 
 pub ranges_asked : (n : ℕ) (left : Rooms) (s : CoreState) (a : Ask) (ranges : List (Extent × Bool)) → a.act ≡ Ranges ranges → decided n left s a ≡ claims_asked n left s a (asked_claims a (map range_what ranges) s.names)
@@ -645,15 +645,16 @@ pub each_due : (n : ℕ) (left : Rooms) (s : CoreState) (a : Ask) (c : Claim) (c
 unfolding claims_asked plea_of
 each_due n left s a c cs r timely free is =
     row_due s.waiters left p c (c ∷ cs) s r.0 c cs refl (ap (λ (b : Bool). b && (if is_stopped s.waiters s c then a.blocking else a.awaits)) free)
-    (subst (λ (x : Answer). tells c (row s.waiters left p (c ∷ cs) s) x) (sym (ap first_is is ∙ ap (λ (x : Ruled). (answered a (c ∷ cs) c x.0 x.1 x.2).0) (judged_row n s.waiters left p (c ∷ cs) s timely))) (by (row s.waiters left p (c ∷ cs) s) [] _))
+    (subst (λ (x : Answer). tells c (first_stop s.waiters left p (c ∷ cs) s) x) (sym (ap first_is is ∙ ap (λ (x : Ruled). (answered a (c ∷ cs) c x.0 x.1 x.2).0) (judged_row n s.waiters left p (c ∷ cs) s timely))) (by (first_stop s.waiters left p (c ∷ cs) s)))
   where
     p : Plea
     p = plea_of left s a
 
-    by : (ruling : Ruling) (told : List Effect) (t : CoreState) → tells c ruling (answered a (c ∷ cs) c ruling told t).0
-    by Gets told t = refl
-    by Waits told t = tt
-    by (Told x) told t = refl
+    by : (o : Option Ruling) → (let x = followed o [] s (λ t. (Gets, [], held_with (c ∷ cs) t)) in tells c o (answered a (c ∷ cs) c x.0 x.1 x.2).0)
+    by None = refl
+    by (Some Gets) = tt
+    by (Some Waits) = tt
+    by (Some (Told x)) = refl
 
 -- ---- a wish by itself
 

@@ -22,13 +22,12 @@ use Rattle.xl_core.specs.declared.settling.Called.{Called}
 use Rattle.xl_core.proofs.GoodLaws.{ask_good, settle_good, asked_one_party, unlocked_one_party}
 use Rattle.xl_core.proofs.KnownLaws.{asked_known}
 use Rattle.xl_core.proofs.TurnLaws.{called_known}
-use Rattle.xl_core.specs.Judge.{IsRow, held_with, stop_left, gets, row, row_left, are_of_one_party}
+use Rattle.xl_core.specs.Judge.{IsRow, held_with, stop_left, first_stop, are_of_one_party}
 use Rattle.xl_core.specs.declared.ask.Act.TheVariants.{Ranges}
 use Rattle.xl_core.proofs.RequestLaws.{ranges_pled}
 use Rattle.std.proofs.lemmas.Bool.{both_ways, or_right}
 use Rattle.std.proofs.Math.Seq.{take-length}
 use Rattle.xl_core.specs.declared.judge.Ruling.{Ruling}
-use Rattle.xl_core.specs.declared.judge.Ruling.TheVariants.{Gets, Waits, Told}
 use Rattle.xl_core.specs.declared.judge.Plea.{Plea}
 use Rattle.xl_table.specs.Relock.{granted_by, granted_claims, relocked_in}
 use Rattle.xl_table.specs.Flat.{inserted}
@@ -99,9 +98,9 @@ rest_row cs c rest is row = by rest (subst IsRow is row) where
   by (d ∷ e ∷ es) h = (h.0.1, h.1.1)
 
 -- the claim is entered once it is granted
-came : (p q : Parts) (c : Claim) (o : Option Ruling) → state_of q ≡ stop_left o c (state_of p) → o ≡ None → q.table ≡ granted_claims c p.table
+came : (p q : Parts) (c : Claim) (o : Option Ruling) → state_of q ≡ stop_left o (c ∷ []) (state_of p) → o ≡ None → q.table ≡ granted_claims c p.table
 unfolding held_with
-came p q c o e is = ap (λ (s : CoreState). s.claims) (e ∙ ap (λ (x : Option Ruling). stop_left x c (state_of p)) is)
+came p q c o e is = ap (λ (s : CoreState). s.claims) (e ∙ ap (λ (x : Option Ruling). stop_left x (c ∷ []) (state_of p)) is)
 
 element_granted : (c : Claim) (w : What) (cs : List Claim) → c.what ≡ w → is_range w ≡ true → posix c.owner ≡ false → granted_claims c cs ≡ inserted c cs
 unfolding granted_claims
@@ -115,7 +114,7 @@ first_granted : (c d : Claim) (ds cs : List Claim) → IsRow (c ∷ d ∷ ds) �
 first_granted c d ds cs row = element_granted c c.what cs refl row.0.0.1 row.0.0.2
 
 -- the others are of one party with what is held then
-pub rest_alone : (p q : Parts) (cs : List Claim) (c : Claim) (rest : List Claim) (o : Option Ruling) → cs ≡ c ∷ rest → IsRow cs → AllByRecursion (λ d. AllByRecursion (λ e. has_one_party d e ≡ true) p.table) cs → state_of q ≡ stop_left o c (state_of p) → o ≡ None
+pub rest_alone : (p q : Parts) (cs : List Claim) (c : Claim) (rest : List Claim) (o : Option Ruling) → cs ≡ c ∷ rest → IsRow cs → AllByRecursion (λ d. AllByRecursion (λ e. has_one_party d e ≡ true) p.table) cs → state_of q ≡ stop_left o (c ∷ []) (state_of p) → o ≡ None
     → AllByRecursion (λ d. AllByRecursion (λ e. has_one_party d e ≡ true) q.table) rest
 rest_alone p q cs c rest o is row party e none = by rest (subst IsRow is row) (subst (λ (xs : List Claim). AllByRecursion (λ d. AllByRecursion (λ e. has_one_party d e ≡ true) p.table) xs) is party).1 where
   beside : (ds : List Claim) → AllByRecursion (λ d. are_of_one_party c d ≡ true) ds → AllByRecursion (λ d. AllByRecursion (λ e. has_one_party d e ≡ true) p.table) ds → AllByRecursion (λ d. AllByRecursion (λ e. has_one_party d e ≡ true) (inserted c p.table)) ds
@@ -128,44 +127,32 @@ rest_alone p q cs c rest o is row party e none = by rest (subst IsRow is row) (s
       subst (λ (t : List Claim). AllByRecursion (λ d. AllByRecursion (λ e. has_one_party d e ≡ true) t) (d ∷ ds)) (sym (came p q c o e none ∙ first_granted c d ds p.table h))
       (beside (d ∷ ds) h.1.0 held)
 
-left_stays : (ruling : Ruling) (cs : List Claim) (s : CoreState) → gets ruling ≡ false → row_left ruling cs s ≡ s
-left_stays Gets cs s h = absurd (both_ways true h refl)
-left_stays Waits cs s h = refl
-left_stays (Told answer) cs s h = refl
-
 -- where a later one is stopped, the first stands behind the others of its open
-pub came_behind : (p q r : Parts) (earlier : List Waiter) (left : Rooms) (plea : Plea) (cs : List Claim) (c : Claim) (rest : List Claim) (o : Option Ruling) (ruling : Ruling) → cs ≡ c ∷ rest → IsRow cs → state_of q ≡ stop_left o c (state_of p) → o ≡ None
-    → ruling ≡ row earlier left plea rest (state_of q) → state_of r ≡ row_left ruling rest (state_of q) → gets ruling ≡ false → r.table ≡ inserted c p.table
-came_behind p q r earlier left plea cs c rest o ruling is fits e none ruled after stopped =
-    ap (λ (s : CoreState). s.claims) (after ∙ left_stays ruling rest (state_of q) stopped) ∙ came p q c o e none ∙ by rest (subst IsRow is fits) ruled
+pub came_behind : (p q r : Parts) (earlier : List Waiter) (left : Rooms) (plea : Plea) (cs : List Claim) (c : Claim) (rest : List Claim) (o later : Option Ruling) (ruling : Ruling) → cs ≡ c ∷ rest → IsRow cs → state_of q ≡ stop_left o (c ∷ []) (state_of p) → o ≡ None
+    → first_stop earlier left plea rest (state_of q) ≡ later → state_of r ≡ stop_left later rest (state_of q) → later ≡ Some ruling → r.table ≡ inserted c p.table
+came_behind p q r earlier left plea cs c rest o later ruling is fits e none first after stopped =
+    ap (λ (s : CoreState). s.claims) (after ∙ ap (λ (x : Option Ruling). stop_left x rest (state_of q)) stopped) ∙ came p q c o e none ∙ by rest (subst IsRow is fits) (first ∙ stopped)
   where
-    by : (ds : List Claim) → IsRow (c ∷ ds) → ruling ≡ row earlier left plea ds (state_of q) → granted_claims c p.table ≡ inserted c p.table
-    by [] h same = absurd (both_ways (gets ruling) stopped (ap gets same))
+    by : (ds : List Claim) → IsRow (c ∷ ds) → first_stop earlier left plea ds (state_of q) ≡ Some ruling → granted_claims c p.table ≡ inserted c p.table
+    by [] h same = absurd cc
     by (d ∷ ds) h same = first_granted c d ds p.table h
 
 pub came_last : (c : Claim) (before now : List Claim) → IsKept before → now ≡ inserted c before → CameLast c now
 came_last c before now kept is = record { before = before; kept = kept; is = is }
 
 -- it is taken back then
-pub back_state : (p q r : Parts) (t : List Claim) (cs : List Claim) (c : Claim) (rest : List Claim) (o : Option Ruling) (ruling : Ruling) → t ≡ p.table → state_of q ≡ stop_left o c (state_of p) → o ≡ None → state_of r ≡ row_left ruling rest (state_of q) → gets ruling ≡ false
-    → (record (state_of r) { claims = t }) ≡ row_left ruling cs (state_of p)
+pub back_state : (p q r : Parts) (t : List Claim) (c : Claim) (rest : List Claim) (o later : Option Ruling) (ruling : Ruling) → t ≡ p.table → state_of q ≡ stop_left o (c ∷ []) (state_of p) → o ≡ None → state_of r ≡ stop_left later rest (state_of q) → later ≡ Some ruling
+    → (record (state_of r) { claims = t }) ≡ state_of p
 unfolding held_with
-back_state p q r t cs c rest o ruling back e none after stopped =
-    ap (λ (s : CoreState). record s { claims = t }) (after ∙ left_stays ruling rest (state_of q) stopped ∙ e ∙ ap (λ (x : Option Ruling). stop_left x c (state_of p)) none)
+back_state p q r t c rest o later ruling back e none after stopped =
+    ap (λ (s : CoreState). record s { claims = t }) (after ∙ ap (λ (x : Option Ruling). stop_left x rest (state_of q)) stopped ∙ e ∙ ap (λ (x : Option Ruling). stop_left x (c ∷ []) (state_of p)) none)
     ∙ ap (λ (x : List Claim). record (state_of p) { claims = x }) back
-    ∙ sym (left_stays ruling cs (state_of p) stopped)
-
-got : (ruling : Ruling) → gets ruling ≡ true → ruling ≡ Gets
-got Gets h = refl
-got Waits h = absurd (both_ways false refl h)
-got (Told answer) h = absurd (both_ways false refl h)
 
 -- where all have passed, all are held
-pub ahead_state : (p q r : Parts) (cs : List Claim) (c : Claim) (rest : List Claim) (o : Option Ruling) (ruling : Ruling) → cs ≡ c ∷ rest → state_of q ≡ stop_left o c (state_of p) → o ≡ None → state_of r ≡ row_left ruling rest (state_of q) → gets ruling ≡ true
-    → state_of r ≡ row_left ruling cs (state_of p)
+pub ahead_state : (p q r : Parts) (cs : List Claim) (c : Claim) (rest : List Claim) (o later : Option Ruling) → cs ≡ c ∷ rest → state_of q ≡ stop_left o (c ∷ []) (state_of p) → o ≡ None → state_of r ≡ stop_left later rest (state_of q) → later ≡ None
+    → state_of r ≡ held_with cs (state_of p)
 unfolding held_with
-ahead_state p q r cs c rest o ruling is e none after all =
+ahead_state p q r cs c rest o later is e none after all =
     after
-    ∙ (λ i. row_left (got ruling all i) rest ((e ∙ ap (λ (x : Option Ruling). stop_left x c (state_of p)) none) i))
+    ∙ (λ i. stop_left (all i) rest ((e ∙ ap (λ (x : Option Ruling). stop_left x (c ∷ []) (state_of p)) none) i))
     ∙ ap (λ (xs : List Claim). held_with xs (state_of p)) (sym is)
-    ∙ ap (λ (x : Ruling). row_left x cs (state_of p)) (sym (got ruling all))

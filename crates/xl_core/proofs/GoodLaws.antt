@@ -1,5 +1,5 @@
 -- The state stays good: by each ask, each turn, each cancel, and when a party leaves.
-use Rattle.std.proofs.Common.{◌≡◌, ℕ, ◌+◌, ◌≤◌, Bool, true, false, not, ◌&&◌, ◌||◌, ◌==◌, nat_le, inl, inr, List, [], ◌∷◌, ◌++◌, length, append-nil, append_assoc, Option, Some, None, IfSome, refl, sym, ap, subst, ◌∙◌, arith, zero, suc, map, if◌then◌else◌}
+use Rattle.std.proofs.Common.{◌≡◌, ℕ, ◌+◌, ◌≤◌, Bool, true, false, not, ◌&&◌, ◌||◌, ◌==◌, nat_le, inl, inr, List, [], ◌∷◌, ◌++◌, length, append-nil, append_assoc, Option, Some, None, IfSome, refl, sym, ap, subst, ◌∙◌, arith, map, if◌then◌else◌}
 use Rattle.std.specs.List.{AllByRecursion, filter, list_any}
 use Rattle.std.proofs.lemmas.Bool.{cases_Bool, both_ways, and_parts, ne_eqb, not-true, not_from_false, leb-true}
 use Rattle.std.proofs.lemmas.List.{length-append}
@@ -53,7 +53,7 @@ use Rattle.xl_core.specs.Wishes.{wish_for}
 use Rattle.xl_core.specs.declared.ask.Who.{Who}
 use Rattle.xl_core.proofs.InTurnLaws.{in_turn_keeps}
 use Rattle.xl_core.proofs.AskWishLaws.{refused_wish, MayWish, wish_for_good, after_good, same_kinds}
-use Rattle.xl_core.specs.Judge.{Ruled, all_granted, held_with, does_wait, judged, row, row_left}
+use Rattle.xl_core.specs.Judge.{Ruled, followed, all_granted, held_with, does_wait, judged, first_stop}
 use Rattle.xl_core.specs.Limits.{most_waiters, wish_limits, first_passed}
 use Rattle.xl_core.specs.Settle.{plea_again, rests, all_of, turned, way_again, again, turn_or, first_turn, settle, waits_with, cancel, give_back, departed, end_party, close_open}
 use Rattle.xl_core.specs.declared.ask.Act.{Act}
@@ -474,7 +474,7 @@ moved n left s earlier w c cs asked free =
           (Rests (λ i. (append-nil way.0 i, t)) (waits_up earlier s w c cs asked free waits))
       | inr clear ↦
           by r.0 r.1 r.2 (judged_ruled n earlier left p (c ∷ cs) t)
-          (row_due earlier left p c (c ∷ cs) t (answer_by r.0) c cs refl clear (subst (λ (x : Ruling). tells c (row earlier left p (c ∷ cs) t) (answer_by x)) (sym (ap (λ (x : Ruled). x.0) whole)) (tells_by (row earlier left p (c ∷ cs) t)))) clear
+          (row_due earlier left p c (c ∷ cs) t (answer_by r.0) c cs refl clear (subst (λ (x : Ruled). tells c stop (answer_by x.0)) (sym (judged_row n earlier left p (c ∷ cs) t refl)) (tells_by stop))) clear
     ])
   where
     p : Plea
@@ -489,18 +489,19 @@ moved n left s earlier w c cs asked free =
     r : Ruled
     r = judged n earlier left p (c ∷ cs) t
 
-    whole : r ≡ (row earlier left p (c ∷ cs) t, [], row_left (row earlier left p (c ∷ cs) t) (c ∷ cs) t)
-    whole = judged_row n earlier left p (c ∷ cs) t refl
+    stop : Option Ruling
+    stop = first_stop earlier left p (c ∷ cs) t
 
     answer_by : Ruling → Answer
     answer_by Gets = answers.Granted c
     answer_by Waits = answers.NotHeld
     answer_by (Told answer) = answer
 
-    tells_by : (ruling : Ruling) → tells c ruling (answer_by ruling)
-    tells_by Gets = refl
-    tells_by Waits = tt
-    tells_by (Told answer) = refl
+    tells_by : (o : Option Ruling) → tells c o (answer_by (followed o [] t (λ u. (Gets, [], held_with (c ∷ cs) u))).0)
+    tells_by None = refl
+    tells_by (Some Gets) = tt
+    tells_by (Some Waits) = tt
+    tells_by (Some (Told answer)) = refl
 
     same_claim : (x y : Claim) → answers.Granted x ≡ answers.Granted y → y ≡ x
     same_claim x y e = cc

@@ -1,5 +1,5 @@
--- A row of steps: what each step keeps, the row keeps. Why a ruling is what it is, and what it leaves.
-use Rattle.std.proofs.Common.{◌≡◌, ℕ, Bool, true, false, ◌&&◌, ◌==◌, if◌then◌else◌, List, [], ◌∷◌, ◌++◌, length, Option, Some, None, refl, sym, ap, subst, append_assoc, ◌∙◌}
+-- Why a ruling is what it is, and what it leaves.
+use Rattle.std.proofs.Common.{◌≡◌, ℕ, Bool, true, false, ◌&&◌, ◌==◌, if◌then◌else◌, List, [], ◌∷◌, length, Option, Some, None, option_map, refl, ap, ◌∙◌}
 use Rattle.std.specs.List.{filter, list_any}
 use Rattle.std.proofs.lemmas.Bool.{both_ways}
 use Rattle.xl_matrix.specs.declared.claim.Claim.{Claim}
@@ -7,7 +7,7 @@ use Rattle.xl_wait.specs.declared.waiter.Rooms.{Rooms}
 use Rattle.xl_wait.specs.declared.waiter.Waiter.{Waiter}
 use Rattle.xl_core.specs.State.{CoreState}
 use Rattle.xl_core.specs.Blockers.{blockers, is_stopped, cache_against}
-use Rattle.xl_core.specs.Judge.{Ruled, Step, followed, after, all_granted, held_with, check_grace, waits, stopped, held_by, check_held, kept_off, kept_off_by, check_caches, room_by, check_room, record_name, enter_all, does_wait, at_once, each, judged, or_else, row, row_left}
+use Rattle.xl_core.specs.Judge.{Ruled, followed, after, held_with, check_grace, waits, stopped, check_held, kept_off, check_caches, full, check_room, check_row, record_name, enter_all, does_wait, at_once, judged, or_else, first_stop}
 use Rattle.xl_core.specs.Limits.{grant_limits, first_passed}
 use Rattle.xl_table.specs.Flat.{blocks, is_blocked}
 use Rattle.xl_table.specs.Held.{is_cache}
@@ -22,32 +22,6 @@ use Rattle.xl_core.specs.declared.judge.Ruling.{Ruling}
 use Rattle.xl_core.specs.declared.judge.Ruling.TheVariants.{Gets, Waits, Told}
 use Rattle.xl_core.proofs.BreaksInOrderLaws.{all_final}
 use Rattle.xl_core.proofs.DecideLaws.{blockers_none, none_blockers, some_stops, stopped_blocked, cache_blocked, free_unless, free_moves, free_clear}
-
--- ---- a row
-
--- what holds between two steps, and at the end, of what was told and of the state
-abbrev pub Between : Type 1
-Between = List Effect → CoreState → Type 0
-
-abbrev pub Ending : Type 1
-Ending = Ruling → List Effect → CoreState → Type 0
-
-abbrev pub Passes : Between → Ending → Option Ruling → List Effect → CoreState → Type 0
-Passes Q E (Some ruling) told s = E ruling told s
-Passes Q E None told s = Q told s
-
--- the step ends well, or goes on well; and the row ends well; behind what was told before
-abbrev pub Steps : Between → Ending → Step → List Effect → CoreState → Type 0
-Steps Q E step told s = Passes Q E (step s).0 (told ++ (step s).1) (step s).2
-
-abbrev pub Ends : Ending → (CoreState → Ruled) → List Effect → CoreState → Type 0
-Ends E row told s = E (row s).0 (told ++ (row s).1) (row s).2
-
-pub after_passes : (Q : Between) (E : Ending) (step : Step) (rest : CoreState → Ruled) (told : List Effect) (s : CoreState) → Steps Q E step told s → ((more : List Effect) (t : CoreState) → Q more t → Ends E rest more t) → Ends E (after step rest) told s
-after_passes Q E step rest told s passes goes = by (step s).0 (step s).1 (step s).2 passes where
-  by : (o : Option Ruling) (more : List Effect) (t : CoreState) → Passes Q E o (told ++ more) t → (let r = followed o more t rest in E r.0 (told ++ r.1) r.2)
-  by (Some ruling) more t p = p
-  by None more t p = subst (λ (x : List Effect). E (rest t).0 x (rest t).2) (append_assoc told more (rest t).1) (goes (told ++ more) t p)
 
 -- ---- why a ruling is, and what it leaves
 
@@ -68,98 +42,12 @@ abbrev pub first_waits : List Waiter → Plea → CoreState → List Claim → T
 first_waits earlier p s [] = ⊥
 first_waits earlier p s (c ∷ cs) = does_wait earlier p s c ≡ true
 
--- the state in which these count as held
-abbrev beside : List Claim → CoreState → CoreState
-beside claims s = record s { claims = all_granted claims s.claims }
-
--- of a plea for all of these, of which the rest is still to be judged where what stands there is held
-abbrev IsRuledFrom : List Waiter → Rooms → Plea → List Claim → CoreState → CoreState → List Claim → Ending
-IsRuledFrom earlier left p asked s there rest Gets told t = (told ≡ []) × (t ≡ held_with asked s) × AllPass left p there.claims rest
-IsRuledFrom earlier left p asked s there rest Waits told t = (told ≡ []) × (t ≡ s) × (p.crowded ≡ None) × first_waits earlier p there rest
-IsRuledFrom earlier left p asked s there rest (Told answer) told t = (told ≡ []) × (t ≡ s) × (is_refusal answer ≡ true)
-
-abbrev pub IsRuled : List Waiter → Rooms → Plea → List Claim → CoreState → Ending
-IsRuled earlier left p asked s ruling told t = IsRuledFrom earlier left p asked s s asked ruling told t
-
--- nothing was told, and nothing changed
-abbrev IsYet : CoreState → Between
-IsYet s told t = (told ≡ []) × (t ≡ s)
-
-grace_passes : (earlier : List Waiter) (left : Rooms) (p : Plea) (asked : List Claim) (s : CoreState) → Steps (IsYet s) (IsRuled earlier left p asked s) (check_grace p) [] s
-unfolding check_grace
-grace_passes earlier left p asked s = by p.reclaim where
-  by : (b : Bool) → (let r : Option Ruling × List Effect × CoreState = if b then (Some (Told (NoGrace s.clock)), [], s) else (None, [], s) in Passes (IsYet s) (IsRuled earlier left p asked s) r.0 r.1 r.2)
-  by true = (refl, refl, refl)
-  by false = (refl, refl)
-
-granted_behind : (before : List Claim) (c : Claim) (held : List Claim) → all_granted (before ++ c ∷ []) held ≡ granted_claims c (all_granted before held)
-granted_behind [] c held = refl
-granted_behind (b ∷ bs) c held = granted_behind bs c (granted_claims b held)
-
--- nothing was told or changed, and no break is wanted for this claim beside what counts as held
-abbrev MovesYet : List Waiter → CoreState → CoreState → Claim → Between
-MovesYet earlier s there c told t = IsYet s told t × (is_stopped earlier there c ≡ false)
-
-waits_stopped : (earlier : List Waiter) (p : Plea) (s : CoreState) (c : Claim) → is_blocked s.claims c ≡ true → is_stopped earlier s c ≡ true → p.blocking ≡ true → does_wait earlier p s c ≡ true
-waits_stopped earlier p s c blocked stopped waits = rw (blocked, stopped) waits
-
-waits_kept_off : (earlier : List Waiter) (p : Plea) (s : CoreState) (c : Claim) → is_blocked s.claims c ≡ true → is_stopped earlier s c ≡ false → p.awaits ≡ true → does_wait earlier p s c ≡ true
-waits_kept_off earlier p s c blocked moves waits = rw (blocked, moves) waits
-
-held_passes : (earlier : List Waiter) (left : Rooms) (p : Plea) (asked : List Claim) (s : CoreState) (before : List Claim) (c : Claim) (rest : List Claim)
-    → Steps (MovesYet earlier s (beside before s) c) (IsRuledFrom earlier left p asked s (beside before s) (c ∷ rest)) (check_held earlier p before c) [] s
-unfolding check_held held_with
-held_passes earlier left p asked s before c rest = by (least s.names (blockers earlier there c)) refl where
-  there : CoreState
-  there = beside before s
-
-  stops : (d : Claim) → is_stopped earlier there c ≡ true → (b : Bool) (o : Option ℕ) → p.blocking ≡ b → p.crowded ≡ o → IsRuledFrom earlier left p asked s there (c ∷ rest) (if b then waits o else Told (Conflict d)) [] s
-  stops d stopped true None waits room = (refl, refl, room, waits_stopped earlier p there c (stopped_blocked earlier there c stopped) stopped waits)
-  stops d stopped true (Some limit) waits room = (refl, refl, refl)
-  stops d stopped false o waits room = (refl, refl, refl)
-
-  by : (o : Option Claim) → least s.names (blockers earlier there c) ≡ o → (let r = held_by p o s in Passes (MovesYet earlier s there c) (IsRuledFrom earlier left p asked s there (c ∷ rest)) r.0 r.1 r.2)
-  by None e = ((refl, refl), blockers_none earlier there c e)
-  by (Some d) e = stops d (some_stops earlier there c d e) p.blocking p.crowded refl refl
-
--- nothing blocks it
-abbrev IsFreeYet : CoreState → List Claim → Claim → Between
-IsFreeYet s held c told t = IsYet s told t × (is_blocked held c ≡ false)
-
-caches_pass : (earlier : List Waiter) (left : Rooms) (p : Plea) (asked : List Claim) (s : CoreState) (before : List Claim) (c : Claim) (rest : List Claim) → is_stopped earlier (beside before s) c ≡ false
-    → Steps (IsFreeYet s (all_granted before s.claims) c) (IsRuledFrom earlier left p asked s (beside before s) (c ∷ rest)) (check_caches p before c) [] s
-unfolding check_caches held_with
-caches_pass earlier left p asked s before c rest moves = by (cache_against held c) refl where
-  held : List Claim
-  held = all_granted before s.claims
-
-  keeps : (d : Claim) → is_blocked held c ≡ true → (b : Bool) (o : Option ℕ) → p.awaits ≡ b → p.crowded ≡ o → IsRuledFrom earlier left p asked s (beside before s) (c ∷ rest) (if b then waits o else Told (Recall d)) [] s
-  keeps d blocked true None waits room = (refl, refl, room, waits_kept_off earlier p (beside before s) c blocked moves waits)
-  keeps d blocked true (Some limit) waits room = (refl, refl, refl)
-  keeps d blocked false o waits room = (refl, refl, refl)
-
-  by : (o : Option Claim) → cache_against held c ≡ o → (let r = kept_off_by p o s in Passes (IsFreeYet s held c) (IsRuledFrom earlier left p asked s (beside before s) (c ∷ rest)) r.0 r.1 r.2)
-  by None e = ((refl, refl), free_unless earlier (beside before s) c moves e)
-  by (Some d) e = keeps d (cache_blocked held c d e) p.awaits p.crowded refl refl
-
--- and passes no limit
-abbrev HasRoomYet : Rooms → Plea → CoreState → List Claim → Claim → Between
-HasRoomYet left p s held c told t = IsFreeYet s held c told t × (first_passed (grant_limits left p.rows (length (granted_claims c held)) p.kept) ≡ None)
-
-room_passes : (earlier : List Waiter) (left : Rooms) (p : Plea) (asked : List Claim) (s : CoreState) (before : List Claim) (c : Claim) (rest : List Claim) → is_blocked (all_granted before s.claims) c ≡ false
-    → Steps (HasRoomYet left p s (all_granted before s.claims) c) (IsRuledFrom earlier left p asked s (beside before s) (c ∷ rest)) (check_room left p before c) [] s
-unfolding check_room held_with
-room_passes earlier left p asked s before c rest free = by (first_passed (grant_limits left p.rows (length (granted_claims c held)) p.kept)) refl where
-  held : List Claim
-  held = all_granted before s.claims
-
-  by : (o : Option ℕ) → first_passed (grant_limits left p.rows (length (granted_claims c held)) p.kept) ≡ o → (let r = room_by o s in Passes (HasRoomYet left p s held c) (IsRuledFrom earlier left p asked s (beside before s) (c ∷ rest)) r.0 r.1 r.2)
-  by None e = (((refl, refl), free), e)
-  by (Some limit) e = (refl, refl, refl)
-
-end_passes : (n : ℕ) (earlier : List Waiter) (left : Rooms) (q p : Plea) (asked : List Claim) (s there : CoreState) → Ends (IsRuledFrom earlier left p asked s there []) (after (record_name n q) (enter_all asked)) [] s
-unfolding record_name enter_all
-end_passes n earlier left q p asked s there = (refl, refl, tt)
+-- all of these pass, or this stops one of them
+abbrev IsStop : List Waiter → Rooms → Plea → List Claim → CoreState → Option Ruling → Type 0
+IsStop earlier left p asked s None = AllPass left p s.claims asked
+IsStop earlier left p asked s (Some Gets) = ⊥
+IsStop earlier left p asked s (Some Waits) = (p.crowded ≡ None) × first_waits earlier p s asked
+IsStop earlier left p asked s (Some (Told answer)) = is_refusal answer ≡ true
 
 pass_at_once : (left : Rooms) (p : Plea) (held cs : List Claim) → AllPass left (at_once p) held cs → AllPass left p held cs
 pass_at_once left p held [] pass = tt
@@ -174,47 +62,63 @@ waits_not earlier p s (c ∷ cs) h = by (is_blocked s.claims c) (is_stopped earl
   by true false e = both_ways false refl e
   by false y e = both_ways false refl e
 
--- what stands once more counts as held, stands before
-ruled_before : (earlier : List Waiter) (left : Rooms) (p : Plea) (asked : List Claim) (s there : CoreState) (c : Claim) (rest : List Claim) → is_blocked there.claims c ≡ false → first_passed (grant_limits left p.rows (length (granted_claims c there.claims)) p.kept) ≡ None
-    → (ruling : Ruling) (told : List Effect) (t : CoreState) → IsRuledFrom earlier left (at_once p) asked s (record there { claims = granted_claims c there.claims }) rest ruling told t → IsRuledFrom earlier left p asked s there (c ∷ rest) ruling told t
-ruled_before earlier left p asked s there c rest free room Gets told t is = (is.0, is.1, (free, room, pass_at_once left p (granted_claims c there.claims) rest is.2))
-ruled_before earlier left p asked s there c rest free room Waits told t is = absurd (waits_not earlier p (record there { claims = granted_claims c there.claims }) rest is.3)
-ruled_before earlier left p asked s there c rest free room (Told answer) told t is = is
+waits_stopped : (earlier : List Waiter) (p : Plea) (s : CoreState) (c : Claim) → is_blocked s.claims c ≡ true → is_stopped earlier s c ≡ true → p.blocking ≡ true → does_wait earlier p s c ≡ true
+waits_stopped earlier p s c blocked stopped waits = rw (blocked, stopped) waits
 
-each_passes : (n : ℕ) (earlier : List Waiter) (left : Rooms) (q p : Plea) (asked : List Claim) (s : CoreState) (before rest : List Claim)
-    → Ends (IsRuledFrom earlier left p asked s (beside before s) rest) (each earlier left p before rest (after (record_name n q) (enter_all asked))) [] s
-each_passes n earlier left q p asked s before [] = end_passes n earlier left q p asked s (beside before s)
-each_passes n earlier left q p asked s before (c ∷ cs) =
-    after_passes (MovesYet earlier s (beside before s) c) E (check_held earlier p before c) _ [] s (held_passes earlier left p asked s before c cs) (λ told t moves.
-    at told t moves.0 (λ told t. Ends E (after (check_caches p before c) (after (check_room left p before c) rest)) told t)
-    (after_passes (IsFreeYet s held c) E (check_caches p before c) _ [] s (caches_pass earlier left p asked s before c cs moves.1) (λ more u free. at more u free.0 (λ more u. Ends E (after (check_room left p before c) rest) more u)
-    (after_passes (HasRoomYet left p s held c) E (check_room left p before c) rest [] s (room_passes earlier left p asked s before c cs free.1) (λ last v room. at last v room.0.0 (λ last v. Ends E rest last v)
-    (later last v room (each_passes n earlier left q (at_once p) asked s (before ++ c ∷ []) cs)))))))
-  where
-    held : List Claim
-    held = all_granted before s.claims
+waits_kept_off : (earlier : List Waiter) (p : Plea) (s : CoreState) (c : Claim) → is_blocked s.claims c ≡ true → is_stopped earlier s c ≡ false → p.awaits ≡ true → does_wait earlier p s c ≡ true
+waits_kept_off earlier p s c blocked moves waits = rw (blocked, moves) waits
 
-    E : Ending
-    E = IsRuledFrom earlier left p asked s (beside before s) (c ∷ cs)
+row_stops : (earlier : List Waiter) (left : Rooms) (p : Plea) (asked : List Claim) (s : CoreState) → IsStop earlier left p asked s (first_stop earlier left p asked s)
+unfolding check_held check_caches check_room held_with
+row_stops earlier left p [] s = tt
+row_stops earlier left p (c ∷ cs) s = by (least s.names (blockers earlier s c)) (cache_against s.claims c) (first_passed limits) refl refl refl (row_stops earlier left (at_once p) cs there) where
+  limits : List (ℕ × Bool)
+  limits = grant_limits left p.rows (length (granted_claims c s.claims)) p.kept
 
-    rest : CoreState → Ruled
-    rest = each earlier left (at_once p) (before ++ c ∷ []) cs (after (record_name n q) (enter_all asked))
+  there : CoreState
+  there = record s { claims = granted_claims c s.claims }
 
-    at : (told : List Effect) (t : CoreState) → IsYet s told t → (P : List Effect → CoreState → Type 0) → P [] s → P told t
-    at told t yet P h = subst (λ (x : List Effect). P x t) (sym yet.0) (subst (λ (x : CoreState). P [] x) (sym yet.1) h)
+  later : Option Ruling
+  later = first_stop earlier left (at_once p) cs there
 
-    later : (told : List Effect) (t : CoreState) → HasRoomYet left p s held c told t → Ends (IsRuledFrom earlier left (at_once p) asked s (beside (before ++ c ∷ []) s) cs) rest [] s → Ends E rest [] s
-    later told t room behind =
-        ruled_before earlier left p asked s (beside before s) c cs room.0.1 room.1 (rest s).0 (rest s).1 (rest s).2
-        (subst (λ (x : List Claim). Ends (IsRuledFrom earlier left (at_once p) asked s (record s { claims = x }) cs) rest [] s) (granted_behind before c s.claims) behind)
+  stops : (told : Answer) → is_refusal told ≡ true → (b : Bool) (o : Option ℕ) → (b ≡ true → does_wait earlier p s c ≡ true) → p.crowded ≡ o → IsStop earlier left p (c ∷ cs) s (Some (if b then waits o else Told told))
+  stops told refuses true None waits room = (room, waits refl)
+  stops told refuses true (Some limit) waits room = refl
+  stops told refuses false o waits room = refuses
 
--- each ruling has its cause, tells nothing, and leaves what it says
-pub judged_ruled : (n : ℕ) (earlier : List Waiter) (left : Rooms) (p : Plea) (asked : List Claim) (s : CoreState) → Ends (IsRuled earlier left p asked s) (judged n earlier left p asked) [] s
-unfolding judged
-judged_ruled n earlier left p asked s =
-    after_passes (IsYet s) (IsRuled earlier left p asked s) (check_grace p) _ [] s (grace_passes earlier left p asked s) (λ told t yet.
-    subst (λ (x : List Effect). Ends (IsRuled earlier left p asked s) (each earlier left p [] asked (after (record_name n p) (enter_all asked))) x t) (sym yet.0)
-    (subst (λ (x : CoreState). Ends (IsRuled earlier left p asked s) (each earlier left p [] asked (after (record_name n p) (enter_all asked))) [] x) (sym yet.1) (each_passes n earlier left p p asked s [] asked)))
+  behind : is_blocked s.claims c ≡ false → first_passed limits ≡ None → (o : Option Ruling) → IsStop earlier left (at_once p) cs there o → IsStop earlier left p (c ∷ cs) s o
+  behind free room None pass = (free, room, pass_at_once left p there.claims cs pass)
+  behind free room (Some Gets) is = is
+  behind free room (Some Waits) is = absurd (waits_not earlier p there cs is.1)
+  behind free room (Some (Told answer)) is = is
+
+  by : (o k : Option Claim) (l : Option ℕ) → least s.names (blockers earlier s c) ≡ o → cache_against s.claims c ≡ k → first_passed limits ≡ l → IsStop earlier left (at_once p) cs there later
+      → IsStop earlier left p (c ∷ cs) s (or_else (or_else (option_map (stopped p) o) (or_else (option_map (kept_off p) k) (option_map full l))) later)
+  by (Some d) k l e f g passes = let is = some_stops earlier s c d e in stops (Conflict d) refl p.blocking p.crowded (λ waits. waits_stopped earlier p s c (stopped_blocked earlier s c is) is waits) refl
+  by None (Some d) l e f g passes = stops (Recall d) refl p.awaits p.crowded (λ waits. waits_kept_off earlier p s c (cache_blocked s.claims c d f) (blockers_none earlier s c e) waits) refl
+  by None None (Some limit) e f g passes = refl
+  by None None None e f g passes = behind (free_unless earlier s c (blockers_none earlier s c e) f) g later passes
+
+-- of a plea for all of these: nothing is told, and all of them are held then, or none
+abbrev pub IsRuled : List Waiter → Rooms → Plea → List Claim → CoreState → Ruling → List Effect → CoreState → Type 0
+IsRuled earlier left p asked s Gets told t = (told ≡ []) × (t ≡ held_with asked s) × AllPass left p s.claims asked
+IsRuled earlier left p asked s Waits told t = (told ≡ []) × (t ≡ s) × (p.crowded ≡ None) × first_waits earlier p s asked
+IsRuled earlier left p asked s (Told answer) told t = (told ≡ []) × (t ≡ s) × (is_refusal answer ≡ true)
+
+-- each ruling has its cause
+pub judged_ruled : (n : ℕ) (earlier : List Waiter) (left : Rooms) (p : Plea) (asked : List Claim) (s : CoreState) → (let r = judged n earlier left p asked s in IsRuled earlier left p asked s r.0 r.1 r.2)
+unfolding judged check_grace check_row record_name enter_all
+judged_ruled n earlier left p asked s = by p.reclaim where
+  goes : (o : Option Ruling) → IsStop earlier left p asked s o → (let r = followed o [] s (after (record_name n p) (enter_all asked)) in IsRuled earlier left p asked s r.0 r.1 r.2)
+  goes None is = (refl, refl, is)
+  goes (Some Gets) is = absurd is
+  goes (Some Waits) is = (refl, refl, is.0, is.1)
+  goes (Some (Told answer)) is = (refl, refl, is)
+
+  by : (b : Bool)
+      → (let x : Option Ruling × List Effect × CoreState = if b then (Some (Told (NoGrace s.clock)), [], s) else (None, [], s) in let r = followed x.0 x.1 x.2 (after (check_row earlier left p asked) (after (record_name n p) (enter_all asked))) in IsRuled earlier left p asked s r.0 r.1 r.2)
+  by true = (refl, refl, refl)
+  by false = goes (first_stop earlier left p asked s) (row_stops earlier left p asked s)
 
 -- ---- the first claim: where something blocks it the ruling is a function of what is looked at
 
@@ -230,72 +134,31 @@ late n earlier left p asked s e = rw e refl
 
 -- one that something blocks for good
 pub judged_stopped : (n : ℕ) (earlier : List Waiter) (left : Rooms) (p : Plea) (c d : Claim) (cs : List Claim) (s : CoreState) → p.reclaim ≡ false → least_blocker earlier s c ≡ Some d → judged n earlier left p (c ∷ cs) s ≡ (stopped p d, [], s)
-unfolding judged check_grace check_held held_with
+unfolding judged check_grace check_row check_held held_with
 judged_stopped n earlier left p c d cs s timely e = rw (timely, e) refl
 
 -- one that a cache keeps off
 pub judged_kept_off : (n : ℕ) (earlier : List Waiter) (left : Rooms) (p : Plea) (c d : Claim) (cs : List Claim) (s : CoreState) → p.reclaim ≡ false → least_blocker earlier s c ≡ None → cache_against s.claims c ≡ Some d → judged n earlier left p (c ∷ cs) s ≡ (kept_off p d, [], s)
-unfolding judged check_grace check_held check_caches held_with
+unfolding judged check_grace check_row check_held check_caches held_with
 judged_kept_off n earlier left p c d cs s timely e k = rw (timely, e, k) refl
 
--- ---- several claims: the ruling is that on the first that is stopped
-
--- what the row comes to, where this is ruled
-abbrev comes_to : List Claim → CoreState → Ruling → Ruled
-comes_to asked s ruling = (ruling, [], row_left ruling asked s)
-
-waits_left : (asked : List Claim) (s : CoreState) (o : Option ℕ) → row_left (waits o) asked s ≡ s
-waits_left asked s None = refl
-waits_left asked s (Some limit) = refl
-
-stopped_left : (d : Claim) (asked : List Claim) (s : CoreState) (b : Bool) (o : Option ℕ) → row_left (if b then waits o else Told (Conflict d)) asked s ≡ s
-stopped_left d asked s true o = waits_left asked s o
-stopped_left d asked s false o = refl
-
-kept_left : (d : Claim) (asked : List Claim) (s : CoreState) (b : Bool) (o : Option ℕ) → row_left (if b then waits o else Told (Recall d)) asked s ≡ s
-kept_left d asked s true o = waits_left asked s o
-kept_left d asked s false o = refl
-
--- each behind those before it, where those count as held, or where they are held
-each_row : (n : ℕ) (earlier : List Waiter) (left : Rooms) (q p : Plea) (asked : List Claim) (s : CoreState) (before rest : List Claim)
-    → each earlier left p before rest (after (record_name n q) (enter_all asked)) s ≡ comes_to asked s (row earlier left p rest (held_with before s))
-unfolding record_name enter_all check_held check_caches check_room held_with
-each_row n earlier left q p asked s before [] = refl
-each_row n earlier left q p asked s before (c ∷ cs) =
-    go (least s.names (blockers earlier there c)) (cache_against there.claims c) (first_passed (grant_limits left p.rows (length (granted_claims c there.claims)) p.kept)) refl refl refl (each_row n earlier left q (at_once p) asked s (before ++ c ∷ []) cs)
-  where
-    there : CoreState
-    there = record s { claims = all_granted before s.claims }
-
-    go : (o k : Option Claim) (l : Option ℕ) → least s.names (blockers earlier there c) ≡ o → cache_against there.claims c ≡ k → first_passed (grant_limits left p.rows (length (granted_claims c there.claims)) p.kept) ≡ l
-        → each earlier left (at_once p) (before ++ c ∷ []) cs (after (record_name n q) (enter_all asked)) s ≡ comes_to asked s (row earlier left (at_once p) cs (held_with (before ++ c ∷ []) s))
-        → each earlier left p before (c ∷ cs) (after (record_name n q) (enter_all asked)) s ≡ comes_to asked s (row earlier left p (c ∷ cs) there)
-    go (Some d) k l e f g later = rw e (λ i. (stopped p d, [], sym (stopped_left d asked s p.blocking p.crowded) i))
-    go None (Some d) l e f g later = rw (e, f) (λ i. (kept_off p d, [], sym (kept_left d asked s p.awaits p.crowded) i))
-    go None None (Some limit) e f g later = rw (e, f, g) refl
-    go None None None e f g later =
-        rw (e, f, g) (subst (λ (held : List Claim). each earlier left (at_once p) (before ++ c ∷ []) cs (after (record_name n q) (enter_all asked)) s ≡ comes_to asked s (row earlier left (at_once p) cs (record s { claims = held })))
-        (granted_behind before c s.claims) later)
-
-pub judged_row : (n : ℕ) (earlier : List Waiter) (left : Rooms) (p : Plea) (asked : List Claim) (s : CoreState) → p.reclaim ≡ false → judged n earlier left p asked s ≡ (row earlier left p asked s, [], row_left (row earlier left p asked s) asked s)
-unfolding judged check_grace held_with
-judged_row n earlier left p asked s timely =
-    let rest : CoreState → Ruled = each earlier left p [] asked (after (record_name n p) (enter_all asked)) in
-    ap (λ (b : Bool). let r : Option Ruling × List Effect × CoreState = if b then (Some (Told (NoGrace s.clock)), [], s) else (None, [], s) in followed r.0 r.1 r.2 rest) timely
-    ∙ each_row n earlier left p p asked s [] asked
+-- all are granted where nothing stops one of them
+pub judged_row : (n : ℕ) (earlier : List Waiter) (left : Rooms) (p : Plea) (asked : List Claim) (s : CoreState) → p.reclaim ≡ false → judged n earlier left p asked s ≡ followed (first_stop earlier left p asked s) [] s (λ t. (Gets, [], held_with asked t))
+unfolding judged check_grace check_row record_name enter_all
+judged_row n earlier left p asked s timely = rw timely refl
 
 -- ---- what most claims meet
 
 -- where nothing that is held blocks a claim neither step on what is held ends the row
-pub nothing_held : (earlier : List Waiter) (p : Plea) (c : Claim) (s : CoreState) (later : Option Ruling) → least s.names (filter (λ held. blocks c held) s.claims) ≡ None → or_else (check_held earlier p [] c s).0 (or_else (check_caches p [] c s).0 later) ≡ later
-unfolding check_held check_caches held_with
+pub nothing_held : (earlier : List Waiter) (p : Plea) (c : Claim) (s : CoreState) (later : Option Ruling) → least s.names (filter (λ held. blocks c held) s.claims) ≡ None → or_else (check_held earlier p c s) (or_else (check_caches p c s) later) ≡ later
+unfolding check_held check_caches
 nothing_held earlier p c s later e =
     let free : is_blocked s.claims c ≡ false = none_passes (λ d. blocks c d) s.claims (least_none s.names (filter (λ held. blocks c held) s.claims) e) in
     rw (none_blockers earlier s c (free_moves earlier s c free), free_clear s.claims c free) refl
 
 -- where no cache stands on its file the least of what blocks it is what does so for good
-pub held_for_good : (earlier : List Waiter) (p : Plea) (c d : Claim) (s : CoreState) (later : Option Ruling) → least s.names (filter (λ held. blocks c held) s.claims) ≡ Some d → list_any (λ h. (h.file == c.file) && is_cache h.what) s.claims ≡ false → or_else (check_held earlier p [] c s).0 (or_else (check_caches p [] c s).0 later) ≡ Some (stopped p d)
-unfolding check_held held_with blockers
+pub held_for_good : (earlier : List Waiter) (p : Plea) (c d : Claim) (s : CoreState) (later : Option Ruling) → least s.names (filter (λ held. blocks c held) s.claims) ≡ Some d → list_any (λ h. (h.file == c.file) && is_cache h.what) s.claims ≡ false → or_else (check_held earlier p c s) (or_else (check_caches p c s) later) ≡ Some (stopped p d)
+unfolding check_held blockers
 held_for_good earlier p c d s later e none = rw (ap (least s.names) (all_final c s.claims none) ∙ e) refl
 
 -- ---- one claim
@@ -307,17 +170,10 @@ ruled_by p s c None None (Some limit) = (Told (Full limit), [], s)
 ruled_by p s c None None None = (Gets, [], held_with (c ∷ []) s)
 
 pub judged_is : (n : ℕ) (earlier : List Waiter) (left : Rooms) (p : Plea) (c : Claim) (s : CoreState) → p.reclaim ≡ false → judged n earlier left p (c ∷ []) s ≡ ruled_by p s c (least_blocker earlier s c) (cache_against s.claims c) (passed_by left p s c)
-unfolding judged check_grace check_held check_caches check_room record_name enter_all held_with
+unfolding judged check_grace check_row check_held check_caches check_room record_name enter_all held_with
 judged_is n earlier left p c s timely = go (least_blocker earlier s c) (cache_against s.claims c) (passed_by left p s c) refl refl refl where
   go : (o k : Option Claim) (l : Option ℕ) → least_blocker earlier s c ≡ o → cache_against s.claims c ≡ k → passed_by left p s c ≡ l → judged n earlier left p (c ∷ []) s ≡ ruled_by p s c o k l
   go (Some d) k l e f g = rw (timely, e) refl
   go None (Some d) l e f g = rw (timely, e, f) refl
   go None None (Some limit) e f g = rw (timely, e, f, g) refl
   go None None None e f g = rw (timely, e, f, g) refl
-
--- a reclaim comes too late, whatever is asked for
-pub judged_late : (n : ℕ) (earlier : List Waiter) (left : Rooms) (p : Plea) (asked : List Claim) (s : CoreState) (o : Option Ruling) (ruling : Ruling) → check_grace p s ≡ (o, [], s) → o ≡ Some ruling → judged n earlier left p asked s ≡ (ruling, [], s)
-unfolding judged
-judged_late n earlier left p asked s o ruling e is =
-    let rest : CoreState → Ruled = each earlier left p [] asked (after (record_name n p) (enter_all asked)) in
-    ap (λ (x : Option Ruling × List Effect × CoreState). followed x.0 x.1 x.2 rest) e ∙ ap (λ (x : Option Ruling). followed x [] s rest) is

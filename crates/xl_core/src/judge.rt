@@ -6,7 +6,7 @@ ghost use Rattle.xl_table.specs.Held.{has_one_party, IsGrantable, IsKept};
 ghost use Rattle.xl_table.specs.Relock.{granted_claims, most_claims};
 ghost use Rattle.xl_wait.specs.declared.waiter.Waiter.{Waiter};
 ghost use Rattle.xl_core.specs.Blockers.{blockers, cache_against};
-ghost use Rattle.xl_core.specs.Judge.{check_grace, stopped, waits, check_held, kept_off, check_caches, check_room, at_once, judged, or_else, stop_of, stop_left, gets, row, row_left, IsRow, IsFew};
+ghost use Rattle.xl_core.specs.Judge.{check_grace, stopped, waits, check_held, kept_off, check_caches, check_room, at_once, judged, or_else, stop_of, first_stop, stop_left, IsRow, IsFew};
 ghost use Rattle.xl_core.specs.Whole.{state_of};
 ghost use Rattle.xl_core.specs.declared.judge.Ruling.{Ruling};
 ghost use Rattle.xl_core.specs.declared.judge.Ruling.TheVariants.{Gets, Waits};
@@ -88,14 +88,14 @@ fn stopped(plea: &Plea, blocker: Claim) -> Ruling
 }
 
 /// What is held against the claim, and no break moves it.
-#[tactic(auto, unfolding(crate::specs::Judge::check_held, crate::specs::Judge::held_with))]
+#[tactic(auto, unfolding(crate::specs::Judge::check_held))]
 fn check_held(
     alloc: Global,
     parts: &Parts,
     plea: &Plea,
     claim: &Claim,
 ) -> Result<Option<Ruling>, AllocError>
-    ensures ruling { (earlier : List Waiter) → IfOk result (λ r. check_held earlier plea.now [] claim.now (state_of parts.now) ≡ (r, [], state_of parts.now)) }
+    ensures ruling { (earlier : List Waiter) → IfOk result (λ r. check_held earlier plea.now claim.now (state_of parts.now) ≡ r) }
     ensures gets { result ≡ Ok (Some Gets) → ⊥ }
     ensures waits { result ≡ Ok (Some Waits) → plea.now.crowded ≡ None }
 {
@@ -119,14 +119,14 @@ fn kept_off(plea: &Plea, cache: Claim) -> Ruling
 }
 
 /// The caches in the way of the claim.
-#[tactic(auto, unfolding(crate::specs::Judge::check_caches, crate::specs::Judge::held_with))]
+#[tactic(auto, unfolding(crate::specs::Judge::check_caches))]
 fn check_caches(
     alloc: Global,
     parts: &Parts,
     plea: &Plea,
     claim: &Claim,
 ) -> Result<Option<Ruling>, AllocError>
-    ensures ruling { IfOk result (λ r. check_caches plea.now [] claim.now (state_of parts.now) ≡ (r, [], state_of parts.now)) }
+    ensures ruling { IfOk result (λ r. check_caches plea.now claim.now (state_of parts.now) ≡ r) }
     ensures gets { result ≡ Ok (Some Gets) → ⊥ }
     ensures waits { result ≡ Ok (Some Waits) → plea.now.crowded ≡ None }
 {
@@ -144,7 +144,7 @@ fn check_claims(
     plea: &Plea,
     claim: &Claim,
 ) -> Result<Option<Ruling>, AllocError>
-    ensures ruling { (earlier : List Waiter) (later : Option Ruling) → IfOk result (λ r. or_else (check_held earlier plea.now [] claim.now (state_of parts.now)).0 (or_else (check_caches plea.now [] claim.now (state_of parts.now)).0 later) ≡ or_else r later) }
+    ensures ruling { (earlier : List Waiter) (later : Option Ruling) → IfOk result (λ r. or_else (check_held earlier plea.now claim.now (state_of parts.now)) (or_else (check_caches plea.now claim.now (state_of parts.now)) later) ≡ or_else r later) }
     ensures gets { result ≡ Ok (Some Gets) → ⊥ }
     ensures waits { result ≡ Ok (Some Waits) → plea.now.crowded ≡ None }
 {
@@ -175,7 +175,7 @@ fn at_once(plea: &Plea) -> Plea
 }
 
 /// The least limit that the claim passes.
-#[tactic(auto, unfolding(crate::specs::Judge::check_room, crate::specs::Judge::held_with))]
+#[tactic(auto, unfolding(crate::specs::Judge::check_room))]
 fn check_room(
     parts: &Parts,
     left: &Rooms,
@@ -184,7 +184,7 @@ fn check_room(
     change: &Change,
 ) -> Option<Ruling>
     requires change { change.now.held ≡ length (granted_claims claim.now parts.now.table) }
-    ensures room { check_room left.now plea.now [] claim.now (state_of parts.now) ≡ (result, [], state_of parts.now) }
+    ensures room { check_room left.now plea.now claim.now (state_of parts.now) ≡ result }
     ensures fits { result ≡ None → (change.now.held ≤ most_claims) × (plea.now.kept ≤ most_names) }
     ensures told { IfSome result (λ r. (r ≡ Gets → ⊥) × (r ≡ Waits → ⊥)) }
 {
@@ -206,7 +206,7 @@ fn judge_one(
     requires grantable { IsGrantable claim.now }
     requires party { AllByRecursion (λ c. has_one_party claim.now c ≡ true) parts.old.table }
     ensures stop { (earlier : List Waiter) → IfOk result (λ r. stop_of earlier left.now plea.now claim.now (state_of parts.old) ≡ r) }
-    ensures state { IfOk result (λ r. state_of parts.new ≡ stop_left r claim.now (state_of parts.old)) }
+    ensures state { IfOk result (λ r. state_of parts.new ≡ stop_left r (claim.now ∷ []) (state_of parts.old)) }
     ensures kept { result ≡ Ok None → IsKept parts.old.table }
     ensures few { result ≡ Ok None → plea.now.kept ≤ most_names }
     ensures gets { result ≡ Ok (Some Gets) → ⊥ }
@@ -228,27 +228,21 @@ fn judge_one(
     Ok(None)
 }
 
-/// Whether all that is pleaded for is had.
-fn has_all(ruling: Ruling) -> bool
-    ensures { result ≡ gets ruling }
-{
-    matches!(ruling, Ruling::Gets)
-}
-
-/// What comes of these claims, each once those before it are held: all of them are held then, or none.
+/// What stops the first of these claims that is stopped, each once those before it are held. All of them are held then, or none.
 fn judge_row(
     alloc: Global,
     parts: &mut Parts,
     left: &Rooms,
     plea: &Plea,
     claims: &[Claim],
-) -> Result<Ruling, AllocError>
+) -> Result<Option<Ruling>, AllocError>
     requires row { IsRow claims.now }
     requires party { AllByRecursion (λ c. AllByRecursion (λ d. has_one_party c d ≡ true) parts.old.table) claims.now }
-    ensures row { (earlier : List Waiter) → IfOk result (λ r. r ≡ row earlier left.now plea.now claims.now (state_of parts.old)) }
-    ensures state { IfOk result (λ r. state_of parts.new ≡ row_left r claims.now (state_of parts.old)) }
-    ensures few { result ≡ Ok Gets → IsFew plea.now claims.now }
-    ensures waits { result ≡ Ok Waits → plea.now.crowded ≡ None }
+    ensures stop { (earlier : List Waiter) → IfOk result (λ r. first_stop earlier left.now plea.now claims.now (state_of parts.old) ≡ r) }
+    ensures state { IfOk result (λ r. state_of parts.new ≡ stop_left r claims.now (state_of parts.old)) }
+    ensures few { result ≡ Ok None → IsFew plea.now claims.now }
+    ensures gets { result ≡ Ok (Some Gets) → ⊥ }
+    ensures waits { result ≡ Ok (Some Waits) → plea.now.crowded ≡ None }
     ensures queue { parts.new.queue ≡ parts.old.queue }
     ensures names { parts.new.names ≡ parts.old.names }
     ensures counter { parts.new.counter ≡ parts.old.counter }
@@ -256,20 +250,20 @@ fn judge_row(
     ensures failed { parts.new.failed ≡ parts.old.failed }
 {
     let [claim, rest @ ..] = claims else {
-        return Ok(Ruling::Gets);
+        return Ok(None);
     };
     if let Some(ruling) = judge_one(alloc, parts, left, plea, claim)? {
-        return Ok(ruling);
+        return Ok(Some(ruling));
     }
-    let ruling = judge_row(alloc, parts, left, &at_once(plea), rest)?;
-    if !has_all(ruling) {
+    if let Some(ruling) = judge_row(alloc, parts, left, &at_once(plea), rest)? {
         parts.table.take_back(claim);
+        return Ok(Some(ruling));
     }
-    Ok(ruling)
+    Ok(None)
 }
 
 /// What comes of a plea for these claims, of which there is one at least. Only what is held changes.
-#[tactic(auto, using(crate::proofs::RowLaws::judged_late, crate::proofs::RowLaws::judged_row))]
+#[tactic(auto, unfolding(crate::specs::Judge::judged, crate::specs::Judge::check_row, crate::specs::Judge::record_name, crate::specs::Judge::enter_all))]
 pub(crate) fn judge_all(
     alloc: Global,
     parts: &mut Parts,
@@ -291,6 +285,8 @@ pub(crate) fn judge_all(
     if let Some(ruling) = check_grace(parts, plea) {
         return Ok(ruling);
     }
-    let ruling = judge_row(alloc, parts, left, plea, claims)?;
-    Ok(ruling)
+    if let Some(ruling) = judge_row(alloc, parts, left, plea, claims)? {
+        return Ok(ruling);
+    }
+    Ok(Ruling::Gets)
 }

@@ -1,4 +1,4 @@
-use Rattle.std.proofs.Common.{rules, [], Ok, ap, sym}
+use Rattle.std.proofs.Common.{rules, [], Ok, ap}
 use Rattle.xl_core.specs.Whole.{state_of}
 use Rattle.xl_core.proofs.DoorLaws.{head_rest, none_left, rest_row, rest_alone, came_behind, came_last, back_state, ahead_state}
 use Rattle.xl_core.proofs.judge.+judge_row.Goals as goal
@@ -19,21 +19,21 @@ judge_row-requires t c =
 pub take_back-requires : goal.take_back-requires
 take_back-requires t c =
     let is = head_rest c.args.claims.now _ c.in-len1-up.len_at_least in
-    let behind = came_behind c.args.parts.now c.judge_one.new.parts c.judge_row.new.parts [] c.args.left.now _ c.args.claims.now _ _ c.in_ok-ruling.field-0 c.in_ok-ruling-2.ruling
-    is c.requires.row c.in_ok-ruling.ensures.state c.in_default-2.is (c.in_ok-ruling-2.ensures.row []) c.in_ok-ruling-2.ensures.state (sym c.if-not-has_all.ensures) in
+    let behind = came_behind c.args.parts.now c.judge_one.new.parts c.judge_row.new.parts [] c.args.left.now _ c.args.claims.now _ _ c.in_ok-ruling.field-0 c.in_ok-ruling-2.field-0 c.in-Some-2.ruling
+    is c.requires.row c.in_ok-ruling.ensures.state c.in_default-2.is (c.in_ok-ruling-2.ensures.stop []) c.in_ok-ruling-2.ensures.state c.in-Some-2.is in
     record { last = came_last _ c.args.parts.now.table c.judge_row.new.parts.table (c.in_ok-ruling.ensures.kept (ap Ok c.in_default-2.is)) behind }
 
-pub returns-then-not-has_all-clause-state : goal.returns-then-not-has_all-clause-state
-returns-then-not-has_all-clause-state t c =
+pub returns-in-Some-2-clause-state : goal.returns-in-Some-2-clause-state
+returns-in-Some-2-clause-state t c =
     let is = head_rest c.args.claims.now _ c.in-len1-up.len_at_least in
-    let behind = came_behind c.args.parts.now c.judge_one.new.parts c.judge_row.new.parts [] c.args.left.now _ c.args.claims.now _ _ c.in_ok-ruling.field-0 c.in_ok-ruling-2.ruling
-    is c.requires.row c.in_ok-ruling.ensures.state c.in_default-2.is (c.in_ok-ruling-2.ensures.row []) c.in_ok-ruling-2.ensures.state (sym c.if-not-has_all.ensures) in
-    back_state c.args.parts.now c.judge_one.new.parts c.judge_row.new.parts c.take_back.new.self c.args.claims.now _ _ c.in_ok-ruling.field-0 c.in_ok-ruling-2.ruling
+    let behind = came_behind c.args.parts.now c.judge_one.new.parts c.judge_row.new.parts [] c.args.left.now _ c.args.claims.now _ _ c.in_ok-ruling.field-0 c.in_ok-ruling-2.field-0 c.in-Some-2.ruling
+    is c.requires.row c.in_ok-ruling.ensures.state c.in_default-2.is (c.in_ok-ruling-2.ensures.stop []) c.in_ok-ruling-2.ensures.state c.in-Some-2.is in
+    back_state c.args.parts.now c.judge_one.new.parts c.judge_row.new.parts c.take_back.new.self _ _ c.in_ok-ruling.field-0 c.in_ok-ruling-2.field-0 c.in-Some-2.ruling
     (c.take_back.ensures.before c.args.parts.now.table behind)
-    c.in_ok-ruling.ensures.state c.in_default-2.is c.in_ok-ruling-2.ensures.state (sym c.if-not-has_all.ensures)
+    c.in_ok-ruling.ensures.state c.in_default-2.is c.in_ok-ruling-2.ensures.state c.in-Some-2.is
 
-pub returns-else-not-has_all-clause-state : goal.returns-else-not-has_all-clause-state
-returns-else-not-has_all-clause-state t c =
+pub returns-clause-state : goal.returns-clause-state
+returns-clause-state t c =
     let is = head_rest c.args.claims.now _ c.in-len1-up.len_at_least in
-    ahead_state c.args.parts.now c.judge_one.new.parts c.judge_row.new.parts c.args.claims.now _ _ c.in_ok-ruling.field-0 c.in_ok-ruling-2.ruling
-    is c.in_ok-ruling.ensures.state c.in_default-2.is c.in_ok-ruling-2.ensures.state (sym c.if-not-has_all.ensures)
+    ahead_state c.args.parts.now c.judge_one.new.parts c.judge_row.new.parts c.args.claims.now _ _ c.in_ok-ruling.field-0 c.in_ok-ruling-2.field-0
+    is c.in_ok-ruling.ensures.state c.in_default-2.is c.in_ok-ruling-2.ensures.state c.in_default-3.is
