@@ -2,7 +2,7 @@
 use Rattle.std.proofs.Common.{◌≡◌, ℕ, ◌+◌, ◌≤◌, false, true, Option, Some, List, refl, sym, ap, subst, ◌∙◌, arith}
 use Rattle.xl_base.specs.Limits.{most_numbers}
 use Rattle.xl_base.specs.declared.event.Kind.{Kind}
-use Rattle.xl_base.specs.declared.event.Kind.TheVariants.{Smb}
+use Rattle.xl_base.specs.declared.event.Kind.TheVariants.{Rpc, Smb}
 use Rattle.xl_base.specs.declared.event.Moment.{Moment}
 use Rattle.std.proofs.lemmas.Bool.{both_ways}
 use Rattle.xl_base.specs.declared.name.Protocol.TheVariants.{Nfs}
@@ -26,7 +26,9 @@ use Rattle.xl_programs.specs.Programs.{RequestItem, IncomingItem, Asked}
 use Rattle.xl_programs.specs.declared.program.Program.{Program}
 use Rattle.xl_nfs_opens.specs.Short as nfs
 use Rattle.xl_house.specs.declared.layers.Fronts.{Fronts}
-use Rattle.xl_house.specs.Machine.{Sent, grants, program_given, record_given, message_given, sent_of}
+use Rattle.xl_house.specs.Machine.{sent_of}
+use Rattle.xl_house.specs.Own.{program_own, record_own, message_own}
+use Rattle.xl_house.specs.Telling.{Sent, grants}
 
 -- what a front left may be told, where the names that it brings are short and nothing of it tells of a grant
 pub front_ready : {P : Name → Type 0} (most : ℕ) (s t : CoreState) (effects : List Effect) → ((name : Name) → P name → IsShort name) → most ≤ most_numbers → grants effects ≡ 0 → IsReady most_numbers s → budgets.Leaves P most s t → IsReady (grants effects) t
@@ -89,9 +91,9 @@ act_numbers s t u v ready first next e =
 -- ---- the front of the program that is asked
 
 pub asked_is_heard : (n : ℕ) (exports : Exports) (f : Fronts) (s : CoreState) (number : ℕ) (r : RequestItem) (program : Program) (incoming : IncomingItem) (sent : Sent)
-    → Asked r ≡ incoming → r.program ≡ program → sent_of exports (program_given n exports f s number r program) ≡ sent → sent_of exports (record_given n exports f s number incoming) ≡ sent
+    → Asked r ≡ incoming → r.program ≡ program → sent_of exports (Some Rpc) (program_own n exports f s number r program).given ≡ sent → sent_of exports (Some Rpc) (record_own n exports f s number incoming).given ≡ sent
 asked_is_heard n exports f s number r program incoming sent e asked is =
-    ap (λ (x : IncomingItem). sent_of exports (record_given n exports f s number x)) (sym e) ∙ ap (λ (p : Program). sent_of exports (program_given n exports f s number r p)) asked ∙ is
+    ap (λ (x : IncomingItem). sent_of exports (Some Rpc) (record_own n exports f s number x).given) (sym e) ∙ ap (λ (p : Program). sent_of exports (Some Rpc) (program_own n exports f s number r p).given) asked ∙ is
 
 -- ---- a COMPOUND
 
@@ -110,9 +112,10 @@ nfs_leaves most s t u effects few none leaves told = front_leaves most s t u eff
 -- ---- SMB
 
 -- a message of a connection of SMB
-pub packet_is_heard : (n : ℕ) (exports : Exports) (f : Fronts) (s : CoreState) (number : ℕ) (bytes : List ℕ) (kind : Option Kind) (k : Kind) (sent : Sent) → kind ≡ Some k → k ≡ Smb → sent_of exports (message_given n exports f s (Some Smb) number bytes) ≡ sent → sent_of exports (message_given n exports f s kind number bytes) ≡ sent
+pub packet_is_heard : (n : ℕ) (exports : Exports) (f : Fronts) (s : CoreState) (number : ℕ) (bytes : List ℕ) (kind : Option Kind) (k : Kind) (sent : Sent) → kind ≡ Some k → k ≡ Smb
+    → sent_of exports (Some Smb) (message_own n exports f s (Some Smb) number bytes).given ≡ sent → sent_of exports kind (message_own n exports f s kind number bytes).given ≡ sent
 packet_is_heard n exports f s number bytes kind k sent opened smb is =
-    ap (λ (o : Option Kind). sent_of exports (message_given n exports f s o number bytes)) (opened ∙ ap (λ (x : Kind). Some x) smb) ∙ is
+    ap (λ (o : Option Kind). sent_of exports o (message_own n exports f s o number bytes).given) (opened ∙ ap (λ (x : Kind). Some x) smb) ∙ is
 
 -- a lease's name is short
 pub lease_short : (name : Name) → is_lease name ≡ true → IsShort name

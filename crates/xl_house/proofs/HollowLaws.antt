@@ -2,6 +2,7 @@
 -- SMB that wait, or their opens, don't meet the laws of an entry.
 use Rattle.std.proofs.Common.{◌≡◌, ℕ, zero, suc, ◌≤◌, nat_lt, if◌then◌else◌, Bool, true, false, List, [], ◌∷◌, Option, Some, None, refl, sym, ap, subst, ◌∙◌, arith}
 use Rattle.std.specs.Prelude.{nat_eq}
+use Rattle.std.specs.List.{AllByRecursion}
 use Rattle.std.specs.Map.{lookup}
 use Rattle.std.proofs.lemmas.Bool.{both_ways}
 use Rattle.std.proofs.lemmas.Bool.Decides.{nat_tests}
@@ -25,6 +26,7 @@ use Rattle.xl_matrix.specs.declared.claim.Claim.{Claim}
 use Rattle.xl_matrix.specs.declared.claim.Extent.{Extent}
 use Rattle.xl_wait.specs.declared.waiter.Rooms.{Rooms}
 use Rattle.xl_wait.specs.declared.waiter.Waiter.{Waiter}
+use Rattle.xl_core.proofs.GoodLaws.{begun_good}
 use Rattle.xl_core.proofs.HollowLaws.{nothing_kept, waiter_dropped}
 use Rattle.xl_core.specs.Deeds.{Deed, Asks, queue_after, any_ends_break}
 use Rattle.xl_core.specs.Leases.{Lease, ended}
@@ -35,24 +37,24 @@ use Rattle.xl_core.specs.declared.ask.Act.TheVariants.{Test}
 use Rattle.xl_core.specs.declared.ask.Ask.{Ask}
 use Rattle.xl_core.specs.declared.lease.Times.{Times}
 use Rattle.xl_base.proofs.Members.{all_in}
-use Rattle.xl_core.specs.Good.{IsGood}
-use Rattle.xl_core.specs.Settle.{settle, turns_left, waits_as}
+use Rattle.xl_core.specs.Settle.{settle, waits_as}
 use Rattle.xl_core.specs.declared.ask.Answer.TheVariants.{Granted}
 use Rattle.xl_core.specs.declared.ask.Effect.{Effect}
 use Rattle.xl_core.specs.declared.ask.Effect.TheVariants.{Served}
 use Rattle.xl_smb_laws.specs.WaitingRequests.{IsKept as HasRequest}
 use Rattle.xl_front_smb.specs.Checks.{is_open_on}
-use Rattle.xl_house.specs.Awaited.{IsServed, OpenStands, turn_serves, turns_serve}
-use Rattle.xl_house.specs.Done.{deeds}
+use Rattle.xl_house.specs.Awaited.{AreServed, HaveOpens, IsServed, OpenStands}
+use Rattle.xl_house.specs.Done.{Round, deeds}
 use Rattle.xl_house.specs.Free.{IsFree}
 use Rattle.xl_house.specs.Lawful.{found, IsLawful, IsWaiting, IsKept, IsComplete}
-use Rattle.xl_house.specs.Machine.{Whole, heard, rooms_of}
+use Rattle.xl_house.specs.Machine.{heard}
+use Rattle.xl_house.specs.State.{Whole, as_found, rooms_of}
+use Rattle.xl_house.specs.Telling.{TurnTaken}
 use Rattle.xl_house.specs.Timed.{leases_after}
-use Rattle.xl_house.specs.declared.layers.Fronts.{Fronts}
 use Rattle.xl_house.proofs.LawfulLaws.{begun_waits}
 use Rattle.xl_house.proofs.MachineLaws.{heard_good}
-use Rattle.xl_house.proofs.ServedLaws.{awaiting_by}
-use Rattle.xl_house.proofs.SettleLaws.{no_more}
+use Rattle.xl_house.proofs.DoneLaws.{rounds_are}
+use Rattle.xl_house.proofs.SettleLaws.{turns_are}
 
 pub nothing_kept_in : (n stores number : ℕ) (bytes : List ℕ) (outs : List Out) (s t : Whole) (stable : Stable) (clock : Moment) (times : Times) → found s ≡ started stable clock times → deeds n s (Message number bytes) ≡ Asks all_room smallest_lock ∷ []
     → t.core.claims ≡ [] → IsLawful n s (record { event = Message number bytes; stores = stores; outs = outs }) t → ⊥
@@ -92,7 +94,7 @@ lease_runs_on_in n stores outs s t now client runs complete = subst (λ (ids : L
 pub request_forgotten_in : (n : ℕ) (s t : Whole) (e : Entry) (w : Waiter) (number : ℕ) → IsIn w t.core.waiters → waits_as number w ≡ true → t.front.smb.state.waiting ≡ [] → IsServed n s e t → ⊥
 request_forgotten_in n s t e w number there waits none served =
     let l : Lists = t.front.smb.state in
-    let kept = all_in (HasRequest l) w t.core.waiters (awaiting_by n s t e.event served).keeps there number waits in
+    let kept = all_in (HasRequest l) w t.core.waiters served.0.keeps there number waits in
     none_some (sym (ap (λ (es : List (ℕ × Waiting)). lookup (nat_eq w.id) es) none) ∙ kept.1)
 
 -- an open that isn't there doesn't stand
@@ -100,19 +102,13 @@ none_stands : (last : Lists) (row : Waiting) (claim : Claim) (r : Request) → o
 none_stands last row claim (request.Create made) none stands = none_some (sym none ∙ stands.1)
 none_stands last row claim request.Lock none stands = both_ways false refl (sym (ap (λ (o : Option Open). is_open_on row.place.connection o) none) ∙ stands)
 
-unmade_by : (fuel n : ℕ) (exports : Exports) (last : Lists) (f : Fronts) (s u : CoreState) (told : List Effect) (id number : ℕ) (claim : Claim) → turns_left s ≡ fuel → IsGood s → settle n (rooms_of f) s ≡ Some (told, u)
-    → IsIn (Served id (Granted claim)) told → claim.owner ≡ owners.Open number → open_of number last ≡ None → turns_serve fuel n exports last f s → ⊥
-unmade_by zero n exports last f s u told id number claim left good e here owner none serves =
-    (let few : turns_left s ≤ 0 = omega (arith, left) in
-    let no_turn : None ≡ Some (told, u) = sym (no_more n f s good few) ∙ e in
-    none_some no_turn)
-unmade_by (suc fuel) n exports last f s u told id number claim left good e here owner none serves =
-    (let first = subst (λ (o : Option (List Effect × CoreState)). turn_serves exports last (turns_serve fuel n exports last) f o) e serves in
-    let is = first.0 id number claim here owner in
-    none_stands last is.row claim is.row.request (ap (λ (k : ℕ). open_of k last) is.own ∙ none) is.there)
-
-pub open_unmade_in : (n stores conn : ℕ) (bytes : List ℕ) (outs : List Out) (s t : Whole) (u : CoreState) (told : List Effect) (id number : ℕ) (claim : Claim) → IsFree s → (let h = heard n s (Message conn bytes) in settle n (rooms_of h.1) h.2 ≡ Some (told, u))
+pub open_unmade_in : (n stores conn : ℕ) (bytes : List ℕ) (outs : List Out) (s t : Whole) (u : CoreState) (told : List Effect) (id number : ℕ) (claim : Claim) → IsFree s → (let h = heard n (as_found s) (Message conn bytes) in settle n (rooms_of h.1) h.2 ≡ Some (told, u))
     → IsIn (Served id (Granted claim)) told → claim.owner ≡ owners.Open number → open_of number t.front.smb.state ≡ None → IsServed n s (record { event = Message conn bytes; stores = stores; outs = outs }) t → ⊥
 open_unmade_in n stores conn bytes outs s t u told id number claim free e here owner none served =
-    let h = heard n s (Message conn bytes) in
-    unmade_by (turns_left h.2) n s.exports t.front.smb.state h.1 h.2 u told id number claim refl (heard_good n s (Message conn bytes) free.good) e here owner none served.1
+    let event = Message conn bytes in
+    let h = heard n (as_found s) event in
+    let last : Lists = t.front.smb.state in
+    let first = subst (λ (rs : List Round). AreServed t rs) (rounds_are n s event refl) served.1 in
+    let have = subst (λ (ts : List TurnTaken). AllByRecursion (λ turn. HaveOpens s.exports last turn) ts) (turns_are n s.exports h.1 h.2 u told (heard_good n (as_found s) event (begun_good s.core free.good)) e) first.0 in
+    let is = have.0 id number claim here owner in
+    none_stands last is.row claim is.row.request (ap (λ (k : ℕ). open_of k last) is.own ∙ none) is.there

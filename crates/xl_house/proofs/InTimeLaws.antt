@@ -15,7 +15,7 @@ use Rattle.xl_base.specs.declared.event.Out.{Out}
 use Rattle.xl_base.specs.declared.journal.Entry.{Entry}
 use Rattle.xl_base.specs.declared.journal.Head.{Head}
 use Rattle.xl_house.specs.Journals.{opened_after, IsTimely, IsOrderly, IsLegal}
-use Rattle.xl_house.specs.Machine.{start_of, most_connections}
+use Rattle.xl_house.specs.State.{start_of, most_connections}
 use Rattle.xl_house.specs.Serials.{IsHistory}
 use Rattle.xl_house.proofs.OrderLaws.{legal_orderly}
 
@@ -35,11 +35,9 @@ after_from opened place number (Open kind) there = by (nat_lt (length opened) mo
   by : (room : Bool) → IsIn number (if room then opened ++ place ∷ [] else opened) → IsIn number opened ⊎ (place ≡ number)
   by true now = in_behind opened place number now
   by false now = inl now
-after_from opened place number (Message conn bytes) there = inl there
 after_from opened place number (End ended) there = inl (in_filter_from (λ c. not (eqb c ended)) number opened there).0
-after_from opened place number (Called call reply) there = inl there
-after_from opened place number (Tick moment) there = inl there
 after_from opened place number Restart there = absurd there
+after_from opened place number event there = inl there
 
 -- each was opened before this place
 abbrev Below : ℕ → List ℕ → Type 0

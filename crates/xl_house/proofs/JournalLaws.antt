@@ -13,7 +13,8 @@ use Rattle.xl_core.specs.declared.lease.Times.{Times}
 use Rattle.xl_front_nlm.specs.Short.{AreShort}
 use Rattle.xl_house.specs.Awaited.{IsAwaiting, IsServed, IsServedBy}
 use Rattle.xl_house.specs.Lawful.{Always}
-use Rattle.xl_house.specs.Machine.{Whole, times_of, start_of, step}
+use Rattle.xl_house.specs.Machine.{step}
+use Rattle.xl_house.specs.State.{Whole, times_of, start_of}
 use Rattle.xl_house.specs.Journals.{replay, IsLegal, entry, entries_of, is_restart, most_entries}
 use Rattle.xl_house.specs.Free.{IsFree}
 use Rattle.xl_base.specs.Serials.{Extends}

@@ -29,13 +29,15 @@ use Rattle.xl_core.proofs.DeedLists.{deeds_make, deeds_queue, deeds_names, deeds
 use Rattle.xl_core.proofs.DueLaws.{none_due}
 use Rattle.xl_core.proofs.GoodLaws.{begun_good}
 use Rattle.xl_core.proofs.TickLaws.{tick_done, tick_in_turn, none_ended}
-use Rattle.xl_house.specs.Done.{own_deeds, deeds, messages}
+use Rattle.xl_house.specs.Done.{rounds, deeds, messages}
+use Rattle.xl_house.specs.Own.{own_of}
 use Rattle.xl_house.specs.Free.{IsFree}
 use Rattle.xl_house.specs.Journals.{IsLegal, is_restart}
-use Rattle.xl_house.specs.Lawful.{Always, IsLawful, IsLawfulBy, IsWaiting, IsWaitingBy, IsGuarding, IsKept, IsKeptBy, IsOnTime, IsOnTimeBy, IsComplete, IsCaused, IsTold}
-use Rattle.xl_house.specs.Machine.{Whole, Turn, start_of, step}
+use Rattle.xl_house.specs.Lawful.{Always, IsLawful, IsLawfulBy, IsWaiting, IsWaitingBy, IsGuarding, IsKept, IsKeptBy, IsOnTime, IsOnTimeBy, IsComplete, IsCaused, IsCausedBy, IsTold}
+use Rattle.xl_house.specs.Machine.{Turn, step}
+use Rattle.xl_house.specs.State.{Whole, as_found, start_of}
 use Rattle.xl_house.specs.Timed.{leases_after, clock_after}
-use Rattle.xl_house.proofs.DoneLaws.{left_is, deeds_taken, own_may, owners_own, behind_follows, all_sent}
+use Rattle.xl_house.proofs.DoneLaws.{left_is, deeds_taken, each_event, each_round, round_caused, all_sent}
 use Rattle.xl_house.proofs.MachineLaws.{step_is, step_free, begin_free}
 use Rattle.xl_house.proofs.TimedLaws.{Running, times_in, left_times, own_clock, leases_are}
 
@@ -72,7 +74,7 @@ begun_times : (s : CoreState) → times_in (step_begun s) ≡ times_in s
 unfolding step_begun
 begun_times s = refl
 
-next_times : (n : ℕ) (s : Whole) (event : Event) → is_restart event ≡ false → IsFree s → times_in (step n s event).next.core ≡ times_in (all_done n (step_begun s.core) (own_deeds n s event))
+next_times : (n : ℕ) (s : Whole) (event : Event) → is_restart event ≡ false → IsFree s → times_in (step n s event).next.core ≡ times_in (all_done n (step_begun s.core) (own_of n (as_found s) event).deeds)
 next_times n s event other free =
     ap times_in (next_core n s event other) ∙ begun_times (all_done n (step_begun s.core) (deeds n s event)) ∙ left_times n s event other (begun_good s.core free.good)
 
@@ -86,7 +88,7 @@ leased n s event other free =
 
 clocked : (n : ℕ) (s : Whole) (event : Event) → is_restart event ≡ false → IsFree s → (step n s event).next.core.clock ≡ clock_after event s.core.clock
 clocked n s event other free =
-    ap (λ (x : Running). x.1) (next_times n s event other free) ∙ own_clock n s event (begun_good s.core free.good) ∙ ap (λ (x : Running). clock_after event x.1) (begun_times s.core)
+    ap (λ (x : Running). x.1) (next_times n s event other free) ∙ own_clock n (as_found s) event (begun_good s.core free.good) ∙ ap (λ (x : Running). clock_after event x.1) (begun_times s.core)
 
 lawfully : (n : ℕ) (s : Whole) (event : Event) → is_restart event ≡ false → IsFree s → (let t = (step n s event).next in
     IsChangedBy n (step_begun s.core) (deeds n s event) t.core × (t.core.leases ≡ leases_after n (step_begun s.core) (deeds n s event) s.core.leases) × (t.core.clock ≡ clock_after event s.core.clock))
@@ -104,12 +106,8 @@ unfolding step
 cleared n s = (refl, refl)
 
 lawful_by : (n : ℕ) (s : Whole) (event : Event) → IsFree s → IsLawfulBy n s event (step n s event).next
-lawful_by n s (Open kind) free = lawfully n s (Open kind) refl free
-lawful_by n s (Message number bytes) free = lawfully n s (Message number bytes) refl free
-lawful_by n s (End number) free = lawfully n s (End number) refl free
-lawful_by n s (Called number bytes) free = lawfully n s (Called number bytes) refl free
-lawful_by n s (Tick moment) free = lawfully n s (Tick moment) refl free
 lawful_by n s Restart free = let same = cleared n s in (λ p. emptied n s p, same.0, same.1)
+lawful_by n s event free = lawfully n s event refl free
 
 waiting : (n : ℕ) (s : Whole) (event : Event) → is_restart event ≡ false → IsFree s
     → (let t = (step n s event).next in (t.core.waiters ≡ queue_after n (step_begun s.core) (deeds n s event) s.core.waiters) × KeepNames s.core.names t.core.names)
@@ -131,12 +129,8 @@ unfolding step
 nobody n s = refl
 
 waiting_by : (n : ℕ) (s : Whole) (event : Event) → IsFree s → IsWaitingBy n s event (step n s event).next
-waiting_by n s (Open kind) free = waiting n s (Open kind) refl free
-waiting_by n s (Message number bytes) free = waiting n s (Message number bytes) refl free
-waiting_by n s (End number) free = waiting n s (End number) refl free
-waiting_by n s (Called number bytes) free = waiting n s (Called number bytes) refl free
-waiting_by n s (Tick moment) free = waiting n s (Tick moment) refl free
 waiting_by n s Restart free = nobody n s
+waiting_by n s event free = waiting n s event refl free
 
 begun_claims : (s : CoreState) → (step_begun s).claims ≡ s.claims
 unfolding step_begun
@@ -174,27 +168,18 @@ unfolding step
 none_held n s = refl
 
 kept_by : (n : ℕ) (s : Whole) (event : Event) → IsFree s → IsKeptBy n s event (step n s event).next
-kept_by n s (Open kind) free = kept n s (Open kind) refl free
-kept_by n s (Message number bytes) free = kept n s (Message number bytes) refl free
-kept_by n s (End number) free = kept n s (End number) refl free
-kept_by n s (Called number bytes) free = kept n s (Called number bytes) refl free
-kept_by n s (Tick moment) free = kept n s (Tick moment) refl free
 kept_by n s Restart free = none_held n s
+kept_by n s event free = kept n s event refl free
 
 deeds_given : (n : ℕ) (s : Whole) (event : Event) → is_restart event ≡ false → IsFree s → AreDue n (step_begun s.core) (deeds n s event)
 deeds_given n s event other free = deeds_due n (step_begun s.core) (deeds n s event) (begun_good s.core free.good) (deeds_taken n s event other (begun_good s.core free.good))
 
 nothing_due : (n : ℕ) (s : Whole) → AreDue n (step_begun s.core) (deeds n s Restart)
-unfolding deeds
+unfolding deeds rounds
 nothing_due n s = tt
 
 due_by : (n : ℕ) (s : Whole) (event : Event) → IsFree s → AreDue n (step_begun s.core) (deeds n s event)
-due_by n s (Open kind) free = deeds_given n s (Open kind) refl free
-due_by n s (Message number bytes) free = deeds_given n s (Message number bytes) refl free
-due_by n s (End number) free = deeds_given n s (End number) refl free
-due_by n s (Called number bytes) free = deeds_given n s (Called number bytes) refl free
-due_by n s (Tick moment) free = deeds_given n s (Tick moment) refl free
-due_by n s Restart free = nothing_due n s
+due_by n s event free = each_event (λ e. AreDue n (step_begun s.core) (deeds n s e)) (λ e other. deeds_given n s e other free) (nothing_due n s) event
 
 -- a reading of the clock leaves nothing that is due by then
 on_time : (n : ℕ) (s : Whole) (now : Moment) → IsFree s → IsOnTime n s now (step n s (Tick now)).next
@@ -203,31 +188,22 @@ on_time n s now free =
     record {
       breaks = subst (λ (t : CoreState). due t ≡ []) (sym (tick_done n found now)) (none_due found now (begun_good s.core free.good));
       leases = ap (λ (x : Running). ended x.1 x.0) (next_times n s (Tick now) refl free ∙ ap times_in (tick_done n found now)) ∙ none_ended found now;
-      turns = tick_in_turn n found (all_done n found (own_deeds n s (Tick now))) now (begun_good s.core free.good);
+      turns = tick_in_turn n found (all_done n found (own_of n (as_found s) (Tick now)).deeds) now (begun_good s.core free.good);
     }
 
 on_time_by : (n : ℕ) (s : Whole) (event : Event) → IsFree s → IsOnTimeBy n s event (step n s event).next
-on_time_by n s (Open kind) free = tt
-on_time_by n s (Message number bytes) free = tt
-on_time_by n s (End number) free = tt
-on_time_by n s (Called number bytes) free = tt
 on_time_by n s (Tick now) free = on_time n s now free
-on_time_by n s Restart free = tt
+on_time_by n s event free = tt
 
 sends : (n : ℕ) (s : Whole) (event : Event) → is_restart event ≡ false → (step n s event).outs ≡ messages n s event
 sends n s event other = ap (λ (t : Turn). t.outs) (step_is n s event other) ∙ all_sent n s event other
 
 sends_nothing : (n : ℕ) (s : Whole) → (step n s Restart).outs ≡ messages n s Restart
-unfolding step messages
+unfolding step messages rounds
 sends_nothing n s = refl
 
 sends_by : (n : ℕ) (s : Whole) (event : Event) → (step n s event).outs ≡ messages n s event
-sends_by n s (Open kind) = sends n s (Open kind) refl
-sends_by n s (Message number bytes) = sends n s (Message number bytes) refl
-sends_by n s (End number) = sends n s (End number) refl
-sends_by n s (Called number bytes) = sends n s (Called number bytes) refl
-sends_by n s (Tick moment) = sends n s (Tick moment) refl
-sends_by n s Restart = sends_nothing n s
+sends_by n s event = each_event (λ e. (step n s e).outs ≡ messages n s e) (λ e other. sends n s e other) (sends_nothing n s) event
 
 -- ---- each entry
 
@@ -249,11 +225,10 @@ complete_from s (e ∷ es) free = ((due_by e.stores s e.event free, on_time_by e
 
 caused_from : (s : Whole) (es : List Entry) → IsFree s → Always IsCaused s es
 caused_from s [] free = tt
-caused_from s (e ∷ es) free =
-    let good = begun_good s.core free.good in (
-      record { own = own_may e.stores s e.event good; clients = owners_own e.stores s e.event good; behind = behind_follows e.stores s e.event },
-      caused_from (step e.stores s e.event).next es (step_free e.stores s e.event free),
-    )
+caused_from s (e ∷ es) free = (
+  each_round (λ rs. AllByRecursion (λ r. IsCausedBy e.stores e.event r) rs) e.stores s e.event tt (round_caused e.stores (as_found s) e.event (begun_good s.core free.good), tt),
+  caused_from (step e.stores s e.event).next es (step_free e.stores s e.event free),
+)
 
 told_from : (s : Whole) (es : List Entry) → IsLegal s es → Always IsTold s es
 told_from s [] legal = tt

@@ -3,6 +3,7 @@ pub mod Stores
 pub mod MayLaws
 pub mod QuietLaws
 pub mod ShownLaws
+pub mod TurnLaws
 pub mod SettleLaws
 pub mod HearLaws
 pub mod DoneLaws

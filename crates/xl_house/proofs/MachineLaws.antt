@@ -1,5 +1,5 @@
 -- What each event keeps.
-use Rattle.std.proofs.Common.{◌≡◌, ℕ, zero, suc, ◌+◌, ◌≤◌, false, Option, Some, None, IfSome, List, [], ◌∷◌, refl, sym, ap, subst, ◌∙◌, arith}
+use Rattle.std.proofs.Common.{◌≡◌, ℕ, ◌+◌, false, List, [], ◌∷◌, refl, sym, ap, subst, ◌∙◌}
 use Rattle.xl_base.specs.Stable.{Stable, raised}
 use Rattle.xl_base.specs.declared.event.Event.{Event}
 use Rattle.xl_base.specs.declared.event.Event.TheVariants.{Open, Message, End, Called, Tick, Restart}
@@ -11,67 +11,39 @@ use Rattle.xl_base.specs.declared.journal.Head.{Head}
 use Rattle.xl_core.specs.State.{CoreState, MayBe, GoesOn, started, step_begun}
 use Rattle.xl_core.proofs.DeedLists.{deeds_good}
 use Rattle.xl_core.specs.Good.{IsGood, IsSettled}
-use Rattle.xl_core.specs.Settle.{turns_left, settle}
-use Rattle.xl_core.specs.declared.ask.Effect.{Effect}
-use Rattle.xl_core.proofs.GoodLaws.{started_good, begun_good, settle_good}
-use Rattle.xl_core.proofs.SettleLaws.{none_settled, turn_fewer}
+use Rattle.xl_core.proofs.GoodLaws.{started_good, begun_good}
 use Rattle.xl_house.specs.declared.layers.Fronts.{Fronts}
 use Rattle.xl_house.specs.Free.{IsFree, AlwaysFree}
 use Rattle.xl_house.specs.Journals.{is_restart}
 use Rattle.xl_core.specs.declared.lease.Times.{Times}
-use Rattle.xl_house.specs.Machine.{Whole, Turn, Sent, times_of, start_of, behind, and_then, all_shown, rooms_of, after_turn, settled_for, settled, heard, connected, onward, turn_of, settled_turn, restarted, step}
+use Rattle.xl_house.specs.Machine.{Turn, heard, connected, onward, turn_of, settled_turn, restarted, step}
+use Rattle.xl_house.specs.State.{Whole, as_found, times_of, start_of}
+use Rattle.xl_house.specs.Telling.{Sent, behind, and_then, settled}
 use Rattle.xl_house.specs.declared.connections.Connection.{Connection}
 use Rattle.xl_house.proofs.StillLaws.{IsStill, deeds_still}
 use Rattle.xl_house.specs.Done.{deeds}
-use Rattle.xl_house.proofs.DoneLaws.{own_and_told, heard_does, heard_takes, left_by, left_is, deeds_taken}
-use Rattle.xl_house.proofs.ShownLaws.{all_shown_good, told_turns}
-use Rattle.xl_house.proofs.SettleLaws.{no_more}
+use Rattle.xl_house.proofs.DoneLaws.{each_event, own_and_told, heard_does, heard_takes, left_by, left_is, deeds_taken}
+use Rattle.xl_house.proofs.SettleLaws.{settling_ends}
 use Rattle.xl_house.proofs.Stores.{may_be_made, may_be_before}
 
 -- ---- an event other than a restart
 
-pub step_is : (n : ℕ) (s : Whole) (e : Event) → is_restart e ≡ false → step n s e ≡ settled_turn n s (connected s.connections s.place e) (heard n s e)
+pub step_is : (n : ℕ) (s : Whole) (e : Event) → is_restart e ≡ false → step n s e ≡ settled_turn n s (connected s.connections s.place e) (heard n (as_found s) e)
 unfolding step
-step_is n s (Open kind) other = refl
-step_is n s (Message number bytes) other = refl
-step_is n s (End number) other = refl
-step_is n s (Called call reply) other = refl
-step_is n s (Tick moment) other = refl
 step_is n s Restart other = absurd cc
-
--- ---- settling
-
-ends_by : (fuel n : ℕ) (exports : Exports) (f : Fronts) (s : CoreState) (o : Option (List Effect × CoreState)) → settle n (rooms_of f) s ≡ o → IfSome o (λ r. turns_left r.1 + 1 ≤ turns_left s) → IfSome o (λ r. IsGood r.1) → turns_left s ≤ suc fuel
-    → ((g : Fronts) (t : CoreState) → IsGood t → turns_left t ≤ fuel → IsSettled (settled_for fuel n exports g t).2) → IsSettled (after_turn exports (settled_for fuel n exports) f s o).2
-ends_by fuel n exports f s None is fewer good few rests = none_settled n (rooms_of f) s is
-ends_by fuel n exports f s (Some turn) is fewer good few rests =
-    let done = all_shown exports f turn.1 turn.0 in
-    rests done.1 done.2 (all_shown_good exports f turn.1 turn.0 good) (omega (arith, fewer, few, told_turns exports f turn.1 turn.0))
-
-ends_for : (fuel n : ℕ) (exports : Exports) (f : Fronts) (s : CoreState) → IsGood s → turns_left s ≤ fuel → IsSettled (settled_for fuel n exports f s).2
-ends_for zero n exports f s good few = none_settled n (rooms_of f) s (no_more n f s good few)
-ends_for (suc fuel) n exports f s good few =
-    ends_by fuel n exports f s (settle n (rooms_of f) s) refl (turn_fewer n (rooms_of f) s good) (settle_good n (rooms_of f) s good) few (λ g t h k. ends_for fuel n exports g t h k)
-
--- nobody is forgotten
-pub settling_ends : (n : ℕ) (exports : Exports) (f : Fronts) (s : CoreState) → IsGood s → IsSettled (settled n exports f s).2
-unfolding settled
-settling_ends n exports f s good = ends_for (turns_left s) n exports f s good (omega arith)
+step_is n s e other = refl
 
 -- ---- what an event gives before the table is settled
 
 pub heard_good : (n : ℕ) (s : Whole) (e : Event) → IsGood s.core → IsGood (heard n s e).2
-heard_good n s e good =
-    let begun = step_begun s.core in
-    let ds = own_and_told n s e in
-    subst (λ (t : CoreState). IsGood t) (sym (heard_does n s e)) (deeds_good n begun ds (begun_good s.core good) (heard_takes n s e (begun_good s.core good)))
+heard_good n s e good = subst (λ (t : CoreState). IsGood t) (sym (heard_does n s e)) (deeds_good n s.core (own_and_told n s e) good (heard_takes n s e good))
 
 -- the core at the end of a step
-left_good : (n : ℕ) (s : Whole) (e : Event) → is_restart e ≡ false → IsGood s.core → IsGood (left_by n s e)
+left_good : (n : ℕ) (s : Whole) (e : Event) → is_restart e ≡ false → IsGood s.core → IsGood (left_by n (as_found s) e)
 left_good n s e other good =
     subst (λ (t : CoreState). IsGood t) (sym (left_is n s e other)) (deeds_good n (step_begun s.core) (deeds n s e) (begun_good s.core good) (deeds_taken n s e other (begun_good s.core good)))
 
-left_still : (n : ℕ) (s : Whole) (e : Event) → is_restart e ≡ false → IsGood s.core → IsStill (step_begun s.core) (left_by n s e)
+left_still : (n : ℕ) (s : Whole) (e : Event) → is_restart e ≡ false → IsGood s.core → IsStill (step_begun s.core) (left_by n (as_found s) e)
 left_still n s e other good =
     subst (λ (t : CoreState). IsStill (step_begun s.core) t) (sym (left_is n s e other)) (deeds_still n (step_begun s.core) (deeds n s e) (begun_good s.core good) (deeds_taken n s e other (begun_good s.core good)))
 
@@ -93,11 +65,12 @@ free_from s connections front core good settled = record {
   failed = (begun_still core).1;
 }
 
-turn_free : (n : ℕ) (s : Whole) (e : Event) (connections : List Connection) → is_restart e ≡ false → IsFree s → IsFree (settled_turn n s connections (heard n s e)).next
+turn_free : (n : ℕ) (s : Whole) (e : Event) (connections : List Connection) → is_restart e ≡ false → IsFree s → IsFree (settled_turn n s connections (heard n (as_found s) e)).next
 turn_free n s e connections other free =
-    free_from s connections (settled n s.exports (heard n s e).1 (heard n s e).2).1 (left_by n s e)
+    let h = heard n (as_found s) e in
+    free_from s connections (settled n s.exports h.1 h.2).1 (left_by n (as_found s) e)
     (left_good n s e other free.good)
-    (settling_ends n s.exports (heard n s e).1 (heard n s e).2 (heard_good n s e free.good))
+    (settling_ends n s.exports h.1 h.2 (heard_good n (as_found s) e (begun_good s.core free.good)))
 
 pub started_free : (s : Whole) (stable : Stable) (clock : Moment) (times : Times) → s.core ≡ started stable clock times → IsFree s
 started_free s stable clock times e = record {
@@ -107,14 +80,13 @@ started_free s stable clock times e = record {
   failed = ap (λ (t : CoreState). t.failed) e;
 }
 
-pub step_free : (n : ℕ) (s : Whole) (e : Event) → IsFree s → IsFree (step n s e).next
+restart_free : (n : ℕ) (s : Whole) → IsFree (step n s Restart).next
 unfolding step
-step_free n s (Open kind) free = turn_free n s (Open kind) (connected s.connections s.place (Open kind)) refl free
-step_free n s (Message number bytes) free = turn_free n s (Message number bytes) (connected s.connections s.place (Message number bytes)) refl free
-step_free n s (End number) free = turn_free n s (End number) (connected s.connections s.place (End number)) refl free
-step_free n s (Called call reply) free = turn_free n s (Called call reply) (connected s.connections s.place (Called call reply)) refl free
-step_free n s (Tick moment) free = turn_free n s (Tick moment) (connected s.connections s.place (Tick moment)) refl free
-step_free n s Restart free = started_free (restarted s).next (raised s.core.stable) s.core.clock (times_of s.exports) refl
+restart_free n s = started_free (restarted s).next (raised s.core.stable) s.core.clock (times_of s.exports) refl
+
+pub step_free : (n : ℕ) (s : Whole) (e : Event) → IsFree s → IsFree (step n s e).next
+step_free n s e free =
+    each_event (λ d. IsFree (step n s d).next) (λ d other. subst (λ (r : Turn). IsFree r.next) (sym (step_is n s d other)) (turn_free n s d (connected s.connections s.place d) other free)) (restart_free n s) e
 
 pub begin_free : (head : Head) → IsFree (start_of head)
 begin_free head = started_free (start_of head) (raised head.record) head.start (times_of head.exports) refl
@@ -129,7 +101,7 @@ begun_free head es = free_always (start_of head) es (begin_free head)
 
 -- ---- stores and places
 
-left_none : (n : ℕ) (s : Whole) (e : Event) → is_restart e ≡ false → IsGood s.core → (left_by n s e).made ≡ 0
+left_none : (n : ℕ) (s : Whole) (e : Event) → is_restart e ≡ false → IsGood s.core → (left_by n (as_found s) e).made ≡ 0
 left_none n s e other good = (left_still n s e other good).made ∙ (begun_still s.core).0
 
 -- no event but a restart stores
@@ -138,12 +110,7 @@ none_made n s e other good = ap (λ (t : Turn). t.made) (step_is n s e other) �
 
 pub next_place : (n : ℕ) (s : Whole) (e : Event) → (step n s e).next.place ≡ s.place + 1
 unfolding step
-next_place n s (Open kind) = refl
-next_place n s (Message number bytes) = refl
-next_place n s (End number) = refl
-next_place n s (Called call reply) = refl
-next_place n s (Tick moment) = refl
-next_place n s Restart = refl
+next_place n s e = each_event (λ d. (step n s d).next.place ≡ s.place + 1) (λ d other. ap (λ (r : Turn). r.next.place) (step_is n s d other)) refl e
 
 -- no event but a restart changes the record
 pub step_still : (n : ℕ) (s : Whole) (e : Event) → is_restart e ≡ false → IsGood s.core → (step n s e).next.core.stable ≡ s.core.stable
@@ -153,12 +120,12 @@ step_still n s e other good = ap (λ (t : Turn). t.next.core.stable) (step_is n 
 -- ---- as the code acts
 
 pub record IsActed (s : Whole) (e : Event) (outs : List Out) (f : Fronts) (mid : CoreState) (sent : List Out) (g : Fronts) (last : CoreState) : Type 0 where
-  pub heard : (n : ℕ) → MayBe n mid → heard n s e ≡ (outs, f, mid)
+  pub heard : (n : ℕ) → MayBe n mid → heard n (as_found s) e ≡ (outs, f, mid)
   pub on : GoesOn mid last
   pub told : (n : ℕ) → MayBe n last → behind outs (settled n s.exports f mid) ≡ (sent, g, last)
 
 -- what was heard, and then settled
-acted_all : (s : Whole) (e : Event) (outs : List Out) (f : Fronts) (mid : CoreState) (sent : List Out) (g : Fronts) (last : CoreState) → IsActed s e outs f mid sent g last → (n : ℕ) → MayBe n last → and_then (settled n s.exports) (heard n s e) ≡ (sent, g, last)
+acted_all : (s : Whole) (e : Event) (outs : List Out) (f : Fronts) (mid : CoreState) (sent : List Out) (g : Fronts) (last : CoreState) → IsActed s e outs f mid sent g last → (n : ℕ) → MayBe n last → and_then (settled n s.exports) (heard n (as_found s) e) ≡ (sent, g, last)
 acted_all s e outs f mid sent g last acted n may =
     ap (λ (r : Sent). and_then (settled n s.exports) r) (acted.heard n (may_be_before n mid last acted.on may)) ∙ acted.told n may
 

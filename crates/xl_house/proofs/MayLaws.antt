@@ -39,7 +39,7 @@ use Rattle.xl_front_smb.specs.State.{FrontSmb}
 use Rattle.xl_smb_laws.proofs.RequestOwn as smb
 use Rattle.xl_smb_state.specs.State.{Lists}
 use Rattle.xl_house.specs.Lawful.{may_do}
-use Rattle.xl_house.specs.Machine.{is_grant, grants}
+use Rattle.xl_house.specs.Telling.{is_grant, grants}
 
 abbrev pub May : ℕ → List ℕ → List Deed → Type 0
 May number bytes ds = AllByRecursion (λ d. may_do (Message number bytes) d ≡ true) ds

@@ -1,5 +1,5 @@
 -- No out to a connection before its opening or after its end.
-use Rattle.std.proofs.Common.{◌≡◌, ℕ, zero, suc, ◌+◌, Bool, true, false, not, eqb, ltb, inl, inr, Option, Some, None, List, [], ◌∷◌, ◌++◌, length, map, refl, sym, ap, subst, ◌∙◌, arith}
+use Rattle.std.proofs.Common.{◌≡◌, ℕ, suc, ◌+◌, Bool, true, false, not, eqb, ltb, inl, inr, Option, Some, None, List, [], ◌∷◌, ◌++◌, length, map, refl, sym, ap, subst, ◌∙◌, arith}
 use Rattle.std.proofs.lemmas.Bool.{cases_Bool, eqb-true, true≢false}
 use Rattle.std.proofs.lemmas.Bool.Decides.{nat_tests}
 use Rattle.std.specs.Prelude.{nat_lt, if◌then◌else◌, option_map}
@@ -20,8 +20,7 @@ use Rattle.xl_matrix.specs.declared.claim.Claim.{Claim}
 use Rattle.xl_programs.specs.Programs.{RequestItem, IncomingItem, Unanswered, Refused, Asked, incoming_at}
 use Rattle.xl_programs.specs.declared.program.Program.{Program}
 use Rattle.xl_programs.specs.declared.program.Program.TheVariants.{Nlm, Nfs}
-use Rattle.xl_core.specs.State.{CoreState, step_begun}
-use Rattle.xl_core.specs.Settle.{turns_left, settle}
+use Rattle.xl_core.specs.State.{CoreState}
 use Rattle.xl_core.specs.declared.ask.Effect.{Effect}
 use Rattle.xl_core.specs.declared.ask.Effect.TheVariants.{Begun, Served, Cancelled, Expired}
 use Rattle.xl_nfs_laws.proofs.RequestDeedLaws as nfs
@@ -39,8 +38,12 @@ use Rattle.xl_smb_laws.proofs.WaitConnectionLaws as smb_waits
 use Rattle.xl_house.specs.declared.layers.Fronts.{Fronts}
 use Rattle.xl_front_nlm.specs.declared.grant.Grant.{Grant}
 use Rattle.xl_house.proofs.MachineLaws.{next_place}
+use Rattle.xl_house.proofs.TurnLaws.{of_turns}
 use Rattle.xl_house.specs.Journals.{is_restart, IsLegal, IsOrderly, IsTimely, opened_after}
-use Rattle.xl_house.specs.Machine.{Whole, Sent, Given, start_of, begun_by, begun, with_connection, without, kind_of, framed_by, framed, showing, all_shown, nfs_opens, smb_opens, rooms_of, after_turn, settled_for, settled, program_given, record_given, message_given, end_given, given_by, sent_of, heard, connected, settled_turn, step, most_connections}
+use Rattle.xl_house.specs.Machine.{replied_by, sent_of, heard, connected, settled_turn, step}
+use Rattle.xl_house.specs.Own.{Given, begun_by, begun, program_own, record_own, message_own, end_own, own_of}
+use Rattle.xl_house.specs.State.{Whole, start_of, with_connection, without, kind_of, as_found, nfs_opens, smb_opens, most_connections}
+use Rattle.xl_house.specs.Telling.{Sent, framed_by, framed_to, framed, showing, all_shown, taken, turns_sent, settled}
 use Rattle.xl_house.specs.declared.connections.Connection.{Connection}
 
 abbrev numbers : List Connection → List ℕ
@@ -72,15 +75,27 @@ found (c ∷ cs) number kind e =
       | inr other ↦ inr (found cs number kind (rw other at e))
     ]
 
-framed_timely : (cs : List Connection) (o : Out) → smb_waits.GoesTo (IsOpen cs) o.dest → IsTimely (numbers cs) (numbers cs) (framed Smb o).dest
-framed_timely cs o goes = by o.dest refl goes where
-  by : (d : Dest) → o.dest ≡ d → smb_waits.GoesTo (IsOpen cs) d → IsTimely (numbers cs) (numbers cs) (framed_by Smb o d).dest
-  by (Conn number) is goes = (found cs number Smb goes, found cs number Smb goes)
-  by (Back call) is goes = subst (λ (d : Dest). IsTimely (numbers cs) (numbers cs) d) (sym is) tt
+goes_timely : (cs : List Connection) (d : Dest) → smb_waits.GoesTo (IsOpen cs) d → IsTimely (numbers cs) (numbers cs) d
+goes_timely cs (Conn number) goes = (found cs number Smb goes, found cs number Smb goes)
+goes_timely cs (Back call) goes = tt
 
-finals_timely : (cs : List Connection) (outs : List Out) → GoOn cs outs → AreTimely (numbers cs) (numbers cs) (map (framed Smb) outs)
-finals_timely cs [] go = tt
-finals_timely cs (o ∷ os) go = (framed_timely cs o go.0, finals_timely cs os go.1)
+finals_timely : (cs : List Connection) (outs : List Out) → GoOn cs outs → AreTimely (numbers cs) (numbers cs) outs
+finals_timely cs outs go = all_weaker (λ o. smb_waits.GoesTo (IsOpen cs) o.dest) (λ o. IsTimely (numbers cs) (numbers cs) o.dest) outs (λ o goes. goes_timely cs o.dest goes) go
+
+-- a frame leaves where an out goes to
+same_dest : (kind : Kind) (o : Out) → (framed kind o).dest ≡ o.dest
+same_dest kind o = by o.dest refl where
+  by : (d : Dest) → o.dest ≡ d → (framed_to kind o d).dest ≡ o.dest
+  by (Conn number) is = sym is
+  by (Back call) is = refl
+
+framed_timely : (before after : List ℕ) (kind : Kind) (outs : List Out) → AreTimely before after outs → AreTimely before after (map (framed kind) outs)
+framed_timely before after kind [] timely = tt
+framed_timely before after kind (o ∷ os) timely = (subst (λ (d : Dest). IsTimely before after d) (sym (same_dest kind o)) timely.0, framed_timely before after kind os timely.1)
+
+replies_timely : (before after : List ℕ) (kind : Option Kind) (outs : List Out) → AreTimely before after outs → AreTimely before after (framed_by kind outs)
+replies_timely before after None outs timely = timely
+replies_timely before after (Some kind) outs timely = framed_timely before after kind outs timely
 
 -- ---- what is shown are calls, notices to who holds opens, and final replies to requests that wait
 
@@ -115,7 +130,7 @@ shown_timely : (cs : List Connection) (exports : Exports) (f : Fronts) (s : Core
 unfolding shown
 shown_timely cs exports f s effect waits =
     let told = smb_waits.shown_on (IsOpen cs) f.smb s effect waits in
-    let last = timely_append (numbers cs) (numbers cs) (map (framed Rpc) (recalls f.nfs s effect)) (map (framed Smb) (smb_shown f.smb s effect).0) (recalls_timely (numbers cs) (numbers cs) f.nfs s effect) (finals_timely cs (smb_shown f.smb s effect).0 told.0) in (
+    let last = timely_append (numbers cs) (numbers cs) (map (framed Rpc) (recalls f.nfs s effect)) (map (framed Smb) (smb_shown f.smb s effect).0) (recalls_timely (numbers cs) (numbers cs) f.nfs s effect) (framed_timely (numbers cs) (numbers cs) Smb (smb_shown f.smb s effect).0 (finals_timely cs (smb_shown f.smb s effect).0 told.0)) in (
       timely_append (numbers cs) (numbers cs) (map (framed Rpc) (told_by f.nlm s (news exports s effect)).0) (map (framed Rpc) (recalls f.nfs s effect) ++ map (framed Smb) (smb_shown f.smb s effect).0) (by_news (numbers cs) (numbers cs) f.nlm s (news exports s effect)) last,
       told.1,
     )
@@ -132,21 +147,16 @@ all_timely cs exports f s (effect ∷ effects) waits =
 abbrev IsTimelySent : List Connection → Sent → Type 0
 IsTimelySent cs r = AreTimely (numbers cs) (numbers cs) r.0 × Waits cs r.1
 
-turns_timely : (cs : List Connection) (exports : Exports) (rest : Fronts → CoreState → Sent) (f : Fronts) (s : CoreState) (o : Option (List Effect × CoreState)) → Waits cs f → ((g : Fronts) (t : CoreState) → Waits cs g → IsTimelySent cs (rest g t)) → IsTimelySent cs (after_turn exports rest f s o)
-turns_timely cs exports rest f s None waits rests = (tt, waits)
-turns_timely cs exports rest f s (Some turn) waits rests =
-    let done = all_shown exports f turn.1 turn.0 in
-    let first = all_timely cs exports f turn.1 turn.0 waits in
-    let next = rests done.1 done.2 first.1 in
-    (timely_append (numbers cs) (numbers cs) done.0 (rest done.1 done.2).0 first.0 next.0, next.1)
-
-settled_for_timely : (fuel n : ℕ) (cs : List Connection) (exports : Exports) (f : Fronts) (s : CoreState) → Waits cs f → IsTimelySent cs (settled_for fuel n exports f s)
-settled_for_timely zero n cs exports f s waits = (tt, waits)
-settled_for_timely (suc fuel) n cs exports f s waits = turns_timely cs exports (settled_for fuel n exports) f s (settle n (rooms_of f) s) waits (λ g t on. settled_for_timely fuel n cs exports g t on)
-
 settled_timely : (n : ℕ) (cs : List Connection) (exports : Exports) (f : Fronts) (s : CoreState) → Waits cs f → IsTimelySent cs (settled n exports f s)
 unfolding settled
-settled_timely n cs exports f s waits = settled_for_timely (turns_left s) n cs exports f s waits
+settled_timely n cs exports f s waits =
+    of_turns n exports (λ g t ts. Waits cs g → IsTimelySent cs (turns_sent exports g t ts)) (λ g t on. (tt, on))
+    (λ fuel g t u told e rest on.
+    let done = all_shown exports g u told in
+    let first = all_timely cs exports g u told on in
+    let next = rest first.1 in
+    (timely_append (numbers cs) (numbers cs) done.0 (turns_sent exports done.1 done.2 (taken fuel n exports done.1 done.2)).0 first.0 next.0, next.1))
+    f s waits
 
 -- ---- an event
 
@@ -155,23 +165,22 @@ abbrev IsTimelyGiven : List Connection → Given → Type 0
 IsTimelyGiven cs g = AreTimely (numbers cs) (numbers cs) g.0 × Waits cs g.2
 
 -- the replies are sent behind what is shown
-given_timely : (cs : List Connection) (exports : Exports) (g : Given) → IsTimelyGiven cs g → IsTimelySent cs (sent_of exports g)
-given_timely cs exports g given =
+given_timely : (cs : List Connection) (exports : Exports) (kind : Option Kind) (g : Given) → IsTimelyGiven cs g → IsTimelySent cs (sent_of exports kind g)
+given_timely cs exports kind g given =
     let told = all_timely cs exports g.2 g.3 g.1 given.1 in
-    (timely_append (numbers cs) (numbers cs) (all_shown exports g.2 g.3 g.1).0 g.0 told.0 given.0, told.1)
+    (timely_append (numbers cs) (numbers cs) (all_shown exports g.2 g.3 g.1).0 (framed_by kind g.0) told.0 (replies_timely (numbers cs) (numbers cs) kind g.0 given.0), told.1)
 
-program_timely : (n : ℕ) (cs : List Connection) (exports : Exports) (f : Fronts) (s : CoreState) (number : ℕ) (r : RequestItem) (program : Program) → IsIn number (numbers cs) → Waits cs f → IsTimelyGiven cs (program_given n exports f s number r program)
-program_timely n cs exports f s number r Nlm there waits =
-    (subst (λ (outs : List Out). AreTimely (numbers cs) (numbers cs) (map (framed Rpc) outs)) (sym (nlm.step_replies n exports f.nlm s number r)) ((there, there), tt), waits)
+program_timely : (n : ℕ) (cs : List Connection) (exports : Exports) (f : Fronts) (s : CoreState) (number : ℕ) (r : RequestItem) (program : Program) → IsIn number (numbers cs) → Waits cs f → IsTimelyGiven cs (program_own n exports f s number r program).given
+program_timely n cs exports f s number r Nlm there waits = (subst (λ (outs : List Out). AreTimely (numbers cs) (numbers cs) outs) (sym (nlm.step_replies n exports f.nlm s number r)) ((there, there), tt), waits)
 program_timely n cs exports f s number r Nfs there waits =
-    (subst (λ (outs : List Out). AreTimely (numbers cs) (numbers cs) (map (framed Rpc) outs)) (sym (nfs.request_replies n exports (smb_opens f) f.nfs s number r)) ((there, there), tt), waits)
+    (subst (λ (outs : List Out). AreTimely (numbers cs) (numbers cs) outs) (sym (nfs.request_replies n exports (smb_opens f) f.nfs s number r)) ((there, there), tt), waits)
 
-record_timely : (n : ℕ) (cs : List Connection) (exports : Exports) (f : Fronts) (s : CoreState) (number : ℕ) (incoming : IncomingItem) → IsIn number (numbers cs) → Waits cs f → IsTimelyGiven cs (record_given n exports f s number incoming)
+record_timely : (n : ℕ) (cs : List Connection) (exports : Exports) (f : Fronts) (s : CoreState) (number : ℕ) (incoming : IncomingItem) → IsIn number (numbers cs) → Waits cs f → IsTimelyGiven cs (record_own n exports f s number incoming).given
 record_timely n cs exports f s number Unanswered there waits = (tt, waits)
 record_timely n cs exports f s number (Refused xid verdict) there waits = (((there, there), tt), waits)
 record_timely n cs exports f s number (Asked r) there waits = program_timely n cs exports f s number r r.program there waits
 
-message_timely : (n : ℕ) (exports : Exports) (f : Fronts) (s : CoreState) (cs : List Connection) (number : ℕ) (bytes : List ℕ) (kind : Option Kind) → kind_of cs number ≡ kind → Waits cs f → IsTimelyGiven cs (message_given n exports f s kind number bytes)
+message_timely : (n : ℕ) (exports : Exports) (f : Fronts) (s : CoreState) (cs : List Connection) (number : ℕ) (bytes : List ℕ) (kind : Option Kind) → kind_of cs number ≡ kind → Waits cs f → IsTimelyGiven cs (message_own n exports f s kind number bytes).given
 message_timely n exports f s cs number bytes None e waits = (tt, waits)
 message_timely n exports f s cs number bytes (Some Smb) e waits =
     let heard = smb_waits.step_on (IsOpen cs) n exports (nfs_opens f) f.smb s number bytes e waits in
@@ -229,7 +238,7 @@ others_on cs f number kind e apart waits =
     smb_waits.on_weaker (IsOpen cs) (IsOpen (without cs number)) f.smb.state (λ other on. stays_open cs number other (two_kinds cs number other kind e apart on) on) waits
 
 -- what an end leaves waits and is held on connections that stay open
-ended_on : (cs : List Connection) (f : Fronts) (s : CoreState) (number : ℕ) (kind : Option Kind) → kind_of cs number ≡ kind → Waits cs f → IsTimelyGiven (without cs number) (end_given f s kind number)
+ended_on : (cs : List Connection) (f : Fronts) (s : CoreState) (number : ℕ) (kind : Option Kind) → kind_of cs number ≡ kind → Waits cs f → IsTimelyGiven (without cs number) (end_own f s kind number).given
 ended_on cs f s number None e waits = (tt, others_on cs f number None e (λ h. no_kind h) waits) where
   no_kind : None ≡ Some Smb → ⊥
   no_kind h = cc
@@ -243,17 +252,15 @@ abbrev both_open : List Connection → Event → List Connection
 both_open cs (End number) = without cs number
 both_open cs event = cs
 
-event_timely : (n : ℕ) (s : Whole) (e : Event) → Waits s.connections s.front → IsTimelyGiven (both_open s.connections e) (given_by n s e)
+event_timely : (n : ℕ) (s : Whole) (e : Event) → Waits s.connections s.front → IsTimelyGiven (both_open s.connections e) (own_of n s e).given
 event_timely n s (Open kind) waits = (tt, begun_on s.connections s.front s.connections s.place kind waits)
-event_timely n s (Message number bytes) waits = message_timely n s.exports s.front (step_begun s.core) s.connections number bytes (kind_of s.connections number) refl waits
-event_timely n s (End number) waits = ended_on s.connections s.front (step_begun s.core) number (kind_of s.connections number) refl waits
-event_timely n s (Called call reply) waits = (tt, waits)
-event_timely n s (Tick moment) waits = (tt, waits)
-event_timely n s Restart waits = (tt, waits)
+event_timely n s (Message number bytes) waits = message_timely n s.exports s.front s.core s.connections number bytes (kind_of s.connections number) refl waits
+event_timely n s (End number) waits = ended_on s.connections s.front s.core number (kind_of s.connections number) refl waits
+event_timely n s event waits = (tt, waits)
 
 heard_timely : (n : ℕ) (s : Whole) (e : Event) → Waits s.connections s.front → IsTimelySent (both_open s.connections e) (heard n s e)
 unfolding heard
-heard_timely n s e waits = given_timely (both_open s.connections e) s.exports (given_by n s e) (event_timely n s e waits)
+heard_timely n s e waits = given_timely (both_open s.connections e) s.exports (replied_by s e) (own_of n s e).given (event_timely n s e waits)
 
 -- ---- which are opened
 
@@ -286,11 +293,8 @@ left_is (c ∷ cs) number =
 open_is : (n : ℕ) (s : Whole) (e : Event) → numbers (step n s e).next.connections ≡ opened_after (numbers s.connections) s.place e
 unfolding step connected
 open_is n s (Open kind) = opened_is s.connections s.place kind
-open_is n s (Message number bytes) = refl
 open_is n s (End number) = left_is s.connections number
-open_is n s (Called call reply) = refl
-open_is n s (Tick moment) = refl
-open_is n s Restart = refl
+open_is n s event = refl
 
 -- ---- no out before an opening or after an end
 
@@ -301,13 +305,11 @@ stays_in opened place number false there = there
 -- what is open before and after is open before, and after
 in_both : (cs : List Connection) (place : ℕ) (e : Event) (number : ℕ) → is_restart e ≡ false → IsIn number (numbers (both_open cs e)) → IsIn number (numbers cs) × IsIn number (opened_after (numbers cs) place e)
 in_both cs place (Open kind) number other there = (there, stays_in (numbers cs) place number (ltb (length (numbers cs)) most_connections) there)
-in_both cs place (Message by bytes) number other there = (there, there)
 in_both cs place (End ended) number other there =
     let left = subst (λ (ns : List ℕ). IsIn number ns) (left_is cs ended) there in
     ((in_filter_from (λ c. not (eqb c ended)) number (numbers cs) left).0, left)
-in_both cs place (Called call reply) number other there = (there, there)
-in_both cs place (Tick moment) number other there = (there, there)
 in_both cs place Restart number other there = absurd cc
+in_both cs place event number other there = (there, there)
 
 abbrev Timely : List ℕ → List ℕ → Out → Type 0
 Timely before after o = IsTimely before after o.dest
@@ -317,14 +319,17 @@ dest_both cs place e (Conn number) other there = in_both cs place e number other
 dest_both cs place e (Back call) other there = tt
 
 turn_timely : (n : ℕ) (s : Whole) (e : Event) → is_restart e ≡ false → Waits s.connections s.front
-    → (let opened = numbers s.connections in AreTimely opened (opened_after opened s.place e) (settled_turn n s (connected s.connections s.place e) (heard n s e)).outs) × Waits (both_open s.connections e) (settled n s.exports (heard n s e).1 (heard n s e).2).1
+    → (let opened = numbers s.connections in let h = heard n (as_found s) e in
+    AreTimely opened (opened_after opened s.place e) (settled_turn n s (connected s.connections s.place e) h).outs × Waits (both_open s.connections e) (settled n s.exports h.1 h.2).1)
 turn_timely n s e other waits =
     let opened = numbers s.connections in
     let cs = both_open s.connections e in
-    let first = heard_timely n s e waits in
-    let next = settled_timely n cs s.exports (heard n s e).1 (heard n s e).2 first.1 in (
-      all_weaker (Timely (numbers cs) (numbers cs)) (Timely opened (opened_after opened s.place e)) ((heard n s e).0 ++ (settled n s.exports (heard n s e).1 (heard n s e).2).0) (λ o on. dest_both s.connections s.place e o.dest other on)
-          (timely_append (numbers cs) (numbers cs) (heard n s e).0 (settled n s.exports (heard n s e).1 (heard n s e).2).0 first.0 next.0),
+    let h = heard n (as_found s) e in
+    let last = settled n s.exports h.1 h.2 in
+    let first = heard_timely n (as_found s) e waits in
+    let next = settled_timely n cs s.exports h.1 h.2 first.1 in (
+      all_weaker (Timely (numbers cs) (numbers cs)) (Timely opened (opened_after opened s.place e)) (h.0 ++ last.0) (λ o on. dest_both s.connections s.place e o.dest other on)
+          (timely_append (numbers cs) (numbers cs) h.0 last.0 first.0 next.0),
       next.1,
     )
 
@@ -334,11 +339,8 @@ unfolding step connected
 timely n s (Open kind) waits =
     let r = turn_timely n s (Open kind) refl waits in
     (r.0, smb_waits.on_weaker (IsOpen s.connections) (IsOpen (with_connection s.connections s.place kind)) _ (λ other on. still_open s.connections s.place kind other on) r.1)
-timely n s (Message number bytes) waits = turn_timely n s (Message number bytes) refl waits
-timely n s (End number) waits = turn_timely n s (End number) refl waits
-timely n s (Called call reply) waits = turn_timely n s (Called call reply) refl waits
-timely n s (Tick moment) waits = turn_timely n s (Tick moment) refl waits
 timely n s Restart waits = (tt, smb_waits.empty_on (IsOpen []))
+timely n s event waits = turn_timely n s event refl waits
 
 orderly : (s : Whole) (es : List Entry) → Waits s.connections s.front → IsLegal s es → IsOrderly (numbers s.connections) s.place es
 orderly s [] waits legal = tt

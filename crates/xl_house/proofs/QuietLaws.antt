@@ -38,7 +38,7 @@ use Rattle.xl_front_smb.specs.FrontSmb.{smb_deeds, smb_step}
 use Rattle.xl_front_smb.specs.State.{FrontSmb}
 use Rattle.xl_smb_laws.proofs.RequestDeedLaws as smb
 use Rattle.xl_smb_laws.proofs.RequestOwn as smb_own
-use Rattle.xl_house.specs.Machine.{is_grant, grants}
+use Rattle.xl_house.specs.Telling.{is_grant, grants}
 use Rattle.xl_house.proofs.MayLaws.{nlm_may, nfs_may, smb_may, last_may, unserved_quiet, both_quiet, asked_quiet, may_quiet, end_quiet}
 use Rattle.xl_house.proofs.Stores.{may_be_made}
 

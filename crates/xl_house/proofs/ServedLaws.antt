@@ -1,11 +1,11 @@
 -- What a turn grants to an SMB open was waited for, and the open is there afterwards.
-use Rattle.std.proofs.Common.{◌≡◌, ℕ, zero, suc, ◌-◌, ◌≤◌, Bool, true, false, ◌||◌, List, [], ◌∷◌, ◌++◌, length, map, Option, Some, None, refl, sym, ap, subst, ◌∙◌, arith}
-use Rattle.std.specs.List.{list_any}
+use Rattle.std.proofs.Common.{◌≡◌, ℕ, ◌-◌, ◌≤◌, Bool, true, false, ◌||◌, List, [], ◌∷◌, ◌++◌, length, map, Option, Some, None, refl, sym, ap, subst, ◌∙◌, arith}
+use Rattle.std.specs.List.{AllByRecursion, list_any}
 use Rattle.std.proofs.lemmas.Bool.{true≢false}
 use Rattle.xl_base.proofs.Members.{all_in}
 use Rattle.xl_base.specs.Lists.{IsIn}
 use Rattle.xl_base.specs.declared.event.Event.{Event}
-use Rattle.xl_base.specs.declared.event.Event.TheVariants.{Open, Message, End, Called, Tick, Restart}
+use Rattle.xl_base.specs.declared.event.Event.TheVariants.{Restart}
 use Rattle.xl_base.specs.declared.event.Kind.TheVariants.{Smb}
 use Rattle.xl_base.specs.declared.event.Out.{Out}
 use Rattle.xl_base.specs.declared.journal.Entry.{Entry}
@@ -23,8 +23,9 @@ use Rattle.xl_smb_state.specs.declared.row.Request.{Request}
 use Rattle.xl_smb_state.specs.declared.row.Request.TheVariants as request
 use Rattle.xl_smb_state.specs.declared.row.Waiting.{Waiting}
 use Rattle.xl_wait.specs.declared.waiter.Waiter.{Waiter}
+use Rattle.xl_core.proofs.GoodLaws.{begun_good}
 use Rattle.xl_core.specs.Good.{IsGood}
-use Rattle.xl_core.specs.Settle.{settle, turns_left, waits_as}
+use Rattle.xl_core.specs.Settle.{settle, waits_as}
 use Rattle.xl_core.specs.State.{CoreState, step_begun}
 use Rattle.xl_core.specs.declared.ask.Answer.TheVariants as answers
 use Rattle.xl_core.specs.declared.ask.Effect.{Effect}
@@ -39,21 +40,26 @@ use Rattle.xl_smb_laws.specs.WaitingRequests.{IsAwaited, IsGranted, IsKept, IsUn
 use Rattle.xl_front_smb.specs.Checks.{is_open_on}
 use Rattle.xl_front_smb.specs.FrontSmb.{smb_shown}
 use Rattle.xl_front_smb.specs.Laws.{IsLeased}
-use Rattle.xl_house.specs.Awaited.{HasItsOpen, HaveOpens, IsAwaiting, IsServed, IsServedBy, OpenStands, success_of, turn_serves, turns_serve}
+use Rattle.xl_house.specs.Awaited.{AreServed, HasItsOpen, HaveOpens, IsAwaiting, IsServedBy, OpenStands, success_of}
+use Rattle.xl_house.specs.Done.{Round, round_of, rounds}
 use Rattle.xl_house.specs.Free.{IsFree}
-use Rattle.xl_house.specs.Journals.{replay}
+use Rattle.xl_house.specs.Journals.{is_restart, replay}
 use Rattle.xl_house.specs.Lawful.{Always, Law}
-use Rattle.xl_house.specs.Machine.{Whole, after_turn, all_shown, start_of, framed, heard, rooms_of, settled, settled_for, step}
+use Rattle.xl_house.specs.Machine.{Turn, heard, step}
+use Rattle.xl_house.specs.State.{Whole, as_found, start_of, rooms_of}
+use Rattle.xl_house.specs.Telling.{TurnTaken, all_shown, framed, settled, taken, turns, turns_sent}
 use Rattle.xl_house.specs.declared.layers.Fronts.{Fronts}
-use Rattle.xl_house.proofs.AwaitedLaws.{Ready, heard_stand, settled_stand, shown_stand, turn_tells}
+use Rattle.xl_house.proofs.AwaitedLaws.{Ready, heard_stand, settled_stand, shown_stand, stand_of, turn_tells}
 use Rattle.xl_house.proofs.PairedWaiterLaws.{Stand, same_stand}
 use Rattle.xl_house.proofs.LawfulLaws.{begun_waits}
-use Rattle.xl_house.proofs.MachineLaws.{heard_good}
+use Rattle.xl_house.proofs.DoneLaws.{each_event, rounds_are}
+use Rattle.xl_house.proofs.MachineLaws.{heard_good, step_is}
 use Rattle.xl_house.proofs.SettleLaws.{turned_good}
 use Rattle.xl_house.proofs.ShownLaws.{all_shown_good, all_shown_is}
 use Rattle.xl_house.proofs.LeasedLaws.{leased_stays}
 use Rattle.xl_house.proofs.OpensLaws.{asks_as, lock_told, open_stays, same_caching, stays_on}
-use Rattle.xl_house.proofs.TellLaws.{last_ends, last_shows, quiet_shows, settled_so, told_so}
+use Rattle.xl_house.proofs.TellLaws.{last_ends, last_shows, quiet_shows, taken_so, told_so}
+use Rattle.xl_house.proofs.TurnLaws.{of_turns}
 
 -- ---- who is granted
 
@@ -63,23 +69,26 @@ rooms_leave f = omega arith
 -- ---- a turn
 
 -- of a waiter that a turn grants a claim for an SMB open, and of its request
-module _ (n fuel : ℕ) (exports : Exports) (f : Fronts) (s t : CoreState) (told : List Effect) (id number : ℕ) (claim : Claim) (good : IsGood s) (stand : Stand s f.smb.state) (turn : settle n (rooms_of f) s ≡ Some (told, t))
+module _ (n fuel : ℕ) (exports : Exports) (f : Fronts) (s t : CoreState) (told : List Effect) (id number : ℕ) (claim : Claim) (good : IsGood s) (stand : Stand s f.smb.state) (turned : settle n (rooms_of f) s ≡ Some (told, t))
     (served : IsIn (effects.Served id (answers.Granted claim)) told) (row : Waiting) (waited : waiting_of id f.smb.state ≡ Some row) where
   -- the lists at the end
   abbrev last_lists : Lists
-  last_lists = (settled_for fuel n exports (all_shown exports f t told).1 (all_shown exports f t told).2).1.smb.state
+  last_lists = (let r = all_shown exports f t told in (turns_sent exports r.1 r.2 (taken fuel n exports r.1 r.2)).1.smb.state)
+
+  abbrev turn : TurnTaken
+  turn = record { front = f; told = told; left = t }
 
   stays : (k : ℕ) (found : OpenRow) → open_of k (all_shown exports f t told).1.smb.state ≡ Some found → open_of k last_lists ≡ Some found
-  stays k found at = (let r = all_shown exports f t told in settled_so (λ (l : Lists). open_of k l ≡ Some found) (open_stays k found) fuel n exports r.1 r.2 at)
+  stays k found at = (let r = all_shown exports f t told in taken_so (λ (l : Lists). open_of k l ≡ Some found) (open_stays k found) fuel n exports r.1 r.2 at)
 
   granted : (made : OpenRow) → row.request ≡ request.Create made → IsGranted n (rooms_of f) s t f.smb.state id row made claim
-  granted made makes = record { told = told; turn = turn; served = served; waits = waited; makes = makes; room = rooms_leave f }
+  granted made makes = record { told = told; turn = turned; served = served; waits = waited; makes = makes; room = rooms_leave f }
 
   -- what the turn leaves of the lists is what its grant leaves
   ends_as : (u : CoreState) × ((all_shown exports f t told).1.smb.state ≡ (smb_shown f.smb u (effects.Served id (answers.Granted claim))).1.state)
   ends_as =
       let x : Effect = effects.Served id (answers.Granted claim) in
-      let grant = served_grant (rooms_of f) s t told id claim (turn_of n (rooms_of f) s t told good turn) served in
+      let grant = served_grant (rooms_of f) s t told id claim (turn_of n (rooms_of f) s t told good turned) served in
       let r = all_shown exports f t grant.before in (
         r.2,
         ap (λ (es : List Effect). (all_shown exports f t es).1.smb.state) grant.last
@@ -94,7 +103,7 @@ module _ (n fuel : ℕ) (exports : Exports) (f : Fronts) (s t : CoreState) (told
       let r = all_shown exports f t told in (
         (granted_share n (rooms_of f) s t ends.0 f.smb id row made claim good stand.awaits is).1,
         stays row.opened made (ap (λ (l : Lists). open_of row.opened l) ends.1 ∙ granted_row n (rooms_of f) s t ends.0 f.smb id row made claim good stand.awaits is),
-        settled_so (λ (l : Lists). IsLeased l row.opened made) (leased_stays row.opened made) fuel n exports r.1 r.2
+        taken_so (λ (l : Lists). IsLeased l row.opened made) (leased_stays row.opened made) fuel n exports r.1 r.2
             (subst (λ (l : Lists). IsLeased l row.opened made) (sym ends.1) (granted_lease n (rooms_of f) s t ends.0 f.smb id row made claim good stand.awaits is)),
       )
 
@@ -117,7 +126,7 @@ module _ (n fuel : ℕ) (exports : Exports) (f : Fronts) (s t : CoreState) (told
   pub is_told : (earlier : List Out) × ((all_shown exports f t told).0 ≡ earlier ++ map (framed Smb) (final_outs row (success_of t id row row.request)))
   is_told =
       let x : Effect = effects.Served id (answers.Granted claim) in
-      let grant = served_grant (rooms_of f) s t told id claim (turn_of n (rooms_of f) s t told good turn) served in
+      let grant = served_grant (rooms_of f) s t told id claim (turn_of n (rooms_of f) s t told good turned) served in
       let r = all_shown exports f t grant.before in
       let ends = last_ends exports f t grant.before x in (
         ends.0,
@@ -127,11 +136,11 @@ module _ (n fuel : ℕ) (exports : Exports) (f : Fronts) (s t : CoreState) (told
             ∙ ap (λ (outs : List Out). ends.0 ++ map (framed Smb) outs) (says r.2 r.2.counter row.request (all_shown_is exports f t grant.before).parts refl),
       )
 
-  pub has_open : row.opened ≡ number → HasItsOpen exports last_lists f t told id number claim
+  pub has_open : row.opened ≡ number → HasItsOpen exports last_lists turn id number claim
   has_open own = record { row = row; waited = waited; own = own; there = is_there row.request refl; earlier = is_told.0; sent = is_told.1 }
 
 turn_has : (n fuel : ℕ) (exports : Exports) (f : Fronts) (s t : CoreState) (told : List Effect) → IsGood s → Stand s f.smb.state → settle n (rooms_of f) s ≡ Some (told, t)
-    → (let r = all_shown exports f t told in HaveOpens exports (settled_for fuel n exports r.1 r.2).1.smb.state f t told)
+    → (let r = all_shown exports f t told in HaveOpens exports (turns_sent exports r.1 r.2 (taken fuel n exports r.1 r.2)).1.smb.state (record { front = f; told = told; left = t }))
 turn_has n fuel exports f s t told good stand e = λ id number claim served owner.
     let left = rooms_of f in
     let grant = served_grant left s t told id claim (turn_of n left s t told good e) served in
@@ -140,57 +149,56 @@ turn_has n fuel exports f s t told good stand e = λ id number claim served owne
 
 -- ---- all turns
 
-serves_by : (fuel n : ℕ) (exports : Exports) (f : Fronts) (s : CoreState) (o : Option (List Effect × CoreState)) → settle n (rooms_of f) s ≡ o → IsGood s → Stand s f.smb.state
-    → ((g : Fronts) (t : CoreState) → IsGood t → Stand t g.smb.state → turns_serve fuel n exports (settled_for fuel n exports g t).1.smb.state g t)
-    → (let last = (after_turn exports (settled_for fuel n exports) f s o).1.smb.state in turn_serves exports last (turns_serve fuel n exports last) f o)
-serves_by fuel n exports f s None e good stand later = tt
-serves_by fuel n exports f s (Some turn) e good stand later =
-    let r = all_shown exports f turn.1 turn.0 in (
-      turn_has n fuel exports f s turn.1 turn.0 good stand e,
-      later r.1 r.2 (all_shown_good exports f turn.1 turn.0 (turned_good n f s turn.1 turn.0 good e)) (shown_stand exports f turn.1 turn.0 (turn_tells n f s turn.1 turn.0 good e stand)),
-    )
+-- each of them
+abbrev AllHave : Exports → Lists → List TurnTaken → Type 0
+AllHave exports last ts = AllByRecursion (λ turn. HaveOpens exports last turn) ts
 
-serve_for : (fuel n : ℕ) (exports : Exports) (f : Fronts) (s : CoreState) → IsGood s → Stand s f.smb.state → turns_serve fuel n exports (settled_for fuel n exports f s).1.smb.state f s
-serve_for zero n exports f s good stand = tt
-serve_for (suc fuel) n exports f s good stand = serves_by fuel n exports f s (settle n (rooms_of f) s) refl good stand (λ g t h k. serve_for fuel n exports g t h k)
-
-turns_have : (n : ℕ) (exports : Exports) (f : Fronts) (s : CoreState) → IsGood s → Stand s f.smb.state → turns_serve (turns_left s) n exports (settled n exports f s).1.smb.state f s
+turns_have : (n : ℕ) (exports : Exports) (f : Fronts) (s : CoreState) → IsGood s → Stand s f.smb.state → AllHave exports (settled n exports f s).1.smb.state (turns n exports f s)
 unfolding settled
-turns_have n exports f s good stand = serve_for (turns_left s) n exports f s good stand
+turns_have n exports f s good stand =
+    of_turns n exports (λ g t ts. IsGood t → Stand t g.smb.state → AllHave exports (turns_sent exports g t ts).1.smb.state ts) (λ g t h k. tt)
+    (λ fuel g t u told e rest h k. (turn_has n fuel exports g t u told h k e, rest (all_shown_good exports g u told (turned_good n g t u told h e)) (shown_stand exports g u told (turn_tells n g t u told h e k)))) f s good stand
+
+-- ---- a round
+
+round_stands : (n : ℕ) (s : Whole) (event : Event) → IsGood s.core → Ready s.front → Stand s.core s.front.smb.state → (let h = heard n s event in let r = settled n s.exports h.1 h.2 in Stand r.2 r.1.smb.state)
+round_stands n s event good ready stand = (let h = heard n s event in settled_stand n s.exports h.1 h.2 (heard_good n s event good) (heard_stand n s event good ready stand))
+
+round_has : (n : ℕ) (s : Whole) (event : Event) → IsGood s.core → Ready s.front → Stand s.core s.front.smb.state → (let h = heard n s event in AllHave s.exports (settled n s.exports h.1 h.2).1.smb.state (turns n s.exports h.1 h.2))
+round_has n s event good ready stand = (let h = heard n s event in turns_have n s.exports h.1 h.2 (heard_good n s event good) (heard_stand n s event good ready stand))
 
 -- ---- a step
 
--- what holds of the core at the end of the turns, and then of the next state
-turn_awaits : (n : ℕ) (s : Whole) (event : Event) → IsFree s → Ready s.front → IsAwaiting s → (let r = settled n s.exports (heard n s event).1 (heard n s event).2 in Stand (step_begun r.2) r.1.smb.state)
-turn_awaits n s event free ready awaiting =
-    let h = heard n s event in
-    let r = settled n s.exports h.1 h.2 in
-    same_stand r.2 (step_begun r.2) r.1.smb.state (begun_waits r.2) (settled_stand n s.exports h.1 h.2 (heard_good n s event free.good) (heard_stand n s event free ready awaiting))
-
-turn_haves : (n : ℕ) (s : Whole) (event : Event) → IsFree s → Ready s.front → IsAwaiting s → (let h = heard n s event in turns_serve (turns_left h.2) n s.exports (settled n s.exports h.1 h.2).1.smb.state h.1 h.2)
-turn_haves n s event free ready awaiting = (let h = heard n s event in turns_have n s.exports h.1 h.2 (heard_good n s event free.good) (heard_stand n s event free ready awaiting))
-
-pub step_serves : (n : ℕ) (s : Whole) (event : Event) → IsFree s → Ready s.front → IsAwaiting s → IsServedBy n s event (step n s event).next
+restart_waits : (n : ℕ) (s : Whole) → IsAwaiting (step n s Restart).next
 unfolding step
-step_serves n s (Open kind) free ready awaiting = (let stand = turn_awaits n s (Open kind) free ready awaiting in (record { awaits = stand.awaits; keeps = stand.keeps }, turn_haves n s (Open kind) free ready awaiting))
-step_serves n s (Message number bytes) free ready awaiting =
-    (let stand = turn_awaits n s (Message number bytes) free ready awaiting in (record { awaits = stand.awaits; keeps = stand.keeps }, turn_haves n s (Message number bytes) free ready awaiting))
-step_serves n s (End number) free ready awaiting = (let stand = turn_awaits n s (End number) free ready awaiting in (record { awaits = stand.awaits; keeps = stand.keeps }, turn_haves n s (End number) free ready awaiting))
-step_serves n s (Called call reply) free ready awaiting =
-    (let stand = turn_awaits n s (Called call reply) free ready awaiting in (record { awaits = stand.awaits; keeps = stand.keeps }, turn_haves n s (Called call reply) free ready awaiting))
-step_serves n s (Tick now) free ready awaiting = (let stand = turn_awaits n s (Tick now) free ready awaiting in (record { awaits = stand.awaits; keeps = stand.keeps }, turn_haves n s (Tick now) free ready awaiting))
-step_serves n s Restart free ready awaiting = record { awaits = tt; keeps = tt }
+restart_waits n s = record { awaits = tt; keeps = tt }
 
-pub awaiting_by : (n : ℕ) (s t : Whole) (event : Event) → IsServedBy n s event t → IsAwaiting t
-awaiting_by n s t (Open kind) is = is.0
-awaiting_by n s t (Message number bytes) is = is.0
-awaiting_by n s t (End number) is = is.0
-awaiting_by n s t (Called call reply) is = is.0
-awaiting_by n s t (Tick now) is = is.0
-awaiting_by n s t Restart is = is
+step_waits : (n : ℕ) (s : Whole) (event : Event) → is_restart event ≡ false → IsFree s → Ready s.front → IsAwaiting s → IsAwaiting (step n s event).next
+step_waits n s event other free ready awaiting =
+    let found = as_found s in
+    let h = heard n found event in
+    let r = settled n s.exports h.1 h.2 in
+    let is = same_stand r.2 (step_begun r.2) r.1.smb.state (begun_waits r.2) (round_stands n found event (begun_good s.core free.good) ready (stand_of s ready awaiting)) in
+    subst (λ (x : Turn). IsAwaiting x.next) (sym (step_is n s event other)) (record { awaits = is.awaits; keeps = is.keeps })
 
 pub step_awaits : (n : ℕ) (s : Whole) (event : Event) → IsFree s → Ready s.front → IsAwaiting s → IsAwaiting (step n s event).next
-step_awaits n s event free ready awaiting = awaiting_by n s (step n s event).next event (step_serves n s event free ready awaiting)
+step_awaits n s event free ready awaiting = each_event (λ e. IsAwaiting (step n s e).next) (λ e other. step_waits n s e other free ready awaiting) (restart_waits n s) event
+
+step_grants : (n : ℕ) (s : Whole) (event : Event) → is_restart event ≡ false → IsFree s → Ready s.front → IsAwaiting s → AreServed (step n s event).next (rounds n s event)
+step_grants n s event other free ready awaiting =
+    let found = as_found s in
+    subst (λ (rs : List Round). AreServed (step n s event).next rs) (sym (rounds_are n s event other))
+    (subst (λ (x : Turn). AreServed x.next (round_of n found event ∷ [])) (sym (step_is n s event other)) (round_has n found event (begun_good s.core free.good) ready (stand_of s ready awaiting), tt))
+
+no_rounds : (n : ℕ) (s t : Whole) → AreServed t (rounds n s Restart)
+unfolding rounds
+no_rounds n s t = tt
+
+pub step_serves : (n : ℕ) (s : Whole) (event : Event) → IsFree s → Ready s.front → IsAwaiting s → IsServedBy n s event (step n s event).next
+step_serves n s event free ready awaiting = (
+  step_awaits n s event free ready awaiting,
+  each_event (λ e. AreServed (step n s e).next (rounds n s e)) (λ e other. step_grants n s e other free ready awaiting) (no_rounds n s (step n s Restart).next) event,
+)
 
 -- at a start nobody waits
 pub begin_awaits : (head : Head) → IsAwaiting (start_of head)

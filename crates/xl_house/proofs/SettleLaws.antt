@@ -1,5 +1,5 @@
 -- Turns come to an end.
-use Rattle.std.proofs.Common.{◌≡◌, ℕ, zero, suc, ◌+◌, ◌<◌, ◌≤◌, ◌^◌, Option, Some, None, IfSome, option_map, List, [], ◌++◌, refl, sym, ap, subst, ◌∙◌, arith, append_assoc, append-nil}
+use Rattle.std.proofs.Common.{◌≡◌, ℕ, zero, suc, ◌+◌, ◌<◌, ◌≤◌, ◌^◌, Option, Some, None, IfSome, option_map, List, [], ◌∷◌, ◌++◌, refl, sym, ap, subst, ◌∙◌, arith, append_assoc, append-nil}
 use Rattle.xl_base.specs.Limits.{numbers_left}
 use Rattle.xl_base.specs.declared.event.Out.{Out}
 use Rattle.xl_core.specs.State.{CoreState, MayBe, GoesOn}
@@ -20,17 +20,18 @@ use Rattle.xl_core.proofs.GoodLaws.{settle_good}
 use Rattle.xl_plan.proofs.BudgetLaws.{come_same}
 use Rattle.xl_front_nlm.specs.Short.{AreShort, IsReady, Leaves}
 use Rattle.xl_house.specs.Shown.{IsShown}
-use Rattle.xl_house.specs.Machine.{Sent, grants, behind, and_then, all_shown, rooms_of, after_turn, settled_for, settled}
-
--- ---- settling
-
-none_for : (fuel n : ℕ) (exports : Exports) (f : Fronts) (s : CoreState) → settle n (rooms_of f) s ≡ None → settled_for fuel n exports f s ≡ ([], f, s)
-none_for zero n exports f s e = refl
-none_for (suc fuel) n exports f s e = ap (λ (r : Option (List Effect × CoreState)). after_turn exports (settled_for fuel n exports) f s r) e
+use Rattle.xl_house.specs.State.{rooms_of}
+use Rattle.xl_house.specs.Telling.{Sent, TurnTaken, grants, behind, and_then, all_shown, turn_and_rest, taken, turns, turns_sent, settled}
 
 -- what a turn gave
 abbrev Turned : Type 0
 Turned = Option (List Effect × CoreState)
+
+-- ---- settling
+
+none_for : (fuel n : ℕ) (exports : Exports) (f : Fronts) (s : CoreState) → settle n (rooms_of f) s ≡ None → taken fuel n exports f s ≡ []
+none_for zero n exports f s e = refl
+none_for (suc fuel) n exports f s e = ap (λ (r : Turned). turn_and_rest exports (taken fuel n exports) f r) e
 
 fewer : (n : ℕ) (f : Fronts) (s t : CoreState) (effects : List Effect) → IsGood s → settle n (rooms_of f) s ≡ Some (effects, t) → turns_left t + 1 ≤ turns_left s
 fewer n f s t effects good e = subst (λ (r : Turned). IfSome r (λ x. turns_left x.1 + 1 ≤ turns_left s)) e (turn_fewer n (rooms_of f) s good)
@@ -40,43 +41,73 @@ no_turn None most fewer none = refl
 no_turn (Some turn) most fewer none = absurd (omega (arith, fewer, none))
 
 -- where no turn is left none comes
-pub no_more : (n : ℕ) (f : Fronts) (s : CoreState) → IsGood s → turns_left s ≤ 0 → settle n (rooms_of f) s ≡ None
+no_more : (n : ℕ) (f : Fronts) (s : CoreState) → IsGood s → turns_left s ≤ 0 → settle n (rooms_of f) s ≡ None
 no_more n f s good none = no_turn (settle n (rooms_of f) s) (turns_left s) (turn_fewer n (rooms_of f) s good) none
-
-same_by : (p q n : ℕ) (exports : Exports) (f : Fronts) (s : CoreState) (o : Turned) → IfSome o (λ r. turns_left r.1 + 1 ≤ turns_left s) → IfSome o (λ r. IsGood r.1) → turns_left s ≤ suc p → turns_left s ≤ suc q
-    → ((g : Fronts) (t : CoreState) → IsGood t → turns_left t ≤ p → turns_left t ≤ q → settled_for p n exports g t ≡ settled_for q n exports g t)
-    → after_turn exports (settled_for p n exports) f s o ≡ after_turn exports (settled_for q n exports) f s o
-same_by p q n exports f s None fewer good few enough each = refl
-same_by p q n exports f s (Some turn) fewer good few enough each =
-    let done = all_shown exports f turn.1 turn.0 in
-    let same = told_turns exports f turn.1 turn.0 in
-    ap (λ (rest : Sent). behind done.0 rest) (each done.1 done.2 (all_shown_good exports f turn.1 turn.0 good) (omega (arith, fewer, few, same)) (omega (arith, fewer, enough, same)))
-
--- where as many turns may come as are left, more of them change nothing
-same_for : (p q n : ℕ) (exports : Exports) (f : Fronts) (s : CoreState) → IsGood s → turns_left s ≤ p → turns_left s ≤ q → settled_for p n exports f s ≡ settled_for q n exports f s
-same_for zero q n exports f s good few enough = sym (none_for q n exports f s (no_more n f s good few))
-same_for (suc p) zero n exports f s good few enough = none_for (suc p) n exports f s (no_more n f s good enough)
-same_for (suc p) (suc q) n exports f s good few enough =
-    same_by p q n exports f s (settle n (rooms_of f) s) (turn_fewer n (rooms_of f) s good) (settle_good n (rooms_of f) s good) few enough (λ g t h k l. same_for p q n exports g t h k l)
-
--- where no waiter has a turn, nothing happens
-pub none_settles : (n : ℕ) (exports : Exports) (f : Fronts) (s : CoreState) → settle n (rooms_of f) s ≡ None → settled n exports f s ≡ ([], f, s)
-unfolding settled
-none_settles n exports f s e = none_for (turns_left s) n exports f s e
 
 pub turned_good : (n : ℕ) (f : Fronts) (s t : CoreState) (effects : List Effect) → IsGood s → settle n (rooms_of f) s ≡ Some (effects, t) → IsGood t
 turned_good n f s t effects good e = subst (λ (r : Turned). IfSome r (λ x. IsGood x.1)) e (settle_good n (rooms_of f) s good)
 
--- a turn, and then the rest
-pub turn_settles : (n : ℕ) (exports : Exports) (f : Fronts) (s t : CoreState) (effects : List Effect) → IsGood s → settle n (rooms_of f) s ≡ Some (effects, t) → settled n exports f s ≡ and_then (settled n exports) (all_shown exports f t effects)
+-- ---- where as many turns may come as are left
+
+same_by : (p q n : ℕ) (exports : Exports) (f : Fronts) (s : CoreState) (o : Turned) → settle n (rooms_of f) s ≡ o → IsGood s → turns_left s ≤ suc p → turns_left s ≤ suc q
+    → ((g : Fronts) (t : CoreState) → IsGood t → turns_left t ≤ p → turns_left t ≤ q → taken p n exports g t ≡ taken q n exports g t) → turn_and_rest exports (taken p n exports) f o ≡ turn_and_rest exports (taken q n exports) f o
+same_by p q n exports f s None e good few enough each = refl
+same_by p q n exports f s (Some turn) e good few enough each =
+    let r = all_shown exports f turn.1 turn.0 in
+    let less = fewer n f s turn.1 turn.0 good e in
+    let same = told_turns exports f turn.1 turn.0 in
+    ap (λ (rest : List TurnTaken). record { front = f; told = turn.0; left = turn.1 } ∷ rest)
+    (each r.1 r.2 (all_shown_good exports f turn.1 turn.0 (turned_good n f s turn.1 turn.0 good e)) (omega (arith, less, few, same)) (omega (arith, less, enough, same)))
+
+-- more of them change nothing
+same_for : (p q n : ℕ) (exports : Exports) (f : Fronts) (s : CoreState) → IsGood s → turns_left s ≤ p → turns_left s ≤ q → taken p n exports f s ≡ taken q n exports f s
+same_for zero q n exports f s good few enough = sym (none_for q n exports f s (no_more n f s good few))
+same_for (suc p) zero n exports f s good few enough = none_for (suc p) n exports f s (no_more n f s good enough)
+same_for (suc p) (suc q) n exports f s good few enough = same_by p q n exports f s (settle n (rooms_of f) s) refl good few enough (λ g t h k l. same_for p q n exports g t h k l)
+
+-- none has one behind them
+ends_by : (fuel n : ℕ) (exports : Exports) (f : Fronts) (s : CoreState) (o : Turned) → settle n (rooms_of f) s ≡ o → IsGood s → turns_left s ≤ suc fuel
+    → ((g : Fronts) (t : CoreState) → IsGood t → turns_left t ≤ fuel → IsSettled (turns_sent exports g t (taken fuel n exports g t)).2) → IsSettled (turns_sent exports f s (turn_and_rest exports (taken fuel n exports) f o)).2
+ends_by fuel n exports f s None e good few rests = none_settled n (rooms_of f) s e
+ends_by fuel n exports f s (Some turn) e good few rests =
+    let r = all_shown exports f turn.1 turn.0 in
+    rests r.1 r.2 (all_shown_good exports f turn.1 turn.0 (turned_good n f s turn.1 turn.0 good e)) (omega (arith, fewer n f s turn.1 turn.0 good e, few, told_turns exports f turn.1 turn.0))
+
+ends_for : (fuel n : ℕ) (exports : Exports) (f : Fronts) (s : CoreState) → IsGood s → turns_left s ≤ fuel → IsSettled (turns_sent exports f s (taken fuel n exports f s)).2
+ends_for zero n exports f s good few = none_settled n (rooms_of f) s (no_more n f s good few)
+ends_for (suc fuel) n exports f s good few = ends_by fuel n exports f s (settle n (rooms_of f) s) refl good few (λ g t h k. ends_for fuel n exports g t h k)
+
+-- ---- all turns
+
+-- nobody is forgotten
+pub settling_ends : (n : ℕ) (exports : Exports) (f : Fronts) (s : CoreState) → IsGood s → IsSettled (settled n exports f s).2
+unfolding settled turns
+settling_ends n exports f s good = ends_for (turns_left s) n exports f s good (omega arith)
+
+-- where no waiter has a turn there is none
+none_turn : (n : ℕ) (exports : Exports) (f : Fronts) (s : CoreState) → settle n (rooms_of f) s ≡ None → turns n exports f s ≡ []
+unfolding turns
+none_turn n exports f s e = none_for (turns_left s) n exports f s e
+
+pub none_settles : (n : ℕ) (exports : Exports) (f : Fronts) (s : CoreState) → settle n (rooms_of f) s ≡ None → settled n exports f s ≡ ([], f, s)
 unfolding settled
-turn_settles n exports f s t effects good e =
-    let done = all_shown exports f t effects in
+none_settles n exports f s e = ap (λ (ts : List TurnTaken). turns_sent exports f s ts) (none_turn n exports f s e)
+
+-- a turn, and then the rest
+pub turns_are : (n : ℕ) (exports : Exports) (f : Fronts) (s t : CoreState) (effects : List Effect) → IsGood s → settle n (rooms_of f) s ≡ Some (effects, t)
+    → (let r = all_shown exports f t effects in turns n exports f s ≡ record { front = f; told = effects; left = t } ∷ turns n exports r.1 r.2)
+unfolding turns
+turns_are n exports f s t effects good e =
+    let r = all_shown exports f t effects in
     let left = turns_left s in
-    let fell : turns_left done.2 ≤ left = omega (arith, fewer n f s t effects good e, told_turns exports f t effects) in
+    let fell : turns_left r.2 ≤ left = omega (arith, fewer n f s t effects good e, told_turns exports f t effects) in
     same_for left (suc left) n exports f s good (omega arith) (omega arith)
-    ∙ ap (λ (r : Turned). after_turn exports (settled_for left n exports) f s r) e
-    ∙ ap (λ (rest : Sent). behind done.0 rest) (same_for left (turns_left done.2) n exports done.1 done.2 (all_shown_good exports f t effects (turned_good n f s t effects good e)) fell (omega arith))
+    ∙ ap (λ (x : Turned). turn_and_rest exports (taken left n exports) f x) e
+    ∙ ap (λ (rest : List TurnTaken). record { front = f; told = effects; left = t } ∷ rest) (same_for left (turns_left r.2) n exports r.1 r.2 (all_shown_good exports f t effects (turned_good n f s t effects good e)) fell (omega arith))
+
+turn_settles : (n : ℕ) (exports : Exports) (f : Fronts) (s t : CoreState) (effects : List Effect) → IsGood s → settle n (rooms_of f) s ≡ Some (effects, t) → settled n exports f s ≡ and_then (settled n exports) (all_shown exports f t effects)
+unfolding settled
+turn_settles n exports f s t effects good e = ap (λ (ts : List TurnTaken). turns_sent exports f s ts) (turns_are n exports f s t effects good e)
 
 -- how far settling came: what is still to be done gives what all of it gives
 pub record IsSettling (exports : Exports) (before : Fronts) (first : CoreState) (sent : List Out) (f : Fronts) (s : CoreState) (outs : List Out) : Type 0 where

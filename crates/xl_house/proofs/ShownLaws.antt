@@ -18,7 +18,7 @@ use Rattle.xl_front_nlm.specs.Grants.{news, told_by, shown}
 use Rattle.xl_front_nlm.specs.State.{FrontState}
 use Rattle.xl_house.specs.declared.layers.Fronts.{Fronts}
 use Rattle.xl_front_nlm.specs.declared.grant.Grant.{Grant}
-use Rattle.xl_house.specs.Machine.{Sent, is_grant, grants, behind, showing, all_shown}
+use Rattle.xl_house.specs.Telling.{Sent, is_grant, grants, behind, showing, all_shown}
 use Rattle.xl_plan.proofs.BudgetLaws.{come_same}
 use Rattle.xl_front_nlm.specs.Short.{IsReady, Leaves}
 use Rattle.xl_house.specs.Shown.{IsShown}
@@ -55,18 +55,7 @@ shown_holds P exports f s effect holds = by_news P f.nlm s (news exports s effec
 -- an effect that tells of no grant shows nothing
 no_news : (exports : Exports) (s : CoreState) (effect : Effect) → is_grant effect ≡ false → news exports s effect ≡ None
 no_news exports s (Served id (answers.Granted claim)) h = absurd cc
-no_news exports s (Served id (answers.Conflict c)) h = refl
-no_news exports s (Served id (answers.Queued number)) h = refl
-no_news exports s (Served id (answers.Recall c)) h = refl
-no_news exports s (Served id (answers.Grace until)) h = refl
-no_news exports s (Served id (answers.NoGrace clock)) h = refl
-no_news exports s (Served id answers.NotRecorded) h = refl
-no_news exports s (Served id (answers.Full limit)) h = refl
-no_news exports s (Served id answers.NotHeld) h = refl
-no_news exports s (Served id answers.StoreFailed) h = refl
-no_news exports s (Begun c to number) h = refl
-no_news exports s (Cancelled id) h = refl
-no_news exports s (Expired id) h = refl
+no_news exports s effect h = refl
 
 quiet_shown : (exports : Exports) (f : Fronts) (s : CoreState) (effect : Effect) → is_grant effect ≡ false → (showing exports f s effect).2 ≡ s
 unfolding shown

@@ -1,20 +1,20 @@
 -- What telling of effects, and settling, leave of SMB's lists.
-use Rattle.std.proofs.Common.{◌≡◌, ℕ, zero, suc, List, [], ◌∷◌, ◌++◌, map, Option, Some, None, refl, sym, ap, ◌∙◌, append_assoc, append-nil}
+use Rattle.std.proofs.Common.{◌≡◌, ℕ, List, [], ◌∷◌, ◌++◌, map, refl, sym, ap, ◌∙◌, append_assoc, append-nil}
 use Rattle.xl_base.specs.declared.event.Kind.TheVariants.{Rpc, Smb}
 use Rattle.xl_base.specs.declared.event.Out.{Out}
 use Rattle.xl_base.specs.declared.journal.Exports.{Exports}
 use Rattle.xl_smb_state.specs.State.{Lists}
 use Rattle.xl_core.specs.Frames.{who_left}
-use Rattle.xl_core.specs.Settle.{settle}
 use Rattle.xl_core.specs.State.{CoreState}
 use Rattle.xl_core.specs.declared.ask.Effect.{Effect}
 use Rattle.xl_core.specs.declared.ask.Effect.TheVariants as effects
 use Rattle.xl_front_nlm.specs.Grants.{shown}
 use Rattle.xl_front_nfs.specs.Recalls.{recalls}
 use Rattle.xl_front_smb.specs.FrontSmb.{smb_shown}
-use Rattle.xl_house.specs.Machine.{after_turn, all_shown, framed, rooms_of, settled_for, showing}
+use Rattle.xl_house.specs.Telling.{all_shown, framed, showing, taken, turns_sent}
 use Rattle.xl_house.specs.declared.layers.Fronts.{Fronts}
 use Rattle.xl_house.proofs.OpensLaws.{StaysSo, begun_shows, expired_shows, shown_so}
+use Rattle.xl_house.proofs.TurnLaws.{of_taken}
 
 -- ---- what is so of opens stays
 
@@ -23,15 +23,10 @@ module _ (P : Lists → Type 0) (stays : StaysSo P) where
   told_so exports f s [] so = so
   told_so exports f s (effect ∷ told) so = (let r = showing exports f s effect in told_so exports r.1 r.2 told (shown_so P stays f.smb s effect so))
 
-  turn_so : (fuel n : ℕ) (exports : Exports) (f : Fronts) (s : CoreState) (o : Option (List Effect × CoreState)) → P f.smb.state → ((g : Fronts) (t : CoreState) → P g.smb.state → P (settled_for fuel n exports g t).1.smb.state)
-      → P (after_turn exports (settled_for fuel n exports) f s o).1.smb.state
-  turn_so fuel n exports f s None so later = so
-  turn_so fuel n exports f s (Some turn) so later = (let r = all_shown exports f turn.1 turn.0 in later r.1 r.2 (told_so exports f turn.1 turn.0 so))
-
-  -- also while the table is settled
-  pub settled_so : (fuel n : ℕ) (exports : Exports) (f : Fronts) (s : CoreState) → P f.smb.state → P (settled_for fuel n exports f s).1.smb.state
-  settled_so zero n exports f s so = so
-  settled_so (suc fuel) n exports f s so = turn_so fuel n exports f s (settle n (rooms_of f) s) so (λ g t later. settled_so fuel n exports g t later)
+  -- also while turns are taken
+  pub taken_so : (fuel n : ℕ) (exports : Exports) (f : Fronts) (s : CoreState) → P f.smb.state → P (turns_sent exports f s (taken fuel n exports f s)).1.smb.state
+  taken_so fuel n exports f s so =
+      of_taken n exports (λ g t ts. P g.smb.state → P (turns_sent exports g t ts).1.smb.state) (λ g t is. is) (λ fuel g t u told e rest is. rest (told_so exports g u told is)) fuel f s so
 
 -- ---- what tells of nobody that it waits no more leaves the lists
 

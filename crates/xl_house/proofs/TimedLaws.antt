@@ -25,12 +25,13 @@ use Rattle.xl_core.proofs.DeedLaws.{deed_good}
 use Rattle.xl_core.proofs.DeedLists.{deeds_good, done_append}
 use Rattle.xl_core.proofs.FrameLaws.{ask_frame, turn_frame, tick_frame}
 use Rattle.xl_core.proofs.TickLaws.{tick_done}
-use Rattle.xl_house.specs.Done.{own_deeds, behind_own, deeds}
+use Rattle.xl_house.specs.Done.{behind_own, round_of, deeds}
+use Rattle.xl_house.specs.Own.{own_of}
 use Rattle.xl_house.specs.Journals.{is_restart}
 use Rattle.xl_house.specs.Lawful.{may_do, may_follow}
-use Rattle.xl_house.specs.Machine.{Whole}
+use Rattle.xl_house.specs.State.{Whole, as_found}
 use Rattle.xl_house.specs.Timed.{without_some, leases_left, leases_after, clock_after}
-use Rattle.xl_house.proofs.DoneLaws.{own_takes, deeds_taken, own_may, behind_follows}
+use Rattle.xl_house.proofs.DoneLaws.{own_row, deeds_are, deeds_taken, behind_follows}
 
 -- ---- the calls of the core
 
@@ -80,18 +81,10 @@ unfolding give_back weaken ack cancel end_party close_open drawn advanced renew
 deed_times n s (Asks left a) good fit =
     let r = ask n left s a in
     frame_times s r.2 r.1 (drawn_by r.0 + calls_in r.1) (names_after a r.0 s.names) (come_by a r.0 s.names) (ask_frame n left s a good fit.party)
-deed_times n s (GivesBack claim) good fit = refl
-deed_times n s (Weakens share access deny) good fit = refl
-deed_times n s (Acks cache to) good fit = refl
-deed_times n s (Cancels id) good fit = refl
-deed_times n s (Ends party) good fit = refl
-deed_times n s (Closes number party) good fit = refl
 deed_times n s (Serves left) good fit = turn_times s (settle n left s) (turn_frame n left s good)
-deed_times n s Draws good fit = refl
-deed_times n s (Advances now) good fit = refl
 deed_times n s (Lapses cache) good fit = lapse_times s cache
-deed_times n s (Renews client) good fit = refl
 deed_times n s (Expires client) good fit = expire_times s client
+deed_times n s d good fit = refl
 
 deeds_times : (n : ℕ) (s : CoreState) (ds : List Deed) → IsGood s → AreFit n s ds → times_in (all_done n s ds) ≡ (leases_after n s ds s.leases, clock_by ds s.clock)
 deeds_times n s [] good fit = refl
@@ -111,26 +104,17 @@ fit_behind : (n : ℕ) (s : CoreState) (ds es : List Deed) → AreFit n s (ds ++
 fit_behind n s [] es fit = fit
 fit_behind n s (d ∷ ds) es fit = fit_behind n (done n s d) ds es fit.1
 
-own_first : (n : ℕ) (s : Whole) (event : Event) → is_restart event ≡ false → deeds n s event ≡ own_deeds n s event ++ behind_own n s event
-unfolding deeds
-own_first n s (Open kind) other = refl
-own_first n s (Message number bytes) other = refl
-own_first n s (End number) other = refl
-own_first n s (Called number bytes) other = refl
-own_first n s (Tick moment) other = refl
-own_first n s Restart other = absurd cc
-
-pub left_times : (n : ℕ) (s : Whole) (event : Event) → is_restart event ≡ false → IsGood (step_begun s.core) → (let found = step_begun s.core in times_in (all_done n found (deeds n s event)) ≡ times_in (all_done n found (own_deeds n s event)))
+pub left_times : (n : ℕ) (s : Whole) (event : Event) → is_restart event ≡ false → IsGood (step_begun s.core) → (let found = step_begun s.core in times_in (all_done n found (deeds n s event)) ≡ times_in (all_done n found (own_of n (as_found s) event).deeds))
 left_times n s event other good =
     let found = step_begun s.core in
-    let own = own_deeds n s event in
-    let behind = behind_own n s event in
+    let own = (own_of n (as_found s) event).deeds in
+    let behind = behind_own (round_of n (as_found s) event) in
     let t = all_done n found own in
-    let fit = subst (λ (ds : List Deed). AreFit n found ds) (own_first n s event other) (deeds_taken n s event other good) in
-    ap (λ (ds : List Deed). times_in (all_done n found ds)) (own_first n s event other)
+    let fit = subst (λ (ds : List Deed). AreFit n found ds) (deeds_are n s event other) (deeds_taken n s event other good) in
+    ap (λ (ds : List Deed). times_in (all_done n found ds)) (deeds_are n s event other)
     ∙ ap times_in (done_append n found own behind)
-    ∙ deeds_times n t behind (deeds_good n found own good (own_takes n s event good)) (fit_behind n found own behind fit)
-    ∙ follow_times n t behind t.leases t.clock (behind_follows n s event)
+    ∙ deeds_times n t behind (deeds_good n found own good ((own_row n (as_found s) event).takes good)) (fit_behind n found own behind fit)
+    ∙ follow_times n t behind t.leases t.clock (behind_follows (round_of n (as_found s) event))
 
 -- ---- the clock
 
@@ -139,44 +123,26 @@ is_reading (Tick now) = true
 is_reading event = false
 
 reads_none : (event : Event) (now : Moment) → is_reading event ≡ false → may_do event (Advances now) ≡ false
-reads_none (Open kind) now other = refl
-reads_none (Message number bytes) now other = refl
-reads_none (End number) now other = refl
-reads_none (Called number bytes) now other = refl
 reads_none (Tick moment) now other = absurd (both_ways true other refl)
-reads_none Restart now other = refl
+reads_none event now other = refl
 
 stands : (event : Event) (d : Deed) (clock : Moment) → is_reading event ≡ false → may_do event d ≡ true → clock_left d clock ≡ clock
 stands event (Advances now) clock other may = absurd (both_ways (may_do event (Advances now)) (reads_none event now other) may)
-stands event (Asks left a) clock other may = refl
-stands event (GivesBack claim) clock other may = refl
-stands event (Weakens share access deny) clock other may = refl
-stands event (Acks cache to) clock other may = refl
-stands event (Cancels id) clock other may = refl
-stands event (Ends party) clock other may = refl
-stands event (Closes number party) clock other may = refl
-stands event (Serves left) clock other may = refl
-stands event Draws clock other may = refl
-stands event (Lapses cache) clock other may = refl
-stands event (Renews client) clock other may = refl
-stands event (Expires client) clock other may = refl
+stands event d clock other may = refl
 
 all_stand : (event : Event) (ds : List Deed) (clock : Moment) → is_reading event ≡ false → AllByRecursion (λ d. may_do event d ≡ true) ds → clock_by ds clock ≡ clock
 all_stand event [] clock other may = refl
 all_stand event (d ∷ ds) clock other may = all_stand event ds (clock_left d clock) other may.1 ∙ stands event d clock other may.0
 
-stood : (n : ℕ) (s : Whole) (event : Event) → is_reading event ≡ false → IsGood (step_begun s.core) → (all_done n (step_begun s.core) (own_deeds n s event)).clock ≡ (step_begun s.core).clock
+stood : (n : ℕ) (s : Whole) (event : Event) → is_reading event ≡ false → IsGood s.core → (all_done n s.core (own_of n s event).deeds).clock ≡ s.core.clock
 stood n s event other good =
-    let found = step_begun s.core in
-    ap (λ (x : Running). x.1) (deeds_times n found (own_deeds n s event) good (own_takes n s event good)) ∙ all_stand event (own_deeds n s event) found.clock other (own_may n s event good)
+    let found = s.core in
+    ap (λ (x : Running). x.1) (deeds_times n found (own_of n s event).deeds good ((own_row n s event).takes good)) ∙ all_stand event (own_of n s event).deeds found.clock other ((own_row n s event).may good)
 
-pub own_clock : (n : ℕ) (s : Whole) (event : Event) → IsGood (step_begun s.core) → (all_done n (step_begun s.core) (own_deeds n s event)).clock ≡ clock_after event (step_begun s.core).clock
-own_clock n s (Open kind) good = stood n s (Open kind) refl good
-own_clock n s (Message number bytes) good = stood n s (Message number bytes) refl good
-own_clock n s (End number) good = stood n s (End number) refl good
-own_clock n s (Called number bytes) good = stood n s (Called number bytes) refl good
-own_clock n s (Tick now) good = ap (λ (t : CoreState). t.clock) (tick_done n (step_begun s.core) now) ∙ (tick_frame (step_begun s.core) now good).clock
+pub own_clock : (n : ℕ) (s : Whole) (event : Event) → IsGood s.core → (all_done n s.core (own_of n s event).deeds).clock ≡ clock_after event s.core.clock
+own_clock n s (Tick now) good = ap (λ (t : CoreState). t.clock) (tick_done n s.core now) ∙ (tick_frame s.core now good).clock
 own_clock n s Restart good = refl
+own_clock n s event good = stood n s event refl good
 
 -- what is made of the leases by all that an event does
 pub leases_are : (n : ℕ) (s : Whole) (event : Event) → is_restart event ≡ false → IsGood (step_begun s.core) → (let found = step_begun s.core in (all_done n found (deeds n s event)).leases ≡ leases_after n found (deeds n s event) found.leases)

@@ -1,10 +1,10 @@
 -- Requests of SMB that wait: each is a waiter of the core at a free moment, and each waiter of an SMB open has its
 -- request; and what a turn grants to an SMB open has its open afterwards, and is answered (MS-SMB2 3.3.4.2, 3.3.4.4,
 -- 3.3.5.9).
-use Rattle.std.specs.Prelude.{◌≡◌, ℕ, zero, suc, true, List, ◌++◌, map, Option, Some, None}
+use Rattle.std.specs.Prelude.{◌≡◌, ℕ, true, List, ◌++◌, map, Some}
+use Rattle.std.specs.List.{AllByRecursion}
 use Rattle.xl_base.specs.Lists.{IsIn}
 use Rattle.xl_base.specs.declared.event.Event.{Event}
-use Rattle.xl_base.specs.declared.event.Event.TheVariants.{Restart}
 use Rattle.xl_base.specs.declared.event.Kind.TheVariants.{Smb}
 use Rattle.xl_base.specs.declared.event.Out.{Out}
 use Rattle.xl_base.specs.declared.journal.Exports.{Exports}
@@ -14,7 +14,6 @@ use Rattle.xl_smb_state.specs.State.{Lists, open_of, waiting_of}
 use Rattle.xl_smb_state.specs.declared.row.Request.{Request}
 use Rattle.xl_smb_state.specs.declared.row.Request.TheVariants as request
 use Rattle.xl_smb_state.specs.declared.row.Waiting.{Waiting}
-use Rattle.xl_core.specs.Settle.{settle, turns_left}
 use Rattle.xl_core.specs.State.{CoreState}
 use Rattle.xl_core.specs.declared.ask.Answer.TheVariants.{Granted}
 use Rattle.xl_core.specs.declared.ask.Effect.{Effect}
@@ -25,9 +24,10 @@ use Rattle.xl_smb_locks.specs.Levels.{caching}
 use Rattle.xl_smb_laws.specs.WaitingRequests.{AreAwaited, AreKept}
 use Rattle.xl_front_smb.specs.Checks.{is_open_on}
 use Rattle.xl_front_smb.specs.Laws.{IsLeased}
+use Rattle.xl_house.specs.Done.{Round, rounds}
 use Rattle.xl_house.specs.Lawful.{Law}
-use Rattle.xl_house.specs.Machine.{Whole, all_shown, framed, heard, rooms_of}
-use Rattle.xl_house.specs.declared.layers.Fronts.{Fronts}
+use Rattle.xl_house.specs.State.{Whole}
+use Rattle.xl_house.specs.Telling.{TurnTaken, turn_sent, framed}
 
 -- each request that waits in SMB's lists is a waiter of the core, and each waiter of an SMB open has its request there
 pub record IsAwaiting (s : Whole) : Type 0 where
@@ -47,37 +47,29 @@ abbrev pub success_of : CoreState → ℕ → Waiting → Request → List ℕ
 success_of t id row (request.Create made) = opened_reply id row (id_of t row.opened) (caching t row.opened made)
 success_of t id row request.Lock = locked_reply id row
 
--- The claim that the waiter of this number is granted for an SMB open: a request under that number waits for this open in the front's
--- lists, the open is there in the last ones, and what is sent for the turn, which left this core and told this, ends with the reply
--- that the request succeeded.
-pub record HasItsOpen (exports : Exports) (last : Lists) (f : Fronts) (t : CoreState) (told : List Effect) (id number : ℕ) (claim : Claim) : Type 0 where
+-- The claim that the waiter of this number is granted by a turn for an SMB open: a request under that number waits for this open in
+-- the front's lists, the open is there in the last ones, and what is sent for the turn ends with the reply that the request succeeded.
+pub record HasItsOpen (exports : Exports) (last : Lists) (turn : TurnTaken) (id number : ℕ) (claim : Claim) : Type 0 where
   pub row : Waiting
-  pub waited : waiting_of id f.smb.state ≡ Some row
+  pub waited : waiting_of id turn.front.smb.state ≡ Some row
   pub own : row.opened ≡ number
   pub there : OpenStands last row claim row.request
   pub earlier : List Out
-  pub sent : (all_shown exports f t told).0 ≡ earlier ++ map (framed Smb) (final_outs row (success_of t id row row.request))
+  pub sent : (turn_sent exports turn).0 ≡ earlier ++ map (framed Smb) (final_outs row (success_of turn.left id row row.request))
 
--- so it is of each claim that is granted to an SMB open
-abbrev pub HaveOpens : Exports → Lists → Fronts → CoreState → List Effect → Type 0
-HaveOpens exports last f t told =
-    (id number : ℕ) (claim : Claim) → IsIn (Served id (Granted claim)) told → claim.owner ≡ owners.Open number → HasItsOpen exports last f t told id number claim
+-- so it is of each claim that is granted by it to an SMB open
+abbrev pub HaveOpens : Exports → Lists → TurnTaken → Type 0
+HaveOpens exports last turn = (id number : ℕ) (claim : Claim) → IsIn (Served id (Granted claim)) turn.told → claim.owner ≡ owners.Open number → HasItsOpen exports last turn id number claim
 
--- ---- the turns of an entry
+-- ---- an entry
 
--- of a turn, and of those behind it
-abbrev pub turn_serves : Exports → Lists → (Fronts → CoreState → Type 0) → Fronts → Option (List Effect × CoreState) → Type 0
-turn_serves exports last later f None = Unit {0}
-turn_serves exports last later f (Some turn) = HaveOpens exports last f turn.1 turn.0 × later (all_shown exports f turn.1 turn.0).1 (all_shown exports f turn.1 turn.0).2
-
-abbrev pub turns_serve : ℕ → ℕ → Exports → Lists → Fronts → CoreState → Type 0
-turns_serve zero n exports last f s = Unit {0}
-turns_serve (suc fuel) n exports last f s = turn_serves exports last (turns_serve fuel n exports last) f (settle n (rooms_of f) s)
+-- What the turns of an entry grant, by this state after it: each claim for an SMB open has its open.
+abbrev pub AreServed : Whole → List Round → Type 0
+AreServed t rs = AllByRecursion (λ r. AllByRecursion (λ turn. HaveOpens r.found.exports t.front.smb.state turn) r.turns) rs
 
 -- who waits afterwards, and what was granted, by the event
 abbrev pub IsServedBy : ℕ → Whole → Event → Whole → Type 0
-IsServedBy n s Restart t = IsAwaiting t
-IsServedBy n s event t = IsAwaiting t × turns_serve (turns_left (heard n s event).2) n s.exports t.front.smb.state (heard n s event).1 (heard n s event).2
+IsServedBy n s event t = IsAwaiting t × AreServed t (rounds n s event)
 
 -- After the entry each request of SMB that waits is a waiter of the core, and each waiter of an SMB open has its
 -- request. What a turn of the entry grants to an SMB open was waited for by a request of that open, which is there

@@ -2,7 +2,8 @@
 use Rattle.std.specs.Prelude.{◌≡◌, false, List, [], ◌∷◌}
 use Rattle.xl_base.specs.declared.journal.Entry.{Entry}
 use Rattle.xl_core.specs.Good.{IsGood, IsSettled}
-use Rattle.xl_house.specs.Machine.{Whole, step}
+use Rattle.xl_house.specs.Machine.{step}
+use Rattle.xl_house.specs.State.{Whole}
 
 -- The core's state is good: any two claims may be held together by the matrix, an owner has one share and a party one
 -- cache on a file, each POSIX owner's ranges are sorted maximal runs. Nobody is forgotten: each waiter is held up, by

@@ -9,7 +9,7 @@ use Rattle.xl_base.specs.declared.journal.Head.{Head}
 use Rattle.xl_core.specs.Numbers.{numbers_of}
 use Rattle.xl_front_nlm.specs.Short.{AreShort}
 use Rattle.xl_house.specs.Awaited.{IsAwaiting}
-use Rattle.xl_house.specs.Machine.{Whole}
+use Rattle.xl_house.specs.State.{Whole}
 use Rattle.xl_house.specs.Journals.{replay}
 use Rattle.xl_house.specs.Free.{IsFree}
 

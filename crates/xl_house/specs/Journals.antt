@@ -7,7 +7,8 @@ use Rattle.xl_base.specs.declared.event.Dest.TheVariants.{Conn, Back}
 use Rattle.xl_base.specs.declared.event.Event.{Event}
 use Rattle.xl_base.specs.declared.event.Event.TheVariants.{Open, End, Restart}
 use Rattle.xl_base.specs.declared.journal.Entry.{Entry}
-use Rattle.xl_house.specs.Machine.{Whole, most_connections, step}
+use Rattle.xl_house.specs.Machine.{step}
+use Rattle.xl_house.specs.State.{Whole, most_connections}
 
 -- the state after these entries
 abbrev pub replay : Whole → List Entry → Whole

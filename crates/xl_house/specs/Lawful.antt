@@ -20,8 +20,11 @@ use Rattle.xl_core.specs.Leases.{ended}
 use Rattle.xl_core.specs.Places.{Place, held_at, IsChangedBy}
 use Rattle.xl_core.specs.declared.ask.Act.{Act}
 use Rattle.xl_core.specs.declared.ask.Act.TheVariants.{Unlock}
-use Rattle.xl_house.specs.Done.{own_deeds, behind_own, deeds, messages, message_owns, end_owns, called_owns}
-use Rattle.xl_house.specs.Machine.{Whole, kind_of, step}
+use Rattle.xl_house.specs.Done.{Round, behind_own, rounds, deeds, messages}
+use Rattle.xl_house.specs.Machine.{step}
+use Rattle.xl_house.specs.Own.{own_of}
+use Rattle.xl_house.specs.Owners.{AreOf}
+use Rattle.xl_house.specs.State.{Whole, as_found}
 use Rattle.xl_house.specs.Timed.{leases_after, clock_after}
 
 -- a law of an entry: between the state before it and the one after, for its event and its stores
@@ -88,9 +91,9 @@ IsKept n s e t = IsKeptBy n s e.event t
 -- ended (MS-SMB2 3.3.6.1; RFC 7530 9.5, 10.4.6). Breaks are over in the order in which they are due, and clients expire in the
 -- order of their id strings: what stands ahead of one and isn't taken before it is left by the last of these deeds.
 pub record IsOnTime (n : ℕ) (s : Whole) (now : Moment) (t : Whole) : Type 0 where
-  pub breaks : due (all_done n (found s) (own_deeds n s (Tick now))) ≡ []
+  pub breaks : due (all_done n (found s) (own_of n (as_found s) (Tick now)).deeds) ≡ []
   pub leases : ended t.core.clock t.core.leases ≡ []
-  pub turns : AreInTurn n (found s) (own_deeds n s (Tick now)) (all_done n (found s) (own_deeds n s (Tick now)))
+  pub turns : AreInTurn n (found s) (own_of n (as_found s) (Tick now)).deeds (all_done n (found s) (own_of n (as_found s) (Tick now)).deeds)
 
 -- what is owed by the event
 abbrev pub IsOnTimeBy : ℕ → Whole → Event → Whole → Type 0
@@ -136,26 +139,18 @@ may_follow (Serves left) = true
 may_follow Draws = true
 may_follow deed = false
 
--- a message's own deeds are of whom it names, or of opens of the connection that it came by, and they renew each
--- confirmed client of NFSv4 that it names; those of the end of a connection are of its opens alone, and those of the
--- end of a call give up what that call sent, if it is refused
-abbrev pub IsOwnersBy : ℕ → Whole → Event → Type 0
-IsOwnersBy n s (Message number bytes) = message_owns n s.exports s.front (found s) (kind_of s.connections number) number bytes
-IsOwnersBy n s (End number) = end_owns s.front (found s) (kind_of s.connections number) number
-IsOwnersBy n s (Called number reply) = called_owns s.front.nlm (found s) number reply
-IsOwnersBy n s event = Unit {0}
-
--- Each of its own deeds is one that such an event may do; a message's are of the clients that the message names, or of
--- opens of its connection, those of a connection's end are of its opens, and those of a call's end of the grant that it
--- sent; behind them stand turns alone.
-pub record IsCausedBy (n : ℕ) (s : Whole) (event : Event) : Type 0 where
-  pub own : AllByRecursion (λ d. may_do event d ≡ true) (own_deeds n s event)
-  pub clients : IsOwnersBy n s event
-  pub behind : AllByRecursion (λ d. may_follow d ≡ true) (behind_own n s event)
+-- What is done in a round is done by the entry's event. Each of its own deeds is one that such an event may do; a
+-- message's are of the clients that the message names, or of opens of its connection, those of a connection's end are of
+-- its opens, and those of a call's end of the grant that it sent; behind them stand turns alone.
+pub record IsCausedBy (n : ℕ) (event : Event) (r : Round) : Type 0 where
+  pub cause : r.cause ≡ event
+  pub own : AllByRecursion (λ d. may_do r.cause d ≡ true) r.own.deeds
+  pub clients : AreOf n r.found.exports r.found.front r.found.core r.own.whose r.own.deeds
+  pub behind : AllByRecursion (λ d. may_follow d ≡ true) (behind_own r)
 
 -- each deed of the entry has its cause in the event
 abbrev pub IsCaused : Law
-IsCaused n s e t = IsCausedBy n s e.event
+IsCaused n s e t = AllByRecursion (λ r. IsCausedBy n e.event r) (rounds n s e.event)
 
 -- ---- sent
 

@@ -1,3 +1,7 @@
+pub mod State
+pub mod Telling
+pub mod Owners
+pub mod Own
 pub mod Machine
 pub mod Shown
 pub mod Done

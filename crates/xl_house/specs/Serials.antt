@@ -6,7 +6,7 @@ use Rattle.xl_base.specs.declared.halt.Halt.TheVariants.{NoMemory, JournalFull, 
 use Rattle.xl_base.specs.declared.journal.Entry.{Entry}
 use Rattle.xl_base.specs.declared.journal.Head.{Head}
 use Rattle.xl_house.specs.Journals.{IsLegal, most_entries}
-use Rattle.xl_house.specs.Machine.{start_of}
+use Rattle.xl_house.specs.State.{start_of}
 
 -- what may be its history: each entry is the machine's step, and nothing is sent to a connection before its opening or after its end
 abbrev pub IsHistory : Head → List Entry → Type 0

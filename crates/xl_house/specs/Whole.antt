@@ -1,6 +1,6 @@
 -- The state that the machine's parts make up.
 use Rattle.xl_base.specs.declared.journal.Exports.{Exports}
-use Rattle.xl_house.specs.Machine.{Whole}
+use Rattle.xl_house.specs.State.{Whole}
 use Rattle.xl_house.specs.declared.machine.Machine.{Machine}
 
 -- beside what is exported

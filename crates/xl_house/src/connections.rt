@@ -1,6 +1,6 @@
 //! The connections that are open.
 ghost use Rattle.std.specs.Prelude.{◌≡◌, nat_lt, length, OnOk};
-ghost use Rattle.xl_house.specs.Machine.{most_connections, with_connection, without, kind_of};
+ghost use Rattle.xl_house.specs.State.{most_connections, with_connection, without, kind_of};
 
 use std::alloc::AllocError;
 use xl_base::{Kind, MOST_CONNECTIONS};
@@ -22,7 +22,7 @@ pub(crate) fn has_room(connections: &[Connection]) -> bool
 }
 
 /// Opens a connection if there is room.
-#[tactic(auto, unfolding(crate::specs::Machine::with_connection))]
+#[tactic(auto, unfolding(crate::specs::State::with_connection))]
 pub(crate) fn open(
     connections: &mut Vec<Connection>,
     place: u64,
@@ -40,7 +40,7 @@ pub(crate) fn open(
 }
 
 /// Ends a connection.
-#[tactic(auto, unfolding(crate::specs::Machine::without))]
+#[tactic(auto, unfolding(crate::specs::State::without))]
 pub(crate) fn end(connections: &mut Vec<Connection>, number: u64)
     ensures { connections.new.items ≡ without connections.old.items number }
 {
@@ -48,7 +48,7 @@ pub(crate) fn end(connections: &mut Vec<Connection>, number: u64)
 }
 
 /// What the open connection of this number speaks.
-#[tactic(auto, unfolding(crate::specs::Machine::kind_of))]
+#[tactic(auto, unfolding(crate::specs::State::kind_of))]
 pub(crate) fn kind_of(connections: &[Connection], number: u64) -> Option<Kind>
     ensures { result ≡ kind_of connections.now number }
 {

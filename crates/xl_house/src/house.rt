@@ -12,7 +12,8 @@ ghost use Rattle.xl_house.specs.Free.{IsFree, AlwaysFree};
 ghost use Rattle.xl_house.specs.Housed.{Housed, is_spoiled, Holds, Stands};
 ghost use Rattle.xl_house.specs.Journals.{replay, IsLegal, IsOrderly, entry, is_restart, most_entries};
 ghost use Rattle.xl_house.specs.Lawful.{Always, IsLawful, IsWaiting, IsKept, IsComplete, IsCaused, IsTold};
-ghost use Rattle.xl_house.specs.Machine.{times_of, start_of, step};
+ghost use Rattle.xl_house.specs.Machine.{step};
+ghost use Rattle.xl_house.specs.State.{times_of, start_of};
 ghost use Rattle.xl_house.specs.Serials.{IsHistory, MayHalt};
 ghost use Rattle.xl_house.specs.Whole.{whole_of};
 
@@ -56,7 +57,7 @@ pub struct House<K: Keeper> {
 
 impl<K: Keeper> Model for House<K> {
     ghost use Rattle.std.specs.Prelude.{◌≡◌, ◌≤◌, length, false, IfSome};
-    ghost use Rattle.xl_house.specs.Machine.{start_of};
+    ghost use Rattle.xl_house.specs.State.{start_of};
     ghost use Rattle.xl_house.specs.Awaited.{IsServed};
     ghost use Rattle.xl_house.specs.Journals.{IsLegal, most_entries};
     ghost use Rattle.xl_house.specs.Lawful.{Always};

@@ -27,7 +27,8 @@ ghost use Rattle.xl_house.specs.Awaited.{IsServed};
 ghost use Rattle.xl_house.specs.Done.{deeds};
 ghost use Rattle.xl_house.specs.Free.{IsFree};
 ghost use Rattle.xl_house.specs.Lawful.{found, IsLawful, IsWaiting, IsKept, IsComplete};
-ghost use Rattle.xl_house.specs.Machine.{Whole, heard, rooms_of};
+ghost use Rattle.xl_house.specs.Machine.{heard};
+ghost use Rattle.xl_house.specs.State.{Whole, as_found, rooms_of};
 
 /// A machine that answers that a lock is granted and keeps nothing has no lawful entry for a lock of one byte at a
 /// start; if one waits, a machine that drops it at another's test has none in which who waits is right; and if a break
@@ -49,6 +50,6 @@ pub fn hollow_machines_are_refused()
     ensures clock { (n stores : ℕ) (outs : List Out) (s t : Whole) (now : Moment) → nat_lt s.core.clock.0 now.0 ≡ true → t.core.clock ≡ s.core.clock → IsLawful n s (record { event = Tick now; stores = stores; outs = outs }) t → ⊥ }
     ensures ended { (n stores : ℕ) (outs : List Out) (s t : Whole) (now : Moment) (client : List ℕ) → IsIn client (ended t.core.clock t.core.leases) → IsComplete n s (record { event = Tick now; stores = stores; outs = outs }) t → ⊥ }
     ensures forgotten { (n : ℕ) (s t : Whole) (e : Entry) (w : Waiter) (number : ℕ) → IsIn w t.core.waiters → waits_as number w ≡ true → t.front.smb.state.waiting ≡ [] → IsServed n s e t → ⊥ }
-    ensures unmade { (n stores conn : ℕ) (bytes : List ℕ) (outs : List Out) (s t : Whole) (u : CoreState) (told : List Effect) (id number : ℕ) (claim : Claim) → IsFree s → settle n (rooms_of (heard n s (Message conn bytes)).1) (heard n s (Message conn bytes)).2 ≡ Some (told, u)
+    ensures unmade { (n stores conn : ℕ) (bytes : List ℕ) (outs : List Out) (s t : Whole) (u : CoreState) (told : List Effect) (id number : ℕ) (claim : Claim) → IsFree s → settle n (rooms_of (heard n (as_found s) (Message conn bytes)).1) (heard n (as_found s) (Message conn bytes)).2 ≡ Some (told, u)
         → IsIn (Effect.Served id (Answer.Granted claim)) told → claim.owner ≡ Owner.Open number → open_of number t.front.smb.state ≡ None → IsServed n s (record { event = Message conn bytes; stores = stores; outs = outs }) t → ⊥ }
 {}

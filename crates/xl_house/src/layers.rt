@@ -1,6 +1,6 @@
 //! The fronts and the core, which travel together.
 ghost use Rattle.std.specs.Prelude.{◌≡◌};
-ghost use Rattle.xl_house.specs.Machine.{no_fronts, nfs_opens, rooms_of};
+ghost use Rattle.xl_house.specs.State.{no_fronts, nfs_opens, rooms_of};
 
 use std::alloc::Global;
 use xl_core::{Core, MOST_OPENS, MOST_OWNERS};

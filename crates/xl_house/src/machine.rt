@@ -1,5 +1,5 @@
 //! The machine: what one event does, and what it sends.
-ghost use Rattle.std.specs.Prelude.{◌≡◌, ℕ, ◌+◌, ◌<◌, ◌≤◌, ◌^◌, true, false, map, option_map, OnOk, IfOk};
+ghost use Rattle.std.specs.Prelude.{◌≡◌, ℕ, ◌+◌, ◌<◌, ◌≤◌, ◌^◌, true, false, Some, None, map, option_map, OnOk, IfOk};
 ghost use Rattle.xl_base.specs.Limits.{most_numbers};
 ghost use Rattle.xl_base.specs.Outside.{HandedOn};
 ghost use Rattle.xl_programs.specs.Programs.{serves, shown_request, incoming_at};
@@ -14,7 +14,10 @@ ghost use Rattle.xl_front_nlm.specs.Short.{AreShort, IsReady, Leaves};
 ghost use Rattle.xl_house.specs.Journals.{is_restart};
 ghost use Rattle.xl_front_nfs.specs.FrontNfs.{nfs_step};
 ghost use Rattle.xl_front_smb.specs.FrontSmb.{smb_step};
-ghost use Rattle.xl_house.specs.Machine.{with_nlm, with_nfs, with_smb, smb_opens, nfs_opens, after_call, after_tick, framed, connected, begun, record_given, message_given, end_given, sent_of, heard, step};
+ghost use Rattle.xl_house.specs.Machine.{connected, sent_of, heard, step};
+ghost use Rattle.xl_house.specs.Own.{with_nlm, with_nfs, with_smb, after_call, after_tick, begun, record_own, message_own, end_own};
+ghost use Rattle.xl_house.specs.State.{smb_opens, nfs_opens, as_found};
+ghost use Rattle.xl_house.specs.Telling.{framed};
 ghost use Rattle.xl_house.specs.Whole.{whole_of};
 
 use crate::connections::{Connection, end, has_room, kind_of, open};
@@ -64,7 +67,7 @@ fn hear_nlm<K: Keeper>(
 ) -> Result<Sequence<Out>, AllocError>
     requires known { serves Program.Nlm request.now.procedure ≡ true }
     requires ready { IsReady most_numbers layers.old.core }
-    ensures heard { (n : ℕ) → IfOk result (λ outs. MayBe n layers.new.core → sent_of exports.now (with_nlm layers.old.front (nlm_step n exports.now layers.old.front.nlm layers.old.core number (shown_request request.now))) ≡ (outs, layers.new.front, layers.new.core)) }
+    ensures heard { (n : ℕ) → IfOk result (λ outs. MayBe n layers.new.core → sent_of exports.now (Some Kind.Rpc) (with_nlm layers.old.front (nlm_step n exports.now layers.old.front.nlm layers.old.core number (shown_request request.now))) ≡ (outs, layers.new.front, layers.new.core)) }
     ensures leaves { OnOk result (Leaves most_numbers layers.old.core layers.new.core) }
     ensures keeper { HandedOn keeper.old keeper.new }
 {
@@ -94,7 +97,7 @@ fn hear_nfs<K: Keeper>(
 ) -> Result<Sequence<Out>, AllocError>
     requires known { serves Program.Nfs request.now.procedure ≡ true }
     requires ready { IsReady most_numbers layers.old.core }
-    ensures heard { (n : ℕ) → IfOk result (λ outs. MayBe n layers.new.core → sent_of exports.now (with_nfs layers.old.front (nfs_step n exports.now (smb_opens layers.old.front) layers.old.front.nfs layers.old.core number (shown_request request.now))) ≡ (outs, layers.new.front, layers.new.core)) }
+    ensures heard { (n : ℕ) → IfOk result (λ outs. MayBe n layers.new.core → sent_of exports.now (Some Kind.Rpc) (with_nfs layers.old.front (nfs_step n exports.now (smb_opens layers.old.front) layers.old.front.nfs layers.old.core number (shown_request request.now))) ≡ (outs, layers.new.front, layers.new.core)) }
     ensures leaves { OnOk result (Leaves most_numbers layers.old.core layers.new.core) }
     ensures keeper { HandedOn keeper.old keeper.new }
 {
@@ -140,7 +143,7 @@ fn hear_record<K: Keeper>(
     bytes: &[u8],
 ) -> Result<Sequence<Out>, AllocError>
     requires ready { IsReady most_numbers layers.old.core }
-    ensures heard { (n : ℕ) → IfOk result (λ outs. MayBe n layers.new.core → sent_of exports.now (record_given n exports.now layers.old.front layers.old.core number (incoming_at bytes.now)) ≡ (outs, layers.new.front, layers.new.core)) }
+    ensures heard { (n : ℕ) → IfOk result (λ outs. MayBe n layers.new.core → sent_of exports.now (Some Kind.Rpc) (record_own n exports.now layers.old.front layers.old.core number (incoming_at bytes.now)).given ≡ (outs, layers.new.front, layers.new.core)) }
     ensures leaves { OnOk result (Leaves most_numbers layers.old.core layers.new.core) }
     ensures keeper { HandedOn keeper.old keeper.new }
 {
@@ -164,7 +167,7 @@ fn hear_packet<K: Keeper>(
     bytes: &[u8],
 ) -> Result<Sequence<Out>, AllocError>
     requires ready { IsReady most_numbers layers.old.core }
-    ensures heard { (n : ℕ) → IfOk result (λ outs. MayBe n layers.new.core → sent_of exports.now (with_smb layers.old.front (smb_step n exports.now (nfs_opens layers.old.front) layers.old.front.smb layers.old.core number bytes.now)) ≡ (outs, layers.new.front, layers.new.core)) }
+    ensures heard { (n : ℕ) → IfOk result (λ outs. MayBe n layers.new.core → sent_of exports.now (Some Kind.Smb) (with_smb layers.old.front (smb_step n exports.now (nfs_opens layers.old.front) layers.old.front.smb layers.old.core number bytes.now)) ≡ (outs, layers.new.front, layers.new.core)) }
     ensures leaves { OnOk result (Leaves most_numbers layers.old.core layers.new.core) }
     ensures keeper { HandedOn keeper.old keeper.new }
 {
@@ -195,7 +198,7 @@ fn hear<K: Keeper>(
     bytes: &[u8],
 ) -> Result<Sequence<Out>, AllocError>
     requires ready { IsReady most_numbers layers.old.core }
-    ensures heard { (n : ℕ) → IfOk result (λ outs. MayBe n layers.new.core → sent_of exports.now (message_given n exports.now layers.old.front layers.old.core kind number bytes.now) ≡ (outs, layers.new.front, layers.new.core)) }
+    ensures heard { (n : ℕ) → IfOk result (λ outs. MayBe n layers.new.core → sent_of exports.now kind (message_own n exports.now layers.old.front layers.old.core kind number bytes.now).given ≡ (outs, layers.new.front, layers.new.core)) }
     ensures leaves { OnOk result (Leaves most_numbers layers.old.core layers.new.core) }
     ensures keeper { HandedOn keeper.old keeper.new }
 {
@@ -234,7 +237,7 @@ fn hear_last(
     number: u64,
 ) -> Result<Sequence<Out>, AllocError>
     requires ready { IsReady most_numbers layers.old.core }
-    ensures heard { IfOk result (λ outs. sent_of exports.now (end_given layers.old.front layers.old.core (Some Kind.Smb) number) ≡ (outs, layers.new.front, layers.new.core)) }
+    ensures heard { IfOk result (λ outs. sent_of exports.now None (end_own layers.old.front layers.old.core (Some Kind.Smb) number).given ≡ (outs, layers.new.front, layers.new.core)) }
     ensures leaves { OnOk result (Leaves most_numbers layers.old.core layers.new.core) }
 {
     let effects = smb_end(alloc, &mut layers.front.smb, &mut layers.core, number)?;
@@ -252,7 +255,7 @@ fn hear_end(
     number: u64,
 ) -> Result<Sequence<Out>, AllocError>
     requires ready { IsReady most_numbers layers.old.core }
-    ensures heard { IfOk result (λ outs. sent_of exports.now (end_given layers.old.front layers.old.core kind number) ≡ (outs, layers.new.front, layers.new.core)) }
+    ensures heard { IfOk result (λ outs. sent_of exports.now None (end_own layers.old.front layers.old.core kind number).given ≡ (outs, layers.new.front, layers.new.core)) }
     ensures leaves { OnOk result (Leaves most_numbers layers.old.core layers.new.core) }
 {
     match kind {
@@ -282,7 +285,7 @@ fn hear_answer<K: Keeper>(
     reply: &Option<Sequence<u8>>,
 ) -> Result<Sequence<Out>, AllocError>
     requires ready { IsReady most_numbers layers.old.core }
-    ensures heard { (n : ℕ) → IfOk result (λ outs. MayBe n layers.new.core → sent_of exports.now (after_call layers.old.front (nlm_called n layers.old.front.nlm layers.old.core call reply.now)) ≡ (outs, layers.new.front, layers.new.core)) }
+    ensures heard { (n : ℕ) → IfOk result (λ outs. MayBe n layers.new.core → sent_of exports.now None (after_call layers.old.front (nlm_called n layers.old.front.nlm layers.old.core call reply.now)) ≡ (outs, layers.new.front, layers.new.core)) }
     ensures leaves { OnOk result (Leaves most_numbers layers.old.core layers.new.core) }
     ensures keeper { HandedOn keeper.old keeper.new }
 {
@@ -309,7 +312,7 @@ fn hear_tick<K: Keeper>(
     now: Moment,
 ) -> Result<Sequence<Out>, AllocError>
     requires ready { IsReady most_numbers layers.old.core }
-    ensures heard { IfOk result (λ outs. sent_of exports.now (after_tick layers.old.front (tick layers.old.core now)) ≡ (outs, layers.new.front, layers.new.core)) }
+    ensures heard { IfOk result (λ outs. sent_of exports.now None (after_tick layers.old.front (tick layers.old.core now)) ≡ (outs, layers.new.front, layers.new.core)) }
     ensures leaves { OnOk result (Leaves most_numbers layers.old.core layers.new.core) }
     ensures keeper { HandedOn keeper.old keeper.new }
 {
@@ -329,7 +332,7 @@ fn hear_event<K: Keeper>(
     event: &Event,
 ) -> Result<Sequence<Out>, AllocError>
     requires ready { IsReady most_numbers machine.old.layers.core }
-    ensures heard { (n : ℕ) → IfOk result (λ outs. MayBe n machine.new.layers.core → heard n (whole_of exports.now machine.old) event.now ≡ (outs, machine.new.layers.front, machine.new.layers.core)) }
+    ensures heard { (n : ℕ) → IfOk result (λ outs. MayBe n machine.new.layers.core → heard n (as_found (whole_of exports.now machine.old)) event.now ≡ (outs, machine.new.layers.front, machine.new.layers.core)) }
     ensures leaves { OnOk result (Leaves most_numbers (step_begun machine.old.layers.core) machine.new.layers.core) }
     ensures place { machine.new.place ≡ machine.old.place }
     ensures connections { machine.new.connections.items ≡ machine.old.connections.items }

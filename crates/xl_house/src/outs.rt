@@ -1,9 +1,10 @@
 //! What is sent, in its frames.
-ghost use Rattle.std.specs.Prelude.{◌≡◌, ◌≤◌, ◌++◌, [], map, vec_capacity, OnOk, IfOk};
+ghost use Rattle.std.specs.Prelude.{◌≡◌, ◌≤◌, ◌++◌, [], Some, None, map, vec_capacity, OnOk, IfOk};
 ghost use Rattle.std.specs.List.{AllByRecursion};
 ghost use Rattle.xl_front_nlm.specs.Short.{IsReady, Leaves};
 ghost use Rattle.xl_programs.specs.Sent.{FitsFrame};
-ghost use Rattle.xl_house.specs.Machine.{showing, framed, sent_of, grants, behind, all_shown};
+ghost use Rattle.xl_house.specs.Machine.{sent_of};
+ghost use Rattle.xl_house.specs.Telling.{showing, framed, grants, behind, all_shown};
 
 use crate::layers::Layers;
 use std::alloc::{AllocError, Global};
@@ -124,7 +125,7 @@ pub(crate) fn sent_for(
     effects: Sequence<Effect>,
 ) -> Result<Sequence<Out>, AllocError>
     requires ready { IsReady (grants effects) layers.old.core }
-    ensures sent { IfOk result (λ outs. sent_of exports.now ([], effects, layers.old.front, layers.old.core) ≡ (outs, layers.new.front, layers.new.core)) }
+    ensures sent { IfOk result (λ outs. sent_of exports.now None ([], effects, layers.old.front, layers.old.core) ≡ (outs, layers.new.front, layers.new.core)) }
     ensures leaves { OnOk result (Leaves (grants effects) layers.old.core layers.new.core) }
 {
     let none = Sequence::new(alloc);
@@ -142,7 +143,7 @@ pub(crate) fn sent_with(
 ) -> Result<Sequence<Out>, AllocError>
     requires fits { AllByRecursion FitsFrame reply }
     requires ready { IsReady (grants effects) layers.old.core }
-    ensures sent { IfOk result (λ outs. sent_of exports.now (map (framed kind) reply, effects, layers.old.front, layers.old.core) ≡ (outs, layers.new.front, layers.new.core)) }
+    ensures sent { IfOk result (λ outs. sent_of exports.now (Some kind) (reply, effects, layers.old.front, layers.old.core) ≡ (outs, layers.new.front, layers.new.core)) }
     ensures leaves { OnOk result (Leaves (grants effects) layers.old.core layers.new.core) }
 {
     let mut outs = Sequence::from_vec(room_for(alloc, reply.len())?);

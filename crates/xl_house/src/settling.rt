@@ -3,7 +3,7 @@ ghost use Rattle.std.specs.Prelude.{◌≡◌, ℕ, OnOk};
 ghost use Rattle.xl_base.specs.Outside.{HandedOn};
 ghost use Rattle.xl_core.specs.Good.{IsSettled};
 ghost use Rattle.xl_core.specs.State.{MayBe};
-ghost use Rattle.xl_house.specs.Machine.{behind, settled};
+ghost use Rattle.xl_house.specs.Telling.{behind, settled};
 ghost use Rattle.xl_front_nlm.specs.Short.{IsReady, Leaves};
 
 use crate::layers::Layers;

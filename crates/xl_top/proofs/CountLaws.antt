@@ -26,7 +26,10 @@ use Rattle.xl_front_nlm.specs.State.{FrontState}
 use Rattle.xl_front_nlm.specs.declared.outcome.Outcome.TheVariants.{Answered}
 use Rattle.xl_house.specs.Journals.{entry, entries_of}
 use Rattle.xl_house.specs.declared.layers.Fronts.{Fronts}
-use Rattle.xl_house.specs.Machine.{Whole, Turn, Sent, framed, heard, message_given, record_given, sent_of, with_nlm, kind_of, connected, with_connection, settled, settled_turn, turn_of, behind, rooms_of, start_of, step}
+use Rattle.xl_house.specs.Machine.{Turn, heard, sent_of, connected, settled_turn, turn_of, step}
+use Rattle.xl_house.specs.Own.{with_nlm, message_own, record_own}
+use Rattle.xl_house.specs.State.{as_found, Whole, kind_of, with_connection, rooms_of, start_of}
+use Rattle.xl_house.specs.Telling.{Sent, framed, settled, behind}
 use Rattle.xl_house.proofs.JournalLaws.{length-entries_of}
 use Rattle.xl_house.proofs.MachineLaws.{step_is}
 use Rattle.xl_house.proofs.SettleLaws.{none_settles}
@@ -69,14 +72,14 @@ files_are : (s : Whole) → IsMade s → length s.exports.files ≡ 8
 files_are s ok = ap (λ (e : Exports). length e.files) ok.exports
 
 heard_is : (s : Whole) (number : ℕ) (c : CallItem) (ok : IsMade s) (done : IsServed 0 s.front.nlm (step_begun s.core) c) → incoming_at (record_of number c) ≡ Asked (request number c) → call_in (request number c) ≡ Some c
-    → heard 0 s (Message 0 (record_of number c)) ≡ sent_by (told_by number c done.front done.core done.answer) (fronts_with s done.front) done.core
+    → heard 0 (as_found s) (Message 0 (record_of number c)) ≡ sent_by (told_by number c done.front done.core done.answer) (fronts_with s done.front) done.core
 unfolding heard nlm_step
 heard_is s number c ok done asked whole =
-    ap (λ k. sent_of s.exports (message_given 0 s.exports s.front (step_begun s.core) k 0 (record_of number c))) (kind_is s ok)
-    ∙ ap (λ incoming. sent_of s.exports (record_given 0 s.exports s.front (step_begun s.core) 0 incoming)) asked
-    ∙ ap (λ count. sent_of s.exports (with_nlm s.front (sent_with 0 (replied 0 count s.front.nlm (step_begun s.core) number (call_in (request number c)))))) (files_are s ok)
-    ∙ ap (λ o. sent_of s.exports (with_nlm s.front (sent_with 0 (replied 0 8 s.front.nlm (step_begun s.core) number o)))) whole
-    ∙ ap (λ r. sent_of s.exports (with_nlm s.front (sent_with 0 (with_results number c r)))) done.is
+    ap (λ k. sent_of s.exports k (message_own 0 s.exports s.front (step_begun s.core) k 0 (record_of number c)).given) (kind_is s ok)
+    ∙ ap (λ incoming. sent_of s.exports (Some Rpc) (record_own 0 s.exports s.front (step_begun s.core) 0 incoming).given) asked
+    ∙ ap (λ count. sent_of s.exports (Some Rpc) (with_nlm s.front (sent_with 0 (replied 0 count s.front.nlm (step_begun s.core) number (call_in (request number c)))))) (files_are s ok)
+    ∙ ap (λ o. sent_of s.exports (Some Rpc) (with_nlm s.front (sent_with 0 (replied 0 8 s.front.nlm (step_begun s.core) number o)))) whole
+    ∙ ap (λ r. sent_of s.exports (Some Rpc) (with_nlm s.front (sent_with 0 (with_results number c r)))) done.is
 
 no_turn : (n : ℕ) (left : Rooms) (s : CoreState) → s.waiters ≡ [] → settle n left s ≡ None
 unfolding settle

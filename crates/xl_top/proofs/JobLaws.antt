@@ -12,7 +12,7 @@ use Rattle.xl_top.specs.Job.{is_done, is_full, AreSteps, transcript_from, whole_
 use Rattle.xl_capture.specs.Capture.{captured}
 use Rattle.xl_capture.proofs.PlainLaws.{is_plain, captured_plain}
 use Rattle.xl_house.specs.Journals.{replay, entries_of, most_entries, is_restart}
-use Rattle.xl_house.specs.Machine.{start_of}
+use Rattle.xl_house.specs.State.{start_of}
 use Rattle.xl_house.proofs.JournalLaws.{front}
 use Rattle.xl_capture.specs.declared.capture.Capture.{Capture}
 

@@ -9,7 +9,7 @@ use Rattle.xl_base.specs.declared.journal.Head.{Head}
 use Rattle.xl_base.specs.declared.journal.Journal.{Journal}
 use Rattle.xl_top.specs.Job.{no_journal}
 use Rattle.xl_house.specs.Journals.{replay, entry, entries_of}
-use Rattle.xl_house.specs.Machine.{start_of}
+use Rattle.xl_house.specs.State.{start_of}
 use Rattle.xl_house.proofs.JournalLaws.{stepped}
 use Rattle.xl_top.specs.declared.make.Draws.{Draws}
 use Rattle.xl_top.specs.Made.{IsMadePart, next, draw, fourth, call_by, call_from, record_of, calls_from, made_entries, made_head, made_journal, summary_from, whole_summary}

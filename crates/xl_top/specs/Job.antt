@@ -12,7 +12,7 @@ use Rattle.xl_base.specs.declared.journal.Journal.{Journal}
 use Rattle.xl_capture.specs.Capture.{default_lease, default_grace, default_break, most_bytes, no_lines}
 use Rattle.xl_house.specs.Journals.{entries_of, replay, is_restart}
 use Rattle.xl_capture.specs.Transcript.{transcript}
-use Rattle.xl_house.specs.Machine.{Whole, start_of}
+use Rattle.xl_house.specs.State.{Whole, start_of}
 use Rattle.xl_capture.specs.declared.capture.Capture.{Capture}
 
 -- the statuses that an ending has

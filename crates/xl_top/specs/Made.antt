@@ -15,7 +15,7 @@ use Rattle.xl_nlm.specs.Granted.{no_auth}
 use Rattle.xl_nlm.specs.Items.{LockItem, CallItem, Test, Lock, Unlock}
 use Rattle.xl_capture.specs.Summary.{summary}
 use Rattle.xl_house.specs.Journals.{entries_of, replay}
-use Rattle.xl_house.specs.Machine.{start_of}
+use Rattle.xl_house.specs.State.{start_of}
 use Rattle.xl_top.specs.Job.{exports_with, head_with}
 
 -- ---- draws: a linear congruential generator below 2 ^ 31, whose upper bits are drawn

@@ -7,7 +7,7 @@ ghost use Rattle.xl_nlm.specs.Arguments.{CallFits, procedure_of};
 ghost use Rattle.xl_nlm.specs.Items.{shown_lock, shown_call};
 ghost use Rattle.xl_house.specs.Housed.{Housed, is_spoiled};
 ghost use Rattle.xl_house.specs.Journals.{replay, entries_of, most_entries};
-ghost use Rattle.xl_house.specs.Machine.{start_of};
+ghost use Rattle.xl_house.specs.State.{start_of};
 ghost use Rattle.xl_top.specs.Words.{most_made};
 ghost use Rattle.xl_top.specs.Made.{next, draw, fourth, exclusive_by, lock_by, asked_by, call_by, call_from, head_to, record_of, calls_from, made, made_files, made_head, made_entries};
 

@@ -8,7 +8,7 @@ ghost use Rattle.xl_house.specs.Awaited.{IsServed};
 ghost use Rattle.xl_house.specs.Free.{AlwaysFree};
 ghost use Rattle.xl_house.specs.Housed.{Housed, is_spoiled};
 ghost use Rattle.xl_house.specs.Journals.{replay, IsLegal, IsOrderly, entries_of, most_entries};
-ghost use Rattle.xl_house.specs.Machine.{start_of};
+ghost use Rattle.xl_house.specs.State.{start_of};
 ghost use Rattle.xl_top.specs.Job.{is_status, is_stepped, is_read, is_replay, is_shown, is_show, is_made, is_idle, AddsShown, BeginsShown, capped, head_of, journal_of, no_journal, IsReplayed, IsBegun, BeginsAs, IsCutAt, AreSteps, is_whole, is_done, is_full, transcript_from, whole_transcript};
 ghost use Rattle.xl_capture.specs.Show.{shown};
 ghost use Rattle.xl_capture.specs.Summary.{granted, denied};

@@ -1,6 +1,6 @@
 use Rattle.std.proofs.Common.{rules}
 use Rattle.std.proofs.lemmas.Fn.{filter_same}
-use Rattle.xl_house.specs.Machine.{without}
+use Rattle.xl_house.specs.State.{without}
 use Rattle.xl_house.proofs.connections.end.Goals as goal
 
 pub returns : goal.returns

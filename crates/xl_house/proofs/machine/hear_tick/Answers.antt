@@ -3,7 +3,7 @@ use Rattle.xl_core.specs.State.{CoreState}
 use Rattle.xl_core.specs.declared.ask.Effect.{Effect}
 use Rattle.xl_house.proofs.HearLaws.{front_ready, front_leaves, tick_leaves}
 use Rattle.xl_house.proofs.QuietLaws.{tick_quiet}
-use Rattle.xl_house.specs.Machine.{grants}
+use Rattle.xl_house.specs.Telling.{grants}
 use Rattle.xl_house.proofs.machine.hear_tick.Goals as goal
 
 pub sent_for-requires : goal.sent_for-requires

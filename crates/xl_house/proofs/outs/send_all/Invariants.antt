@@ -1,7 +1,7 @@
 use Rattle.std.proofs.Common.{◌≡◌, ◌++◌, map}
 use Rattle.std.specs.List.{AllByRecursion}
 use Rattle.xl_programs.specs.Sent.{FitsFrame}
-use Rattle.xl_house.specs.Machine.{framed}
+use Rattle.xl_house.specs.Telling.{framed}
 use Rattle.xl_house.proofs.outs.send_all.Given as goal
 
 abbrev pub invariant-loop-out : goal.invariant-loop-out

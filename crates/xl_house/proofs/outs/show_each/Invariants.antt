@@ -2,7 +2,7 @@ use Rattle.std.proofs.Common.{◌≡◌, ◌+◌, ◌≤◌, drop}
 use Rattle.xl_core.specs.Good.{IsGood}
 use Rattle.xl_core.specs.Numbers.{numbers_of}
 use Rattle.xl_front_nlm.specs.Short.{AreShort}
-use Rattle.xl_house.specs.Machine.{grants, behind, all_shown}
+use Rattle.xl_house.specs.Telling.{grants, behind, all_shown}
 use Rattle.xl_house.proofs.outs.show_each.Given as goal
 
 abbrev pub invariant-loop-effect : goal.invariant-loop-effect

@@ -1,7 +1,7 @@
 use Rattle.std.proofs.Common.{◌∙◌, ap, arith, length, [], ◌∷◌}
 use Rattle.std.proofs.lemmas.List.{length-append}
 use Rattle.xl_house.specs.Journals.{replay, entry}
-use Rattle.xl_house.specs.Machine.{start_of}
+use Rattle.xl_house.specs.State.{start_of}
 use Rattle.xl_top.proofs.MadeLaws.{only_memory, drawn_event, call_stepped, none_left}
 use Rattle.xl_top.proofs.make.step_calls.Goals as goal
 

@@ -1,6 +1,6 @@
 use Rattle.std.proofs.Common.{◌≡◌, ◌+◌, ◌<◌, ◌^◌, ◌++◌, length, None}
 use Rattle.xl_house.specs.Journals.{replay, entries_of}
-use Rattle.xl_house.specs.Machine.{start_of}
+use Rattle.xl_house.specs.State.{start_of}
 use Rattle.xl_top.specs.Made.{calls_from}
 use Rattle.xl_top.proofs.make.step_calls.Given as goal
 

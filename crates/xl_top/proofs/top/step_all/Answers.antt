@@ -3,7 +3,7 @@ use Rattle.std.specs.Vec.Iter.{into_iter_items}
 use Rattle.xl_base.specs.declared.halt.Halt.{Halt}
 use Rattle.xl_base.specs.declared.halt.Halt.TheVariants.{JournalFull}
 use Rattle.xl_house.specs.Journals.{replay}
-use Rattle.xl_house.specs.Machine.{start_of}
+use Rattle.xl_house.specs.State.{start_of}
 use Rattle.xl_house.proofs.JournalLaws.{some_left}
 use Rattle.xl_top.proofs.top.step_all.Goals as goal
 

@@ -1,7 +1,7 @@
 use Rattle.std.proofs.Common.{◌≡◌, ◌++◌, None}
 use Rattle.std.specs.Vec.Iter.{into_iter_items}
 use Rattle.xl_house.specs.Journals.{replay, entries_of}
-use Rattle.xl_house.specs.Machine.{start_of}
+use Rattle.xl_house.specs.State.{start_of}
 use Rattle.xl_top.specs.Job.{AreSteps}
 use Rattle.xl_top.proofs.top.step_all.Given as goal
 
