@@ -1,5 +1,5 @@
 -- Why a ruling is what it is, and what it leaves.
-use Rattle.std.proofs.Common.{◌≡◌, ℕ, Bool, true, false, ◌&&◌, ◌==◌, if◌then◌else◌, List, [], ◌∷◌, length, Option, Some, None, option_map, refl, ap, ◌∙◌}
+use Rattle.std.proofs.Common.{◌≡◌, ℕ, Bool, true, false, ◌&&◌, ◌==◌, if◌then◌else◌, List, [], ◌∷◌, length, Option, Some, None, option_map, refl, ap, subst, ◌∙◌}
 use Rattle.std.specs.List.{filter, list_any}
 use Rattle.std.proofs.lemmas.Bool.{both_ways}
 use Rattle.xl_matrix.specs.declared.claim.Claim.{Claim}
@@ -7,7 +7,7 @@ use Rattle.xl_wait.specs.declared.waiter.Rooms.{Rooms}
 use Rattle.xl_wait.specs.declared.waiter.Waiter.{Waiter}
 use Rattle.xl_core.specs.State.{CoreState}
 use Rattle.xl_core.specs.Blockers.{blockers, is_stopped, cache_against}
-use Rattle.xl_core.specs.Judge.{Ruled, followed, after, held_with, check_grace, waits, stopped, check_held, kept_off, check_caches, full, check_room, check_row, record_name, enter_all, does_wait, at_once, judged, or_else, first_stop}
+use Rattle.xl_core.specs.Judge.{Ruled, followed, after, held_with, check_grace, waits, stopped, check_held, kept_off, check_caches, full, check_room, check_row, record_name, enter_all, does_wait, at_once, judged, or_else, first_stop, IsFew}
 use Rattle.xl_core.specs.Limits.{grant_limits, first_passed}
 use Rattle.xl_table.specs.Flat.{blocks, is_blocked}
 use Rattle.xl_table.specs.Held.{is_cache}
@@ -21,6 +21,7 @@ use Rattle.xl_core.specs.declared.judge.Plea.{Plea}
 use Rattle.xl_core.specs.declared.judge.Ruling.{Ruling}
 use Rattle.xl_core.specs.declared.judge.Ruling.TheVariants.{Gets, Waits, Told}
 use Rattle.xl_core.proofs.BreaksInOrderLaws.{all_final}
+use Rattle.xl_core.proofs.LimitLaws.{grant_room}
 use Rattle.xl_core.proofs.DecideLaws.{blockers_none, none_blockers, some_stops, stopped_blocked, cache_blocked, free_unless, free_moves, free_clear}
 
 -- ---- why a ruling is, and what it leaves
@@ -68,6 +69,7 @@ waits_stopped earlier p s c blocked stopped waits = rw (blocked, stopped) waits
 waits_kept_off : (earlier : List Waiter) (p : Plea) (s : CoreState) (c : Claim) → is_blocked s.claims c ≡ true → is_stopped earlier s c ≡ false → p.awaits ≡ true → does_wait earlier p s c ≡ true
 waits_kept_off earlier p s c blocked moves waits = rw (blocked, moves) waits
 
+-- what stops the first that is stopped has its cause
 row_stops : (earlier : List Waiter) (left : Rooms) (p : Plea) (asked : List Claim) (s : CoreState) → IsStop earlier left p asked s (first_stop earlier left p asked s)
 unfolding check_held check_caches check_room held_with
 row_stops earlier left p [] s = tt
@@ -98,6 +100,19 @@ row_stops earlier left p (c ∷ cs) s = by (least s.names (blockers earlier s c)
   by None (Some d) l e f g passes = stops (Recall d) refl p.awaits p.crowded (λ waits. waits_kept_off earlier p s c (cache_blocked s.claims c d f) (blockers_none earlier s c e) waits) refl
   by None None (Some limit) e f g passes = refl
   by None None None e f g passes = behind (free_unless earlier s c (blockers_none earlier s c e) f) g later passes
+
+-- what stops one of them is no grant
+pub row_gets : (left : Rooms) (p : Plea) (asked : List Claim) (s : CoreState) → first_stop [] left p asked s ≡ Some Gets → ⊥
+row_gets left p asked s e = subst (IsStop [] left p asked s) e (row_stops [] left p asked s)
+
+-- who is left to wait passes no limit by that
+pub row_waits : (left : Rooms) (p : Plea) (asked : List Claim) (s : CoreState) → first_stop [] left p asked s ≡ Some Waits → p.crowded ≡ None
+row_waits left p asked s e = (subst (IsStop [] left p asked s) e (row_stops [] left p asked s)).0
+
+-- where all pass there is room for the names that are kept
+pub row_few : (left : Rooms) (p : Plea) (asked : List Claim) (s : CoreState) → first_stop [] left p asked s ≡ None → IsFew p asked
+row_few left p [] s e = tt
+row_few left p (c ∷ cs) s e = (grant_room left p.rows (length (granted_claims c s.claims)) p.kept (subst (IsStop [] left p (c ∷ cs) s) e (row_stops [] left p (c ∷ cs) s)).1).2
 
 -- of a plea for all of these: nothing is told, and all of them are held then, or none
 abbrev pub IsRuled : List Waiter → Rooms → Plea → List Claim → CoreState → Ruling → List Effect → CoreState → Type 0

@@ -1,16 +1,13 @@
 //! The order of decisions, read for those who ask and for those who wait.
 ghost use Rattle.std.specs.Prelude.{◌≡◌, ℕ, ◌≤◌, List, [], ◌∷◌, length, true, false, Option, Some, None, Ok, IfOk, IfSome};
 ghost use Rattle.std.specs.List.{AllByRecursion};
-ghost use Rattle.xl_table.specs.Changes.{written, MayBeWritten};
 ghost use Rattle.xl_table.specs.Held.{has_one_party, IsGrantable, IsKept};
 ghost use Rattle.xl_table.specs.Relock.{granted_claims, most_claims};
 ghost use Rattle.xl_wait.specs.declared.waiter.Waiter.{Waiter};
-ghost use Rattle.xl_core.specs.Blockers.{blockers, cache_against};
 ghost use Rattle.xl_core.specs.Judge.{check_grace, stopped, waits, check_held, kept_off, check_caches, check_room, at_once, judged, or_else, stop_of, first_stop, stop_left, IsRow, IsFew};
 ghost use Rattle.xl_core.specs.Whole.{state_of};
 ghost use Rattle.xl_core.specs.declared.judge.Ruling.{Ruling};
 ghost use Rattle.xl_core.specs.declared.judge.Ruling.TheVariants.{Gets, Waits};
-ghost use Rattle.xl_names.specs.Names.{most_names};
 
 use crate::ask::Answer;
 use crate::blockers::{cache_against, least_blocker};
@@ -54,7 +51,6 @@ pub(crate) struct Plea {
 fn check_grace(parts: &Parts, plea: &Plea) -> Option<Ruling>
     ensures ruling { check_grace plea.now (state_of parts.now) ≡ (result, [], state_of parts.now) }
     ensures told { IfSome result (λ r. (r ≡ Gets → ⊥) × (r ≡ Waits → ⊥)) }
-    ensures timely { result ≡ None → plea.now.reclaim ≡ false }
 {
     if plea.reclaim {
         return Some(Ruling::Told(Answer::NoGrace(parts.clock)));
@@ -65,8 +61,6 @@ fn check_grace(parts: &Parts, plea: &Plea) -> Option<Ruling>
 /// Who may wait waits, if its wait passes no limit.
 fn wait_for(plea: &Plea) -> Ruling
     ensures ruling { result ≡ waits plea.now.crowded }
-    ensures gets { result ≡ Gets → ⊥ }
-    ensures waits { result ≡ Waits → plea.now.crowded ≡ None }
 {
     match plea.crowded {
         Some(limit) => Ruling::Told(Answer::Full(limit)),
@@ -77,8 +71,6 @@ fn wait_for(plea: &Plea) -> Ruling
 /// Who is stopped by a claim that no break moves waits, if it may.
 fn stopped(plea: &Plea, blocker: Claim) -> Ruling
     ensures ruling { result ≡ stopped plea.now blocker }
-    ensures gets { result ≡ Gets → ⊥ }
-    ensures waits { result ≡ Waits → plea.now.crowded ≡ None }
 {
     if plea.blocking {
         wait_for(plea)
@@ -96,8 +88,6 @@ fn check_held(
     claim: &Claim,
 ) -> Result<Option<Ruling>, AllocError>
     ensures ruling { (earlier : List Waiter) → IfOk result (λ r. check_held earlier plea.now claim.now (state_of parts.now) ≡ r) }
-    ensures gets { result ≡ Ok (Some Gets) → ⊥ }
-    ensures waits { result ≡ Ok (Some Waits) → plea.now.crowded ≡ None }
 {
     Ok(match least_blocker(alloc, parts, claim)? {
         Some(blocker) => Some(stopped(plea, blocker)),
@@ -108,8 +98,6 @@ fn check_held(
 /// Who is kept off by a cache waits for the answer to its break, if it awaits that.
 fn kept_off(plea: &Plea, cache: Claim) -> Ruling
     ensures ruling { result ≡ kept_off plea.now cache }
-    ensures gets { result ≡ Gets → ⊥ }
-    ensures waits { result ≡ Waits → plea.now.crowded ≡ None }
 {
     if plea.awaits {
         wait_for(plea)
@@ -127,8 +115,6 @@ fn check_caches(
     claim: &Claim,
 ) -> Result<Option<Ruling>, AllocError>
     ensures ruling { IfOk result (λ r. check_caches plea.now claim.now (state_of parts.now) ≡ r) }
-    ensures gets { result ≡ Ok (Some Gets) → ⊥ }
-    ensures waits { result ≡ Ok (Some Waits) → plea.now.crowded ≡ None }
 {
     Ok(match cache_against(alloc, parts, claim)? {
         Some(cache) => Some(kept_off(plea, cache)),
@@ -145,8 +131,6 @@ fn check_claims(
     claim: &Claim,
 ) -> Result<Option<Ruling>, AllocError>
     ensures ruling { (earlier : List Waiter) (later : Option Ruling) → IfOk result (λ r. or_else (check_held earlier plea.now claim.now (state_of parts.now)) (or_else (check_caches plea.now claim.now (state_of parts.now)) later) ≡ or_else r later) }
-    ensures gets { result ≡ Ok (Some Gets) → ⊥ }
-    ensures waits { result ≡ Ok (Some Waits) → plea.now.crowded ≡ None }
 {
     let Some(blocker) = parts.table.least_blocker(alloc, &parts.names, claim)? else {
         return Ok(None);
@@ -185,8 +169,7 @@ fn check_room(
 ) -> Option<Ruling>
     requires change { change.now.held ≡ length (granted_claims claim.now parts.now.table) }
     ensures room { check_room left.now plea.now claim.now (state_of parts.now) ≡ result }
-    ensures fits { result ≡ None → (change.now.held ≤ most_claims) × (plea.now.kept ≤ most_names) }
-    ensures told { IfSome result (λ r. (r ≡ Gets → ⊥) × (r ≡ Waits → ⊥)) }
+    ensures fits { result ≡ None → change.now.held ≤ most_claims }
 {
     match passed_by_grant(left, &plea.rows, change.held, plea.kept) {
         Some(limit) => Some(Ruling::Told(Answer::Full(limit))),
@@ -208,9 +191,6 @@ fn judge_one(
     ensures stop { (earlier : List Waiter) → IfOk result (λ r. stop_of earlier left.now plea.now claim.now (state_of parts.old) ≡ r) }
     ensures state { IfOk result (λ r. state_of parts.new ≡ stop_left r (claim.now ∷ []) (state_of parts.old)) }
     ensures kept { result ≡ Ok None → IsKept parts.old.table }
-    ensures few { result ≡ Ok None → plea.now.kept ≤ most_names }
-    ensures gets { result ≡ Ok (Some Gets) → ⊥ }
-    ensures waits { result ≡ Ok (Some Waits) → plea.now.crowded ≡ None }
     ensures queue { parts.new.queue ≡ parts.old.queue }
     ensures names { parts.new.names ≡ parts.old.names }
     ensures counter { parts.new.counter ≡ parts.old.counter }
@@ -240,9 +220,6 @@ fn judge_row(
     requires party { AllByRecursion (λ c. AllByRecursion (λ d. has_one_party c d ≡ true) parts.old.table) claims.now }
     ensures stop { (earlier : List Waiter) → IfOk result (λ r. first_stop earlier left.now plea.now claims.now (state_of parts.old) ≡ r) }
     ensures state { IfOk result (λ r. state_of parts.new ≡ stop_left r claims.now (state_of parts.old)) }
-    ensures few { result ≡ Ok None → IsFew plea.now claims.now }
-    ensures gets { result ≡ Ok (Some Gets) → ⊥ }
-    ensures waits { result ≡ Ok (Some Waits) → plea.now.crowded ≡ None }
     ensures queue { parts.new.queue ≡ parts.old.queue }
     ensures names { parts.new.names ≡ parts.old.names }
     ensures counter { parts.new.counter ≡ parts.old.counter }

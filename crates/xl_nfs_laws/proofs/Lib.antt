@@ -39,3 +39,7 @@ pub mod RequestOrderLaws
 pub mod RequestDelegationLaws
 pub mod RequestNumberLaws
 pub mod RecallLaws
+pub mod OpenCheckLaws
+pub mod AnsweredOpenLaws
+pub mod ClientCaseLaws
+pub mod StatusLaws

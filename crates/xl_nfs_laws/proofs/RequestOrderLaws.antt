@@ -1,5 +1,5 @@
 -- Owners and stateids stay orderly, whatever is asked, expires or goes; and which owners stay as they are.
-use Rattle.std.proofs.Common.{◌≡◌, ℕ, true, false, not, length, List, [], ◌∷◌, Option, Some, None, Ok, Err, refl, inl, inr, true≢false}
+use Rattle.std.proofs.Common.{◌≡◌, ℕ, true, false, not, length, List, Option, Some, None, Ok, Err, refl, inl, inr, true≢false}
 use Rattle.std.proofs.lemmas.Bool.{cases_Bool}
 use Rattle.std.specs.Bool.{◌==◌}
 use Rattle.std.specs.List.{find}

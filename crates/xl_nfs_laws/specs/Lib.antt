@@ -9,3 +9,7 @@ pub mod LockOwners
 pub mod LockStateids
 pub mod RequestOwners
 pub mod OwnerRequests
+pub mod AnsweredStateids
+pub mod ClientCases
+pub mod Statuses
+pub mod Denied

@@ -2,6 +2,8 @@
 //! are the laws.
 #![tactic(auto)]
 
+pub mod answered_stateids;
+pub mod client_cases;
 pub mod delegations;
 pub mod downgrades;
 pub mod lock_numbers;
@@ -17,3 +19,4 @@ pub mod request_numbers;
 pub mod request_order;
 pub mod requests;
 pub mod result_lengths;
+pub mod statuses;

@@ -301,7 +301,7 @@ shown_keeps f s (effects.Expired client) others kept = kept
 
 -- ---- a connection
 
-found_where : (test : Open → Bool) (es : List (ℕ × Open)) (k : ℕ) (row : Open) → lookup (nat_eq k) es ≡ Some row → test row ≡ true → list_any (nat_eq k) (keys_where test es) ≡ true
+pub found_where : (test : Open → Bool) (es : List (ℕ × Open)) (k : ℕ) (row : Open) → lookup (nat_eq k) es ≡ Some row → test row ≡ true → list_any (nat_eq k) (keys_where test es) ≡ true
 found_where test [] k row at passes = absurd (none_some at)
 found_where test (e ∷ es) k row at passes =
     elim (cases_Bool (eqb k e.0)) [

@@ -1,11 +1,10 @@
 -- The key of a lease is in use on one file, and an open comes under the lease that it asks for and stays there.
-use Rattle.std.proofs.Common.{◌≡◌, ℕ, Bool, true, false, not, ◌&&◌, ◌||◌, eqb, List, [], ◌∷◌, ◌++◌, Option, Some, None, if◌then◌else◌, refl, sym, ap, subst, ◌∙◌, inl, inr, arith}
+use Rattle.std.proofs.Common.{◌≡◌, ℕ, Bool, true, false, not, eqb, List, [], ◌∷◌, ◌++◌, Option, Some, None, if◌then◌else◌, refl, sym, ap, subst, ◌∙◌, inl, inr}
 use Rattle.std.specs.Prelude.{nat_eq, bytes_eq}
 use Rattle.std.specs.List.{AllByRecursion, IsDistinct, filter_map, list_any}
 use Rattle.std.specs.Map.{keys_of, lookup, set_value}
 use Rattle.std.specs.Option.{option_map}
 use Rattle.std.proofs.lemmas.Bool.{cases_Bool, true≢false, false≢true, and_parts}
-use Rattle.std.proofs.lemmas.Bool.Decides.{nat_tests}
 use Rattle.std.proofs.lemmas.Map.Keys.{IsDistinct-head, IsDistinct-tail}
 use Rattle.std.proofs.lemmas.Slice.Eq.{bytes_eq-Decides}
 use Rattle.xl_base.proofs.Members.{all_append, all_weaker}
@@ -13,7 +12,7 @@ use Rattle.xl_base.specs.Lists.{IsIn}
 use Rattle.xl_smb_state.proofs.LeaseLaws.{none_found, others_apart, same_lease_self}
 use Rattle.xl_smb_state.proofs.LinkLaws.{same_lease_is}
 use Rattle.xl_smb_state.proofs.RowLaws.{all_mapped, all_set, equal_from, equal_self, none_some, same_Some}
-use Rattle.xl_smb_state.specs.State.{Lists, closed, come_under, file_for, grown_row, is_empty, is_key, is_of_file, joined, kept_lease, key_file, key_of, lease_begun, lease_joined, lease_of, left_row, open_added, or_else, same_lease, session_dropped, tree_dropped, trees_of, sessions_on, waiting_file, with_open, without}
+use Rattle.xl_smb_state.specs.State.{Lists, closed, come_under, file_for, grown_row, is_empty, is_key, is_of_file, joined, kept_lease, key_file, key_of, lease_begun, lease_joined, lease_of, left_row, open_added, or_else, same_lease, tree_dropped, trees_of, sessions_on, waiting_file, with_open, without}
 use Rattle.xl_smb_state.specs.declared.row.Lease.{Lease}
 use Rattle.xl_smb_state.specs.declared.row.LeaseKey.{LeaseKey}
 use Rattle.xl_smb_state.specs.declared.row.Open.{Open}
@@ -87,7 +86,7 @@ used_by l e (request.Create made) key file under at = let own = own_file key fil
 
 -- ---- the key of an open is this
 
-key_is : (key : LeaseKey) (row : Open) → is_key key row.client row.lease ≡ true → key_of (Some row) ≡ Some key
+pub key_is : (key : LeaseKey) (row : Open) → is_key key row.client row.lease ≡ true → key_of (Some row) ≡ Some key
 key_is key row is = by row.lease is
   where
     by : (name : Option (List ℕ)) → is_key key row.client name ≡ true → option_map {U = LeaseKey} (λ k. record { client = row.client; key = k }) name ≡ Some key
@@ -269,11 +268,11 @@ still_listed other number (n ∷ ns) apart here =
       | inr stays ↦ rw stays (elim (cases_Bool (eqb other n)) [ inl it ↦ rw it refl | inr more ↦ rw more (still_listed other number ns apart (rw more at here)) ])
     ]
 
-not_empty : (k : ℕ) (ns : List ℕ) → list_any (nat_eq k) ns ≡ true → is_empty ns ≡ false
+pub not_empty : (k : ℕ) (ns : List ℕ) → list_any (nat_eq k) ns ≡ true → is_empty ns ≡ false
 not_empty k [] here = absurd (false≢true here)
 not_empty k (n ∷ ns) here = refl
 
-left_found : (key : LeaseKey) (number : ℕ) (es : List (LeaseKey × Lease)) (row : Lease) → lookup (same_lease key) es ≡ Some row → is_empty (without number row.opens) ≡ false → lookup (same_lease key) (filter_map (kept_lease number) es) ≡ Some (left_row number row)
+pub left_found : (key : LeaseKey) (number : ℕ) (es : List (LeaseKey × Lease)) (row : Lease) → lookup (same_lease key) es ≡ Some row → is_empty (without number row.opens) ≡ false → lookup (same_lease key) (filter_map (kept_lease number) es) ≡ Some (left_row number row)
 left_found key number [] row at filled = absurd (none_some at)
 left_found key number (e ∷ es) row at filled =
     elim (cases_Bool (same_lease key e.0)) [

@@ -12,7 +12,6 @@ use Rattle.xl_matrix.specs.Blocks.{is_cache}
 use Rattle.xl_matrix.specs.Equal.{same_parties}
 use Rattle.xl_matrix.specs.declared.claim.Claim.{Claim}
 use Rattle.xl_names.specs.Names.{number_of}
-use Rattle.xl_names.specs.declared.name.Name.{Name}
 use Rattle.xl_names.specs.declared.name.Name.TheVariants.{SmbLease}
 use Rattle.xl_table.specs.Leaving.{goes, is_of_some}
 use Rattle.xl_table.specs.declared.leaver.Leaver.TheVariants as leavers_of

@@ -15,3 +15,6 @@ pub mod StillUntoldLaws
 pub mod KeptWaiterLaws
 pub mod GrantedCreateLaws
 pub mod LeaseLaws
+pub mod OpenRightLaws
+pub mod NothingHeldLaws
+pub mod ReplyHeadLaws

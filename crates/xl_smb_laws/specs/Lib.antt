@@ -1,2 +1,4 @@
 pub mod LockLaws
+pub mod OpenRights
+pub mod ReplyHeads
 pub mod WaitingRequests

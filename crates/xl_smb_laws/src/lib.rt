@@ -3,4 +3,7 @@
 
 pub mod awaiting;
 pub mod cancelling;
+pub mod ending;
+pub mod opens;
+pub mod replying;
 pub mod requests;

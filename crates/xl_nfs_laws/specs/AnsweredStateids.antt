@@ -1,0 +1,75 @@
+-- What a request on a stateid is judged by, and the stateid that it is answered (RFC 7530 9.1.4, 9.1.7).
+use Rattle.std.specs.Prelude.{◌≡◌, ℕ, Bool, false, ◌⊎◌, Option, Some}
+use Rattle.std.specs.List.{find}
+use Rattle.xl_nfs.specs.declared.basics.Stateid.{Stateid}
+use Rattle.xl_nfs.specs.declared.status.NfsStatus.{NfsStatus}
+use Rattle.xl_nfs.specs.declared.status.NfsStatus.TheVariants as statuses
+use Rattle.xl_nfs_state.specs.State.{NfsLists, is_stateid}
+use Rattle.xl_nfs_state.specs.Verdict.{next_seqid}
+use Rattle.xl_nfs_state.specs.declared.owner.OwnerRow.{OwnerRow}
+use Rattle.xl_nfs_state.specs.declared.owner.SeqidState.{SeqidState}
+use Rattle.xl_nfs_state.specs.declared.stateid.StateidRow.{StateidRow}
+use Rattle.xl_core.specs.State.{CoreState}
+use Rattle.xl_nfs_laws.specs.LockStateids.{IsLocksOf}
+use Rattle.xl_nfs_laws.specs.OpenLaws.{IsOpenOf}
+use Rattle.xl_nfs_opens.specs.Plans.{Outcome}
+use Rattle.xl_nfs_opens.specs.Renewing.{number_of as number_in_other, stateid_of}
+
+-- ---- what passes, and what is out of order
+
+-- the open is on the current file and not closed, and the seqid is the one after its owner's last, whose requests have come this far
+pub record IsNextOnOpen (s : CoreState) (l : NfsLists) (current : Option ℕ) (seqid : ℕ) (stateid : Stateid) (r : StateidRow) (w : ℕ) (seqids : SeqidState) : Type 0 where
+  pub row : OwnerRow
+  pub opened : IsOpenOf s l stateid r w row
+  pub file : current ≡ Some r.file
+  pub live : r.standing.closed ≡ false
+  pub seqids_is : seqids ≡ row.seqids
+  pub seqid_is : seqid ≡ next_seqid row.seqids.seqid
+
+-- the seqid is neither the one after the owner's last, nor the last with the operation of the last
+pub record IsAstray (o : OwnerRow) (op seqid : ℕ) : Type 0 where
+  pub not_next : seqid ≡ next_seqid o.seqids.seqid → ⊥
+  pub not_last : seqid ≡ o.seqids.seqid → op ≡ o.seqids.op → ⊥
+
+-- the stateid is of an open that is on the current file and not closed, and its owner's seqid is astray
+pub record IsOutOfOrder (s : CoreState) (l : NfsLists) (current : Option ℕ) (op seqid : ℕ) (stateid : Stateid) : Type 0 where
+  pub row : StateidRow
+  pub number : ℕ
+  pub owner : OwnerRow
+  pub opened : IsOpenOf s l stateid row number owner
+  pub file : current ≡ Some row.file
+  pub live : row.standing.closed ≡ false
+  pub astray : IsAstray owner op seqid
+
+-- the same of locks
+pub record AreLocksOutOfOrder (s : CoreState) (l : NfsLists) (current : Option ℕ) (op seqid : ℕ) (stateid : Stateid) : Type 0 where
+  pub row : StateidRow
+  pub number : ℕ
+  pub owner : OwnerRow
+  pub locks : IsLocksOf s l stateid row number owner
+  pub file : current ≡ Some row.file
+  pub live : row.standing.closed ≡ false
+  pub astray : IsAstray owner op seqid
+
+-- the statuses with which a stateid is refused by what it names, or by its owner's seqid
+abbrev pub IsCheckStatus : NfsStatus → Type 0
+IsCheckStatus status = (status ≡ statuses.NoFileHandle) ⊎ (status ≡ statuses.StaleStateid) ⊎ (status ≡ statuses.BadStateid) ⊎ (status ≡ statuses.BadSeqid)
+
+-- ---- what is answered
+
+-- The request named a stateid that was there, by its own seqid. What it is answered is the stateid of the same number,
+-- which is there then, with the seqid that it has then, the one after: of the same owner, client and file, and closed
+-- or not.
+pub record IsAnswered (s : CoreState) (l : NfsLists) (asked told : Stateid) (closed : Bool) (done : Outcome) : Type 0 where
+  pub was : StateidRow
+  pub row : StateidRow
+  pub named : number_in_other s asked.other ≡ Some was.number
+  pub found : find (is_stateid was.number) l.stateids ≡ Some was
+  pub seqid : asked.seqid ≡ was.standing.seqid
+  pub stands : find (is_stateid was.number) done.3.stateids ≡ Some row
+  pub told_is : told ≡ stateid_of done.4 was.number row.standing.seqid
+  pub advanced : row.standing.seqid ≡ next_seqid was.standing.seqid
+  pub holder : row.holder ≡ was.holder
+  pub client : row.client ≡ was.client
+  pub file : row.file ≡ was.file
+  pub closed_is : row.standing.closed ≡ closed

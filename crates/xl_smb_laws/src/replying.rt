@@ -1,0 +1,29 @@
+//! Laws of replies: what their headers repeat, and what they say. The functions do nothing: their clauses are the laws.
+ghost use Rattle.std.specs.Prelude.{◌≡◌, ℕ, ◌==◌, true, false, List, Some, None};
+ghost use Rattle.xl_core.specs.State.{CoreState};
+ghost use Rattle.xl_core.specs.declared.ask.Answer.{Answer};
+ghost use Rattle.xl_front_smb.specs.Replies.{reply_of};
+ghost use Rattle.xl_front_smb.specs.declared.told.Told.{Told};
+ghost use Rattle.xl_smb.specs.declared.head.SmbHead.{SmbHead};
+ghost use Rattle.xl_smb_laws.specs.ReplyHeads.{IsFinalOf, IsReplyOf};
+ghost use Rattle.xl_smb_locks.specs.Finals.{failed_reply, final_reply};
+ghost use Rattle.xl_smb_locks.specs.declared.status.SmbStatus.{SmbStatus};
+ghost use Rattle.xl_smb_state.specs.State.{Lists};
+ghost use Rattle.xl_smb_state.specs.declared.row.Waiting.{Waiting};
+
+/// The header of a reply is its request's, whatever it is answered (MS-SMB2 3.3.4.1): MessageId, command, charge and credits;
+/// its status is that of what is answered; the AsyncId, with the asynchronous flag, is in STATUS_PENDING alone. A CANCEL gets
+/// none (3.3.5.16), each other request that is answered one.
+pub fn replies_repeat_their_requests()
+    ensures carried { (h : SmbHead) (told : Told) (bytes : List ℕ) → reply_of h told ≡ Some bytes → IsReplyOf h told bytes }
+    ensures silent { (h : SmbHead) (told : Told) → (h.command == 12) ≡ true → reply_of h told ≡ None }
+    ensures nothing { (h : SmbHead) → reply_of h Told.Nothing ≡ None }
+    ensures answered { (h : SmbHead) (told : Told) → (h.command == 12) ≡ false → reply_of h told ≡ None → told ≡ Told.Nothing }
+{}
+
+/// The header of a final reply is that of the request that waited, whatever becomes of it (MS-SMB2 3.3.4.2): its MessageId,
+/// session and command, and the AsyncId that STATUS_PENDING named.
+pub fn final_replies_repeat_their_requests()
+    ensures served { (s : CoreState) (l : Lists) (id : ℕ) (row : Waiting) (answer : Answer) → IsFinalOf id row (final_reply s l id row answer row.request) }
+    ensures failed { (id : ℕ) (row : Waiting) (status : SmbStatus) → IsFinalOf id row (failed_reply id row status) }
+{}
