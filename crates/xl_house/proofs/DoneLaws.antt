@@ -1,5 +1,5 @@
 -- What is done in a round leaves the core as its deeds do, and the core takes them; and so it is of an entry.
-use Rattle.std.proofs.Common.{◌≡◌, ℕ, Bool, true, false, inl, inr, List, [], ◌∷◌, ◌++◌, length, Option, Some, None, refl, sym, ap, subst, ◌∙◌, append_assoc, append-nil}
+use Rattle.std.proofs.Common.{◌≡◌, ℕ, Bool, true, false, inl, inr, List, [], ◌∷◌, ◌++◌, Option, Some, None, refl, sym, ap, subst, ◌∙◌, append_assoc, append-nil}
 use Rattle.std.specs.List.{AllByRecursion}
 use Rattle.xl_base.proofs.Members.{all_append}
 use Rattle.xl_base.specs.declared.event.Event.{Event}
@@ -45,7 +45,7 @@ use Rattle.xl_house.specs.Owners.{AreRefusals, AreOf}
 use Rattle.xl_house.specs.State.{Whole, as_found, nfs_opens, smb_opens, kind_of, rooms_of}
 use Rattle.xl_house.specs.Telling.{TurnTaken, showing, framed_by, all_shown, taken, turns, turns_sent, settled}
 use Rattle.xl_house.proofs.TurnLaws.{of_turns}
-use Rattle.xl_house.proofs.MayLaws.{May, MayEnd, nlm_may, nfs_may, smb_may, last_may}
+use Rattle.xl_house.proofs.MayLaws.{nlm_may, nfs_may, smb_may, last_may}
 
 -- ---- telling
 

@@ -1,6 +1,6 @@
 -- Machines that keep nothing, drop who waits, let go what is to be kept, stand still at a reading of the clock, or forget requests of
 -- SMB that wait, or their opens, don't meet the laws of an entry.
-use Rattle.std.proofs.Common.{◌≡◌, ℕ, zero, suc, ◌≤◌, nat_lt, if◌then◌else◌, Bool, true, false, List, [], ◌∷◌, Option, Some, None, refl, sym, ap, subst, ◌∙◌, arith}
+use Rattle.std.proofs.Common.{◌≡◌, ℕ, nat_lt, if◌then◌else◌, Bool, true, false, List, [], ◌∷◌, Option, Some, None, refl, sym, ap, subst, ◌∙◌, arith}
 use Rattle.std.specs.Prelude.{nat_eq}
 use Rattle.std.specs.List.{AllByRecursion}
 use Rattle.std.specs.Map.{lookup}
@@ -11,9 +11,7 @@ use Rattle.xl_base.specs.Stable.{Stable}
 use Rattle.xl_base.specs.declared.event.Event.TheVariants.{Message, Tick}
 use Rattle.xl_base.specs.declared.event.Moment.{Moment}
 use Rattle.xl_base.specs.declared.event.Out.{Out}
-use Rattle.xl_base.specs.declared.event.Event.{Event}
 use Rattle.xl_base.specs.declared.journal.Entry.{Entry}
-use Rattle.xl_base.specs.declared.journal.Exports.{Exports}
 use Rattle.xl_base.specs.declared.name.Owner.TheVariants as owners
 use Rattle.xl_smb_state.proofs.RowLaws.{none_some}
 use Rattle.xl_smb_state.specs.State.{Lists, open_of}
@@ -32,7 +30,7 @@ use Rattle.xl_core.specs.Deeds.{Deed, Asks, queue_after, any_ends_break}
 use Rattle.xl_core.specs.Leases.{Lease, ended}
 use Rattle.xl_core.specs.Places.{IsChangedBy}
 use Rattle.xl_core.specs.Smallest.{all_room, smallest_lock}
-use Rattle.xl_core.specs.State.{CoreState, started, step_begun}
+use Rattle.xl_core.specs.State.{CoreState, started}
 use Rattle.xl_core.specs.declared.ask.Act.TheVariants.{Test}
 use Rattle.xl_core.specs.declared.ask.Ask.{Ask}
 use Rattle.xl_core.specs.declared.lease.Times.{Times}

@@ -2,11 +2,10 @@
 use Rattle.std.proofs.Common.{◌≡◌, ℕ, ◌+◌, false, List, [], ◌∷◌, refl, sym, ap, subst, ◌∙◌}
 use Rattle.xl_base.specs.Stable.{Stable, raised}
 use Rattle.xl_base.specs.declared.event.Event.{Event}
-use Rattle.xl_base.specs.declared.event.Event.TheVariants.{Open, Message, End, Called, Tick, Restart}
+use Rattle.xl_base.specs.declared.event.Event.TheVariants.{Restart}
 use Rattle.xl_base.specs.declared.event.Moment.{Moment}
 use Rattle.xl_base.specs.declared.event.Out.{Out}
 use Rattle.xl_base.specs.declared.journal.Entry.{Entry}
-use Rattle.xl_base.specs.declared.journal.Exports.{Exports}
 use Rattle.xl_base.specs.declared.journal.Head.{Head}
 use Rattle.xl_core.specs.State.{CoreState, MayBe, GoesOn, started, step_begun}
 use Rattle.xl_core.proofs.DeedLists.{deeds_good}

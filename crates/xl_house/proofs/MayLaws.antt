@@ -1,5 +1,5 @@
 -- Which deeds the fronts' tables have: such as a message may do, or the end of a connection. None of them tells of a grant.
-use Rattle.std.proofs.Common.{◌≡◌, ℕ, ◌+◌, true, false, inl, inr, Option, Some, None, List, [], ◌∷◌, ◌++◌, refl, ap, ◌∙◌, arith}
+use Rattle.std.proofs.Common.{◌≡◌, ℕ, true, false, inl, inr, Option, Some, None, List, [], ◌∷◌, ◌++◌, refl, ap, ◌∙◌, arith}
 use Rattle.std.proofs.lemmas.Bool.{cases_Bool, both_ways}
 use Rattle.std.specs.List.{AllByRecursion}
 use Rattle.xl_base.proofs.Members.{all_weaker}
@@ -14,7 +14,7 @@ use Rattle.xl_core.specs.BreakAnswers.{ack}
 use Rattle.xl_core.specs.Clients.{IsOf, IsOfSome}
 use Rattle.xl_plan.proofs.PlanLaws.{at_each}
 use Rattle.xl_core.specs.Decide.{plea_of, way, ask}
-use Rattle.xl_core.specs.Deeds.{Deed, Asks, GivesBack, Weakens, Acks, Cancels, Ends, Closes, Serves, Draws, Advances, Renews, Expires, given, done, all_told_of, IsFitDeed, AreFit}
+use Rattle.xl_core.specs.Deeds.{Deed, Asks, GivesBack, Weakens, Acks, Cancels, Ends, Closes, Draws, Renews, given, done, all_told_of, IsFitDeed, AreFit}
 use Rattle.xl_core.specs.Frames.{serves_none}
 use Rattle.xl_core.specs.Good.{IsGood}
 use Rattle.xl_core.specs.Settle.{cancel, close_open, give_back, weaken, end_party}

@@ -1,5 +1,5 @@
 -- No out to a connection before its opening or after its end.
-use Rattle.std.proofs.Common.{◌≡◌, ℕ, suc, ◌+◌, Bool, true, false, not, eqb, ltb, inl, inr, Option, Some, None, List, [], ◌∷◌, ◌++◌, length, map, refl, sym, ap, subst, ◌∙◌, arith}
+use Rattle.std.proofs.Common.{◌≡◌, ℕ, suc, Bool, true, false, not, eqb, ltb, inl, inr, Option, Some, None, List, [], ◌∷◌, ◌++◌, length, map, refl, sym, ap, subst, ◌∙◌, arith}
 use Rattle.std.proofs.lemmas.Bool.{cases_Bool, eqb-true, true≢false}
 use Rattle.std.proofs.lemmas.Bool.Decides.{nat_tests}
 use Rattle.std.specs.Prelude.{nat_lt, if◌then◌else◌, option_map}
@@ -9,7 +9,7 @@ use Rattle.xl_base.specs.Lists.{IsIn}
 use Rattle.xl_base.specs.declared.event.Event.{Event}
 use Rattle.xl_base.specs.declared.event.Dest.{Dest}
 use Rattle.xl_base.specs.declared.event.Dest.TheVariants.{Conn, Back}
-use Rattle.xl_base.specs.declared.event.Event.TheVariants.{Open, Message, End, Called, Tick, Restart}
+use Rattle.xl_base.specs.declared.event.Event.TheVariants.{Open, Message, End, Restart}
 use Rattle.xl_base.specs.declared.event.Kind.{Kind}
 use Rattle.xl_base.specs.declared.event.Kind.TheVariants.{Rpc, Smb}
 use Rattle.xl_base.specs.declared.event.Out.{Out}

@@ -8,7 +8,7 @@ use Rattle.xl_nlm.specs.Items as calls
 use Rattle.xl_programs.specs.Programs.{RequestItem}
 use Rattle.xl_smb_state.proofs.RowLaws.{none_some, same_Some}
 use Rattle.xl_core.specs.Askers.{is_lease}
-use Rattle.xl_core.specs.Deeds.{AreFit, Deed, Asks, GivesBack, Weakens, Acks, Cancels, Ends, Serves, Draws, Advances, Lapses, Renews, Expires, Closes, IsFitDeed, done}
+use Rattle.xl_core.specs.Deeds.{AreFit, Deed, Asks, IsFitDeed, done}
 use Rattle.xl_core.specs.Good.{IsGood}
 use Rattle.xl_core.specs.State.{CoreState}
 use Rattle.xl_front_nlm.proofs.DoesLaws as nlm

@@ -1,5 +1,5 @@
 -- Requests of SMB that wait and the core's waiters have each other, whatever is told or done.
-use Rattle.std.proofs.Common.{◌≡◌, ℕ, Bool, true, false, not, List, [], ◌∷◌, Option, Some, None, refl, sym, ap, subst, ◌∙◌}
+use Rattle.std.proofs.Common.{◌≡◌, ℕ, true, false, not, List, [], ◌∷◌, Option, Some, None, refl, sym, ap, subst, ◌∙◌}
 use Rattle.std.specs.List.{AllByRecursion}
 use Rattle.std.proofs.lemmas.Bool.{or_from, or_parts, true≢false}
 use Rattle.xl_base.proofs.Members.{all_from, all_in}
@@ -14,7 +14,7 @@ use Rattle.xl_core.specs.Askers.{is_client, is_lease, is_named}
 use Rattle.xl_core.specs.Clients.{IsOfSome}
 use Rattle.xl_plan.proofs.PlanLaws.{at_both, at_each, fit_at}
 use Rattle.xl_plan.specs.Plans.{AllAt}
-use Rattle.xl_core.specs.Deeds.{AreFit, Deed, Asks, GivesBack, Weakens, Acks, Cancels, Ends, Serves, Draws, Advances, Lapses, Renews, Expires, Closes, IsFitDeed, all_done, all_told_of}
+use Rattle.xl_core.specs.Deeds.{AreFit, Deed, Asks, IsFitDeed, all_done, all_told_of}
 use Rattle.xl_core.specs.Good.{IsGood}
 use Rattle.xl_core.specs.State.{CoreState}
 use Rattle.xl_core.specs.declared.ask.Effect.{Effect}

@@ -1,7 +1,6 @@
 -- What a turn grants to an SMB open was waited for, and the open is there afterwards.
-use Rattle.std.proofs.Common.{◌≡◌, ℕ, ◌-◌, ◌≤◌, Bool, true, false, ◌||◌, List, [], ◌∷◌, ◌++◌, length, map, Option, Some, None, refl, sym, ap, subst, ◌∙◌, arith}
-use Rattle.std.specs.List.{AllByRecursion, list_any}
-use Rattle.std.proofs.lemmas.Bool.{true≢false}
+use Rattle.std.proofs.Common.{◌≡◌, ℕ, ◌-◌, ◌≤◌, false, List, [], ◌∷◌, ◌++◌, length, map, Some, refl, sym, ap, subst, ◌∙◌, arith}
+use Rattle.std.specs.List.{AllByRecursion}
 use Rattle.xl_base.proofs.Members.{all_in}
 use Rattle.xl_base.specs.Lists.{IsIn}
 use Rattle.xl_base.specs.declared.event.Event.{Event}
@@ -11,33 +10,27 @@ use Rattle.xl_base.specs.declared.event.Out.{Out}
 use Rattle.xl_base.specs.declared.journal.Entry.{Entry}
 use Rattle.xl_base.specs.declared.journal.Exports.{Exports}
 use Rattle.xl_base.specs.declared.journal.Head.{Head}
-use Rattle.xl_base.specs.declared.name.Owner.{Owner}
-use Rattle.xl_base.specs.declared.name.Owner.TheVariants as owners
-use Rattle.xl_matrix.specs.Equal.{same_owners}
 use Rattle.xl_matrix.specs.declared.claim.Claim.{Claim}
-use Rattle.xl_smb_state.proofs.RowLaws.{equal_self}
 use Rattle.xl_smb_state.specs.Links.{most_opens}
 use Rattle.xl_smb_state.specs.State.{Lists, open_of, waiting_of}
 use Rattle.xl_smb_state.specs.declared.row.Open.{Open as OpenRow}
 use Rattle.xl_smb_state.specs.declared.row.Request.{Request}
 use Rattle.xl_smb_state.specs.declared.row.Request.TheVariants as request
 use Rattle.xl_smb_state.specs.declared.row.Waiting.{Waiting}
-use Rattle.xl_wait.specs.declared.waiter.Waiter.{Waiter}
 use Rattle.xl_core.proofs.GoodLaws.{begun_good}
 use Rattle.xl_core.specs.Good.{IsGood}
-use Rattle.xl_core.specs.Settle.{settle, waits_as}
+use Rattle.xl_core.specs.Settle.{settle}
 use Rattle.xl_core.specs.State.{CoreState, step_begun}
 use Rattle.xl_core.specs.declared.ask.Answer.TheVariants as answers
 use Rattle.xl_core.specs.declared.ask.Effect.{Effect}
 use Rattle.xl_core.specs.declared.ask.Effect.TheVariants as effects
-use Rattle.xl_smb_locks.specs.Finals.{final_outs, locked_reply, opened_reply}
+use Rattle.xl_smb_locks.specs.Finals.{final_outs, opened_reply}
 use Rattle.xl_core.specs.Ids.{id_of}
 use Rattle.xl_smb_locks.specs.Levels.{caching}
 use Rattle.xl_smb_locks.specs.declared.levels.Caching.{Caching}
 use Rattle.xl_smb_laws.proofs.AwaitedRequestLaws.{row_in}
 use Rattle.xl_smb_laws.proofs.GrantedCreateLaws.{granted_lease, granted_reply, granted_row, granted_share, served_grant, turn_of}
 use Rattle.xl_smb_laws.specs.WaitingRequests.{IsAwaited, IsGranted, IsKept, IsUnder}
-use Rattle.xl_front_smb.specs.Checks.{is_open_on}
 use Rattle.xl_front_smb.specs.FrontSmb.{smb_shown}
 use Rattle.xl_front_smb.specs.Laws.{IsLeased}
 use Rattle.xl_house.specs.Awaited.{AreServed, HasItsOpen, HaveOpens, IsAwaiting, IsServedBy, OpenStands, success_of}

@@ -1,5 +1,5 @@
 -- Telling of effects gives out numbers, and changes nothing else of the core.
-use Rattle.std.proofs.Common.{◌≡◌, ℕ, ◌+◌, ◌<◌, ◌≤◌, Bool, true, false, if◌then◌else◌, inl, inr, Option, Some, None, List, [], ◌∷◌, ◌++◌, length, map, refl, sym, ap, subst, ◌∙◌, arith, append_assoc, drop}
+use Rattle.std.proofs.Common.{◌≡◌, ℕ, ◌+◌, ◌<◌, ◌≤◌, Bool, true, false, if◌then◌else◌, inl, inr, Option, Some, None, List, [], ◌∷◌, length, refl, sym, ap, subst, ◌∙◌, arith, append_assoc, drop}
 use Rattle.std.proofs.Math.ListN.{get_or}
 use Rattle.std.proofs.lemmas.List.{drop_more}
 use Rattle.std.proofs.lemmas.Bool.{cases_Bool}
@@ -12,7 +12,7 @@ use Rattle.xl_core.specs.State.{CoreState, drawn}
 use Rattle.xl_core.specs.Good.{IsGood}
 use Rattle.xl_core.specs.declared.ask.Answer.TheVariants as answers
 use Rattle.xl_core.specs.declared.ask.Effect.{Effect}
-use Rattle.xl_core.specs.declared.ask.Effect.TheVariants.{Begun, Served, Cancelled, Expired}
+use Rattle.xl_core.specs.declared.ask.Effect.TheVariants.{Served}
 use Rattle.xl_core.proofs.GoodLaws.{drawn_good}
 use Rattle.xl_front_nlm.specs.Grants.{news, told_by, shown}
 use Rattle.xl_front_nlm.specs.State.{FrontState}

@@ -1,5 +1,5 @@
 -- The stores of a step.
-use Rattle.std.proofs.Common.{◌≡◌, ℕ, ◌≤◌, sym, ◌∙◌, arith}
+use Rattle.std.proofs.Common.{ℕ, sym, ◌∙◌, arith}
 use Rattle.xl_core.specs.State.{CoreState, MayBe, GoesOn}
 pub use Rattle.xl_core.proofs.FrameLaws.{may_be_made}
 

@@ -3,7 +3,7 @@ use Rattle.std.proofs.Common.{◌≡◌, ℕ, ◌+◌, Bool, true, false, List, 
 use Rattle.std.specs.List.{AllByRecursion}
 use Rattle.std.proofs.lemmas.Bool.{both_ways}
 use Rattle.xl_base.specs.declared.event.Event.{Event}
-use Rattle.xl_base.specs.declared.event.Event.TheVariants.{Open, Message, End, Called, Tick, Restart}
+use Rattle.xl_base.specs.declared.event.Event.TheVariants.{Tick, Restart}
 use Rattle.xl_base.specs.declared.event.Moment.{Moment}
 use Rattle.xl_base.specs.declared.name.Party.{Party}
 use Rattle.xl_matrix.specs.declared.claim.Claim.{Claim}
@@ -14,7 +14,7 @@ use Rattle.xl_core.specs.State.{CoreState, step_begun, drawn}
 use Rattle.xl_core.specs.Askers.{party_named}
 use Rattle.xl_core.specs.BreakAnswers.{ack, client_of}
 use Rattle.xl_core.specs.Decide.{ask}
-use Rattle.xl_core.specs.Deeds.{Deed, Asks, GivesBack, Weakens, Acks, Cancels, Ends, Closes, Serves, Draws, Advances, Lapses, Renews, Expires, turned, done, all_done, IsFitDeed, AreFit}
+use Rattle.xl_core.specs.Deeds.{Deed, Asks, Serves, Draws, Advances, Lapses, Expires, turned, done, all_done, IsFitDeed, AreFit}
 use Rattle.xl_core.specs.Frames.{calls_in, drawn_by, names_after, come_by, IsFrame}
 use Rattle.xl_core.specs.Good.{IsGood}
 use Rattle.xl_core.specs.Leases.{Lease, later, without_lease}

@@ -16,7 +16,6 @@ use Rattle.xl_smb_state.specs.declared.row.Request.TheVariants as request
 use Rattle.xl_smb_state.specs.declared.row.Waiting.{Waiting}
 use Rattle.xl_core.specs.State.{CoreState}
 use Rattle.xl_core.specs.declared.ask.Answer.TheVariants.{Granted}
-use Rattle.xl_core.specs.declared.ask.Effect.{Effect}
 use Rattle.xl_core.specs.declared.ask.Effect.TheVariants.{Served}
 use Rattle.xl_smb_locks.specs.Finals.{final_outs, locked_reply, opened_reply}
 use Rattle.xl_core.specs.Ids.{id_of}

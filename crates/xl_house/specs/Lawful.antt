@@ -1,6 +1,6 @@
 -- What holds of each entry of a journal, whatever protocol it came by: what is held afterwards, who waits, what was
 -- granted, what caused it, and what is sent.
-use Rattle.std.specs.Prelude.{◌≡◌, ℕ, ◌==◌, Bool, true, false, List, [], ◌∷◌, Option, None}
+use Rattle.std.specs.Prelude.{◌≡◌, ℕ, ◌==◌, Bool, true, false, List, [], ◌∷◌}
 use Rattle.std.specs.List.{AllByRecursion}
 use Rattle.xl_base.specs.Lists.{IsIn}
 use Rattle.xl_base.specs.declared.event.Event.{Event}
@@ -10,7 +10,6 @@ use Rattle.xl_base.specs.declared.journal.Entry.{Entry}
 use Rattle.xl_cache.specs.BreakPlans.{is_running}
 use Rattle.xl_matrix.specs.Matrix.{compat}
 use Rattle.xl_matrix.specs.declared.claim.Claim.{Claim}
-use Rattle.xl_names.specs.declared.name.Name.{Name}
 use Rattle.xl_table.specs.Held.{is_cache}
 use Rattle.xl_core.specs.State.{CoreState, step_begun}
 use Rattle.xl_core.specs.BreakAnswers.{due}

@@ -1,5 +1,5 @@
 -- The machine: what one event does to the state, and what it sends.
-use Rattle.std.specs.Prelude.{ℕ, ◌+◌, List, [], ◌++◌, Option, None}
+use Rattle.std.specs.Prelude.{ℕ, ◌+◌, List, [], Option, None}
 use Rattle.xl_base.specs.Stable.{raised}
 use Rattle.xl_base.specs.declared.event.Event.{Event}
 use Rattle.xl_base.specs.declared.event.Event.TheVariants.{Open, Message, End, Restart}

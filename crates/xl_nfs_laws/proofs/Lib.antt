@@ -43,3 +43,5 @@ pub mod OpenCheckLaws
 pub mod AnsweredOpenLaws
 pub mod ClientCaseLaws
 pub mod StatusLaws
+pub mod LockCheckLaws
+pub mod CheckStatusLaws

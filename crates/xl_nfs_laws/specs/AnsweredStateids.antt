@@ -1,6 +1,8 @@
 -- What a request on a stateid is judged by, and the stateid that it is answered (RFC 7530 9.1.4, 9.1.7).
-use Rattle.std.specs.Prelude.{◌≡◌, ℕ, Bool, false, ◌⊎◌, Option, Some}
+use Rattle.std.specs.Prelude.{◌≡◌, ℕ, ◌+◌, ◌-◌, ◌^◌, ◌<◌, Bool, false, ◌⊎◌, Option, Some}
 use Rattle.std.specs.List.{find}
+use Rattle.xl_nfs.specs.declared.basics.LockType.{LockType}
+use Rattle.xl_nfs.specs.declared.basics.LockType.TheVariants as types
 use Rattle.xl_nfs.specs.declared.basics.Stateid.{Stateid}
 use Rattle.xl_nfs.specs.declared.status.NfsStatus.{NfsStatus}
 use Rattle.xl_nfs.specs.declared.status.NfsStatus.TheVariants as statuses
@@ -73,3 +75,17 @@ pub record IsAnswered (s : CoreState) (l : NfsLists) (asked told : Stateid) (clo
   pub client : row.client ≡ was.client
   pub file : row.file ≡ was.file
   pub closed_is : row.standing.closed ≡ closed
+
+-- ---- the bytes and the type of a lock
+
+-- The range has no bytes, or goes past the last byte that there is and isn't of all from its first (RFC 7530 16.10.4).
+abbrev pub IsNoRange : ℕ → ℕ → Type 0
+IsNoRange offset len = (len ≡ 0) ⊎ ((len ≡ 2 ^ 64 - 1 → ⊥) × (2 ^ 64 - 1 < offset + len))
+
+-- An open of this access has no lock of this type: one for reading, which is 1 or 3, has those for reading, and one for
+-- writing, which is 2 or 3, those for writing.
+abbrev pub IsBeyond : LockType → ℕ → Type 0
+IsBeyond types.Read access = (access ≡ 1 → ⊥) × (access ≡ 3 → ⊥)
+IsBeyond types.ReadWaiting access = (access ≡ 1 → ⊥) × (access ≡ 3 → ⊥)
+IsBeyond types.Write access = (access ≡ 2 → ⊥) × (access ≡ 3 → ⊥)
+IsBeyond types.WriteWaiting access = (access ≡ 2 → ⊥) × (access ≡ 3 → ⊥)

@@ -1,20 +1,14 @@
-//! Laws of the stateids that operations are answered, and of the statuses with which a stateid is refused. The functions do
-//! nothing: each has laws as its clauses.
-ghost use Rattle.std.specs.Prelude.{◌≡◌, ◌↔◌, ◌<◌, ◌⊎◌, ℕ, Bool, true, false, [], Option, Some, None, is_some};
+//! Laws of the stateids that operations are answered. The functions do nothing: each has laws as its clauses.
+ghost use Rattle.std.specs.Prelude.{◌≡◌, ℕ, true, false, Option};
 ghost use Rattle.xl_nfs.specs.declared.basics.Stateid.{Stateid};
 ghost use Rattle.xl_nfs.specs.declared.opens.CloseArgs.{CloseArgs};
 ghost use Rattle.xl_nfs.specs.declared.opens.OpenConfirmArgs.{OpenConfirmArgs};
 ghost use Rattle.xl_nfs.specs.declared.opens.OpenDowngradeArgs.{OpenDowngradeArgs};
-ghost use Rattle.xl_nfs.specs.declared.status.NfsStatus.{NfsStatus};
-ghost use Rattle.xl_nfs.specs.declared.status.NfsStatus.TheVariants.{BadSeqid, BadStateid, NoFileHandle, OldStateid, StaleStateid};
 ghost use Rattle.xl_nfs_state.specs.State.{NfsLists};
-ghost use Rattle.xl_nfs_state.specs.declared.owner.SeqidState.{SeqidState as OwnerSeqids};
-ghost use Rattle.xl_nfs_state.specs.declared.stateid.StateidRow.{StateidRow};
 ghost use Rattle.xl_core.specs.State.{CoreState};
 ghost use Rattle.xl_nfs_opens.specs.Closing.{checked, close_by, confirm_by};
 ghost use Rattle.xl_nfs_opens.specs.Downgrades.{downgrade_by};
 ghost use Rattle.xl_nfs_opens.specs.Plans.{carried};
-ghost use Rattle.xl_nfs_opens.specs.declared.opener.Checked.TheVariants.{Passed, Refused};
 ghost use Rattle.xl_nfs_opens.specs.declared.told.Told.TheVariants.{State};
 ghost use Rattle.xl_nfs_laws.specs.AnsweredStateids.{IsAnswered};
 ghost use Rattle.xl_nfs_laws.specs.Orderly.{IsOrderly};

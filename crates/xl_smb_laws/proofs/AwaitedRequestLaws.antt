@@ -986,7 +986,7 @@ commanded_sorts s files others l conn h Other client = tt
 once_sorts : (s : CoreState) (files : List (List ℕ)) (others : ℕ) (l : Lists) (conn : ℕ) (h : SmbHead) (call : CallItem) → Sorts s l (negotiated_by (commanded s files others l conn h call) (client_of conn l))
 once_sorts s files others l conn h call = by_client (Sorts s l) (commanded s files others l conn h call) (client_of conn l) tt (λ client. commanded_sorts s files others l conn h call client)
 
-planned_sorts : (s : CoreState) (files : List (List ℕ)) (others : ℕ) (l : Lists) (conn : ℕ) (h : SmbHead) (call : CallItem) → Sorts s l (planned s files others l conn h call)
+pub planned_sorts : (s : CoreState) (files : List (List ℕ)) (others : ℕ) (l : Lists) (conn : ℕ) (h : SmbHead) (call : CallItem) → Sorts s l (planned s files others l conn h call)
 unfolding planned
 planned_sorts s files others l conn h (Negotiate c) = negotiate_sorts s l conn c
 planned_sorts s files others l conn h (SessionSetup c) = once_sorts s files others l conn h (SessionSetup c)

@@ -211,7 +211,7 @@ opened_by n s l id cache false false false false true plan e = (refl, refl, refl
 opened_by n s l id cache false false false false false plan e = absurd (not_open e)
 
 -- the plan of a file that is found
-unfoldable found_plan : CoreState → ℕ → Lists → SmbHead → List ℕ → Place → CreateCallItem → ℕ → Plan
+unfoldable pub found_plan : CoreState → ℕ → Lists → SmbHead → List ℕ → Place → CreateCallItem → ℕ → Plan
 found_plan s others l h client place c file =
     if nat_lt 5 c.disposition then Fails status.InvalidParameter
     else if overwrites c.disposition then Fails status.NotSupported
@@ -219,7 +219,7 @@ found_plan s others l h client place c file =
     else if is_key_elsewhere file (lease_key client (key_asked c)) l then Fails status.InvalidParameter
     else if has_room_for_open others l (s.counter + 1) then open_as s others l h client place c file (s.counter + 1) else Fails status.InsufficientResources
 
-found_is : (s : CoreState) (files : List (List ℕ)) (others : ℕ) (l : Lists) (conn : ℕ) (h : SmbHead) (client : List ℕ) (c : CreateCallItem) (session file : ℕ) (place : Place) → IsOnTree s l conn h client session place → file_spelled files c.name ≡ Some file
+pub found_is : (s : CoreState) (files : List (List ℕ)) (others : ℕ) (l : Lists) (conn : ℕ) (h : SmbHead) (client : List ℕ) (c : CreateCallItem) (session file : ℕ) (place : Place) → IsOnTree s l conn h client session place → file_spelled files c.name ≡ Some file
     → planned s files others l conn h (Create c) ≡ found_plan s others l h client place c file
 unfolding planned commanded create found_plan
 found_is s files others l conn h client c session file place named at =

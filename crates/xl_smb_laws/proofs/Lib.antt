@@ -18,3 +18,6 @@ pub mod LeaseLaws
 pub mod OpenRightLaws
 pub mod NothingHeldLaws
 pub mod ReplyHeadLaws
+pub mod PlanWalks
+pub mod AskedRowLaws
+pub mod WaitRowLaws

@@ -151,11 +151,11 @@ by_holds n s l conn row number held es None good fault some =
 -- ---- a request
 
 module _ (n : ℕ) (s : CoreState) (files : List (List ℕ)) (others : ℕ) (l : Lists) (conn : ℕ) (h : SmbHead) (client : List ℕ) where
-  lock_planned : (c : LockItem) → client_of conn l ≡ Some client → planned s files others l conn h (Lock c) ≡ lock s l conn client h c
+  pub lock_planned : (c : LockItem) → client_of conn l ≡ Some client → planned s files others l conn h (Lock c) ≡ lock s l conn client h c
   unfolding planned commanded
   lock_planned c at = ap (negotiated_by (λ k. lock s l conn k h c)) at
 
-  lock_named : (c : LockItem) (session : ℕ) (place : Place) (number : ℕ) (row : Open) → IsOfOpen s l conn h client c.file_id session place number row → lock s l conn client h c ≡ lock_on s l conn h number place (elements_of c.elements) row
+  pub lock_named : (c : LockItem) (session : ℕ) (place : Place) (number : ℕ) (row : Open) → IsOfOpen s l conn h client c.file_id session place number row → lock s l conn client h c ≡ lock_on s l conn h number place (elements_of c.elements) row
   unfolding lock
   lock_named c session place number row of =
       ap (in_session (λ k. on_tree (λ p. on_open (λ m. lock_found s l conn h m p (elements_of c.elements) (open_of m l)) (open_named s l conn c.file_id)) (tree_named l conn client h k))) of.0.0.1
@@ -164,7 +164,7 @@ module _ (n : ℕ) (s : CoreState) (files : List (List ℕ)) (others : ℕ) (l :
       ∙ ap (lock_found s l conn h number place (elements_of c.elements)) of.2
 
   -- what holds of LOCK's plan for an open holds of the request's outcome
-  by_lock : (P : Outcome → Type 0) (c : LockItem) (session : ℕ) (place : Place) (number : ℕ) (row : Open) → IsOfOpen s l conn h client c.file_id session place number row → P (carried n s l (lock_on s l conn h number place (elements_of c.elements) row)) → P (outcome_of n s files others l conn h (Lock c))
+  pub by_lock : (P : Outcome → Type 0) (c : LockItem) (session : ℕ) (place : Place) (number : ℕ) (row : Open) → IsOfOpen s l conn h client c.file_id session place number row → P (carried n s l (lock_on s l conn h number place (elements_of c.elements) row)) → P (outcome_of n s files others l conn h (Lock c))
   by_lock P c session place number row of p = subst (λ (x : Plan). P (carried n s l x)) (sym (lock_planned c of.0.0.0 ∙ lock_named c session place number row of)) p
 
   -- LOCK of locks

@@ -479,7 +479,7 @@ commanded_theirs n s files others l conn h Other client known = (tt, tt)
 once_theirs : (n : ℕ) (s : CoreState) (files : List (List ℕ)) (others : ℕ) (l : Lists) (conn : ℕ) (h : SmbHead) (call : CallItem) → IsTheirs n s l conn (negotiated_by (commanded s files others l conn h call) (client_of conn l))
 once_theirs n s files others l conn h call = by_known (IsTheirs n s l conn) (commanded s files others l conn h call) (client_of conn l) (tt, tt) (λ client at. commanded_theirs n s files others l conn h call client at)
 
-planned_theirs : (n : ℕ) (s : CoreState) (files : List (List ℕ)) (others : ℕ) (l : Lists) (conn : ℕ) (h : SmbHead) (call : CallItem) → IsTheirs n s l conn (planned s files others l conn h call)
+pub planned_theirs : (n : ℕ) (s : CoreState) (files : List (List ℕ)) (others : ℕ) (l : Lists) (conn : ℕ) (h : SmbHead) (call : CallItem) → IsTheirs n s l conn (planned s files others l conn h call)
 unfolding planned
 planned_theirs n s files others l conn h (Negotiate c) = negotiate_theirs n s l conn c
 planned_theirs n s files others l conn h (SessionSetup c) = once_theirs n s files others l conn h (SessionSetup c)

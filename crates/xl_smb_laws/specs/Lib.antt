@@ -1,3 +1,4 @@
+pub mod AskedRows
 pub mod LockLaws
 pub mod OpenRights
 pub mod ReplyHeads

@@ -1,6 +1,7 @@
 //! Laws of SMB 2.1 over the core. The functions do nothing: their clauses are the laws.
 #![tactic(auto)]
 
+pub mod asking;
 pub mod awaiting;
 pub mod cancelling;
 pub mod ending;

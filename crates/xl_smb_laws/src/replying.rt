@@ -1,13 +1,18 @@
 //! Laws of replies: what their headers repeat, and what they say. The functions do nothing: their clauses are the laws.
-ghost use Rattle.std.specs.Prelude.{◌≡◌, ℕ, ◌==◌, true, false, List, Some, None};
+ghost use Rattle.std.specs.Prelude.{◌≡◌, ℕ, ◌==◌, true, false, List, [], ◌∷◌, ◌++◌, Some, None};
+ghost use Rattle.xl_core.specs.Good.{IsGood};
 ghost use Rattle.xl_core.specs.State.{CoreState};
 ghost use Rattle.xl_core.specs.declared.ask.Answer.{Answer};
+ghost use Rattle.xl_front_smb.specs.Laws.{outcome_of};
 ghost use Rattle.xl_front_smb.specs.Replies.{reply_of};
 ghost use Rattle.xl_front_smb.specs.declared.told.Told.{Told};
+ghost use Rattle.xl_smb.specs.Calls.{CallItem};
 ghost use Rattle.xl_smb.specs.declared.head.SmbHead.{SmbHead};
-ghost use Rattle.xl_smb_laws.specs.ReplyHeads.{IsFinalOf, IsReplyOf};
+ghost use Rattle.xl_smb_laws.specs.ReplyHeads.{IsFinalOf, IsReplyOf, KeepsHead};
+ghost use Rattle.xl_smb_laws.specs.WaitingRequests.{AreAwaited};
 ghost use Rattle.xl_smb_locks.specs.Finals.{failed_reply, final_reply};
 ghost use Rattle.xl_smb_locks.specs.declared.status.SmbStatus.{SmbStatus};
+ghost use Rattle.xl_smb_state.specs.Links.{AreDistinct};
 ghost use Rattle.xl_smb_state.specs.State.{Lists};
 ghost use Rattle.xl_smb_state.specs.declared.row.Waiting.{Waiting};
 
@@ -26,4 +31,13 @@ pub fn replies_repeat_their_requests()
 pub fn final_replies_repeat_their_requests()
     ensures served { (s : CoreState) (l : Lists) (id : ℕ) (row : Waiting) (answer : Answer) → IsFinalOf id row (final_reply s l id row answer row.request) }
     ensures failed { (id : ℕ) (row : Waiting) (status : SmbStatus) → IsFinalOf id row (failed_reply id row status) }
+{}
+
+/// A request is answered STATUS_PENDING exactly if a row of it comes among the requests that wait (MS-SMB2 3.3.4.2): one row,
+/// behind the others, under the AsyncId that it is told; of a CREATE or a LOCK that came by the connection, with the MessageId
+/// and the session of its header, which its final reply repeats. Whatever else a request is answered, no row comes or goes
+/// by what it comes to.
+pub fn who_is_pending_is_kept()
+    ensures comes { (n : ℕ) (s : CoreState) (files : List (List ℕ)) (others : ℕ) (l : Lists) (conn : ℕ) (h : SmbHead) (call : CallItem) (id : ℕ) → IsGood s → AreDistinct l → AreAwaited s l → (outcome_of n s files others l conn h call).0 ≡ Told.Pending id → (row : Waiting) × ((outcome_of n s files others l conn h call).2.waiting ≡ l.waiting ++ (id, row) ∷ []) × KeepsHead h conn call row }
+    ensures stays { (n : ℕ) (s : CoreState) (files : List (List ℕ)) (others : ℕ) (l : Lists) (conn : ℕ) (h : SmbHead) (call : CallItem) → ((id : ℕ) → (outcome_of n s files others l conn h call).0 ≡ Told.Pending id → ⊥) → (outcome_of n s files others l conn h call).2.waiting ≡ l.waiting }
 {}

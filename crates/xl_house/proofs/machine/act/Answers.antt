@@ -1,4 +1,4 @@
-use Rattle.std.proofs.Common.{arith, ◌∙◌}
+use Rattle.std.proofs.Common.{◌∙◌}
 use Rattle.xl_house.specs.Machine.{connected}
 use Rattle.xl_house.specs.Whole.{whole_of}
 use Rattle.xl_house.proofs.HearLaws.{settle_ready, act_numbers}

@@ -1,8 +1,6 @@
-use Rattle.std.proofs.Common.{◌≡◌, List, ap, ◌∙◌, arith, option_map}
-use Rattle.xl_core.specs.declared.ask.Effect.{Effect}
+use Rattle.std.proofs.Common.{arith, option_map}
 use Rattle.xl_house.proofs.HearLaws.{front_ready, front_leaves}
 use Rattle.xl_house.proofs.QuietLaws.{answer_quiet}
-use Rattle.xl_house.specs.Telling.{grants}
 use Rattle.xl_house.proofs.machine.hear_answer.Goals as goal
 
 pub sent_for-requires : goal.sent_for-requires

@@ -1,9 +1,7 @@
-use Rattle.std.proofs.Common.{◌≡◌, List, ap, ◌∙◌, arith}
-use Rattle.xl_core.specs.declared.ask.Effect.{Effect}
+use Rattle.std.proofs.Common.{arith}
 use Rattle.xl_front_nfs.specs.FrontNfs.{most_drawn}
 use Rattle.xl_house.proofs.HearLaws.{nfs_ready, nfs_leaves}
 use Rattle.xl_house.proofs.QuietLaws.{nfs_quiet}
-use Rattle.xl_house.specs.Telling.{grants}
 use Rattle.xl_programs.specs.Programs.{shown_request}
 use Rattle.xl_house.proofs.machine.hear_nfs.Goals as goal
 

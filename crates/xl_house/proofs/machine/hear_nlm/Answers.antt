@@ -1,8 +1,6 @@
-use Rattle.std.proofs.Common.{◌≡◌, List, ap, ◌∙◌, arith}
-use Rattle.xl_core.specs.declared.ask.Effect.{Effect}
+use Rattle.std.proofs.Common.{arith}
 use Rattle.xl_house.proofs.HearLaws.{front_ready, front_leaves}
 use Rattle.xl_house.proofs.QuietLaws.{step_quiet}
-use Rattle.xl_house.specs.Telling.{grants}
 use Rattle.xl_programs.specs.Programs.{shown_request}
 use Rattle.xl_house.proofs.machine.hear_nlm.Goals as goal
 

@@ -1,4 +1,3 @@
-use Rattle.std.proofs.Common.{refl, sym}
 use Rattle.std.proofs.lemmas.Result.{IfOk-weaker}
 use Rattle.xl_house.proofs.HearLaws.{asked_is_heard}
 use Rattle.xl_programs.specs.Programs.{shown_request}

@@ -1,4 +1,4 @@
-use Rattle.std.proofs.Common.{◌≡◌, List, Option, Ok, ap}
+use Rattle.std.proofs.Common.{List, Option, Ok, ap}
 use Rattle.xl_base.proofs.KeeperLaws.{handed_twice}
 use Rattle.xl_core.specs.declared.ask.Effect.{Effect}
 use Rattle.xl_house.proofs.SettleLaws.{settling_numbers, turn_ready, turn_smaller, turn_preserves, ended_state, ended_settled, ended_leaves}

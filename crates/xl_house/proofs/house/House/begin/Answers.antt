@@ -1,4 +1,4 @@
-use Rattle.std.proofs.Common.{◌≡◌, List, length, ap, ◌∙◌, arith}
+use Rattle.std.proofs.Common.{List, length, ap, ◌∙◌, arith}
 use Rattle.xl_base.specs.declared.journal.Entry.{Entry}
 use Rattle.xl_core.specs.State.{started}
 use Rattle.xl_house.proofs.JournalLaws.{begun_stands, holds_started}

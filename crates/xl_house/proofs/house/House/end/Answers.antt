@@ -1,4 +1,4 @@
-use Rattle.std.proofs.Common.{◌≡◌, sym, ap, ◌∙◌}
+use Rattle.std.proofs.Common.{ap, ◌∙◌}
 use Rattle.xl_house.specs.Housed.{Housed, is_spoiled}
 use Rattle.xl_house.proofs.JournalLaws.{holds_stands}
 use Rattle.xl_house.proofs.LawfulLaws.{always_lawful, always_waiting, always_kept, always_complete, always_caused, always_told}
