@@ -192,8 +192,11 @@ pub lapses_take : Takes is_still_held lapse due IsGood
 lapses_take s c good here =
     let gone = lapse_gone s c good (due_is s c here).1 in
     let t = (lapse s c).1 in (
-      gone.0, gone.1, due_stay s t gone.0 gone.2 gone.3 gone.4,
-      (λ d. ap (λ (cs : List Claim). is_held d cs) gone.2 ∙ held_stay gone.0 d s.claims), lapse_good s c good,
+      gone.0,
+      gone.1,
+      due_stay s t gone.0 gone.2 gone.3 gone.4,
+      (λ d. ap (λ (cs : List Claim). is_held d cs) gone.2 ∙ held_stay gone.0 d s.claims),
+      lapse_good s c good,
     )
 
 -- at first all are held

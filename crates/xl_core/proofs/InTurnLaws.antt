@@ -62,7 +62,8 @@ module _ {A : Type 0} (is_left : CoreState → A → Bool) (does : CoreState →
       let gone = takes s x stays (subst (λ (ys : List A). IsIn x ys) (sym here) (inl refl)) in
       let behind : filter gone.0 (x ∷ filter (is_left s) xs) ≡ filter gone.0 (filter (is_left s) xs) = rw gone.1 refl in (
         gone.2 ∙ ap (λ (ys : List A). filter gone.0 ys) here ∙ behind ∙ filter_both (is_left s) gone.0 xs ∙ sym (filter_alike _ _ gone.3 xs),
-        gone.4, here,
+        gone.4,
+        here,
       )
 
   pub none_left : Takes → (xs : List A) (s : CoreState) → Stays s → AreLeft s xs → all_left (in_turn is_left does xs s).1 ≡ []

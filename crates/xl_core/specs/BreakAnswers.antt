@@ -31,7 +31,7 @@ abbrev pub with_rest : Claim → Option CacheKind → List Claim → List Claim
 with_rest cache None held = removed cache held
 with_rest cache (Some kind) held = changed cache (Cache kind None) held
 
--- The party answered the break: this much is left of its cache (MS-SMB2 3.3.5.22). There is nothing to tell (CACHE-4).
+-- The party answered the break: this much is left of its cache (MS-SMB2 3.3.5.22). It has no effects (CACHE-4).
 unfoldable pub ack : CoreState → Claim → Option CacheKind → List Effect × CoreState
 ack s cache to = ([], record s { claims = with_rest cache to s.claims })
 
@@ -67,7 +67,7 @@ abbrev pub id_of : Option Name → Option (List ℕ)
 id_of (Some (NfsParty id)) = Some id
 id_of _ = None
 
--- the id string of the party, where it is an NFSv4 client
+-- the id string of the party, if it is an NFSv4 client
 abbrev pub client_of : List Name → Party → Option (List ℕ)
 client_of names (parties.Name Nfs number) = id_of (slice_get names number)
 client_of names _ = None

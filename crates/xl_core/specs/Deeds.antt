@@ -53,7 +53,7 @@ pub data Deed : Type 0 where
   Expires : List ℕ → Deed
   Closes : ℕ → Option Party → Deed
 
--- the answer, where the call has one, what is told besides, and the state that is left
+-- the answer, if the call has one, the effects besides, and the state that is left
 abbrev pub Given : Type 0
 Given = Option Answer × List Effect × CoreState
 
@@ -63,7 +63,7 @@ answered r = (Some r.0, r.1, r.2)
 abbrev pub unanswered : List Effect × CoreState → Given
 unanswered r = (None, r.0, r.1)
 
--- where no waiter has a turn nothing happens
+-- if no waiter has a turn nothing happens
 abbrev pub turned : CoreState → Option (List Effect × CoreState) → Given
 turned s None = (None, [], s)
 turned s (Some r) = unanswered r
@@ -127,7 +127,7 @@ AreFit n s (d ∷ ds) = IsFitDeed s d × AreFit n (done n s d) ds
 
 -- ---- who waits
 
--- one who is told to wait comes last
+-- one who is answered that it waits comes last
 abbrev pub queue_with : CoreState → Ask → Answer → List Waiter → List Waiter
 queue_with s a (Queued id) waiters = waiters ++ waiter_of id a (asked_claims a (asked_whats a.act) s.names) ∷ []
 queue_with s a answer waiters = waiters
@@ -159,7 +159,7 @@ waits_after n s (Expires client) waiters = queue_without_party (party_named s.na
 waits_after n s (Closes number party) waiters = filter (λ w. not (waits_as number w)) waiters
 waits_after n s _ waiters = waiters
 
--- who waits after these: who waited, but for those that each of them queued, took out, ended or served, in order
+-- who waits after these: who waited, except those that each of them queued, took out, ended or served, in order
 abbrev pub queue_after : ℕ → CoreState → List Deed → List Waiter → List Waiter
 queue_after n s [] waiters = waiters
 queue_after n s (d ∷ ds) waiters = queue_after n (done n s d) ds (waits_after n s d waiters)

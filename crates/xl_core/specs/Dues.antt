@@ -26,7 +26,7 @@ use Rattle.xl_core.specs.declared.ask.Answer.{Answer}
 use Rattle.xl_core.specs.declared.ask.Answer.TheVariants.{Granted}
 use Rattle.xl_core.specs.declared.ask.Ask.{Ask}
 
--- a share or a lock is granted where it is no reclaim, nothing held stands against it and no limit is passed; and each
+-- a share or a lock is granted if it is no reclaim, nothing held stands against it and no limit is passed; and each
 -- answer has its cause
 pub record IsGrantDue (left : Rooms) (s : CoreState) (a : Ask) (what : What) (answer : Answer) : Type 0 where
   pub free : a.reclaim ≡ false → is_blocked s.claims (asked_claim a what s.names) ≡ false → IsRoom (limits_of_grant left s a (asked_claim a what s.names)) → answer ≡ Granted (asked_claim a what s.names)
@@ -37,7 +37,7 @@ abbrev pub IsWhatDue : Rooms → CoreState → Ask → Option What → Answer �
 IsWhatDue left s a None answer = Unit {0}
 IsWhatDue left s a (Some what) answer = IsGrantDue left s a what answer
 
--- what is due to an ask for these ranges: to one what is due to its claim, and to several the same where something blocks the
+-- what is due to an ask for these ranges: to one what is due to its claim, and to several the same if something blocks the
 -- first, and else that each be judged beside those before it
 abbrev pub IsRangesDue : Rooms → CoreState → Ask → List (Extent × Bool) → Answer → Type 0
 IsRangesDue left s a [] answer = Unit {0}

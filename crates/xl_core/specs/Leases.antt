@@ -18,7 +18,7 @@ moment_after now milliseconds = record { 0 = min (now.0 + milliseconds) (2 ^ 64 
 abbrev pub later : Moment → Moment → Moment
 later a b = if nat_lt a.0 b.0 then b else a
 
--- the leases with the client's ending then: in its place, or behind the others where the client has none
+-- the leases with the client's ending then: in its place, or behind the others if the client has none
 unfoldable pub with_lease : List ℕ → Moment → List Lease → List Lease
 with_lease client until [] = (client, until) ∷ []
 with_lease client until (l ∷ ls) = if bytes_eq client l.0 then (l.0, until) ∷ ls else l ∷ with_lease client until ls
@@ -31,7 +31,7 @@ without_lease client leases = filter (λ l. not (bytes_eq client l.0)) leases
 abbrev pub has_ended : Moment → Lease → Bool
 has_ended now l = nat_le l.1.0 now.0
 
--- these id strings with the client's behind them, where its lease has ended
+-- these id strings with the client's behind them, if its lease has ended
 abbrev pub with_ended : Moment → Lease → List (List ℕ) → List (List ℕ)
 with_ended now l ids = if has_ended now l then ids ++ l.0 ∷ [] else ids
 

@@ -15,20 +15,20 @@ use Rattle.xl_core.specs.Settle.{end_party}
 use Rattle.xl_core.specs.declared.ask.Effect.{Effect}
 use Rattle.xl_core.specs.declared.ask.Effect.TheVariants.{Expired}
 
--- the clock reads this moment, where that is later; it never goes back (HOUSE-7)
+-- the clock reads this moment, if that is later; it never goes back (HOUSE-7)
 unfoldable pub advanced : CoreState → Moment → CoreState
 advanced s now = record s { clock = later s.clock now }
 
--- the client's lease runs for its whole length from now on; there is nothing to tell
+-- the client's lease runs for its whole length from now on; it has no effects
 unfoldable pub renew : CoreState → List ℕ → List Effect × CoreState
 renew s client = ([], record s { leases = with_lease client (moment_after s.clock s.times.lease) s.leases })
 
--- a party ends, where there is one
+-- a party ends, if there is one
 abbrev pub end_some : CoreState → Option Party → List Effect × CoreState
 end_some s None = ([], s)
 end_some s (Some party) = end_party s party
 
--- the client has no lease any more, and that is told behind what was told before
+-- the client has no lease any more, and that is an effect behind those before
 abbrev pub unleased : List ℕ → List Effect × CoreState → List Effect × CoreState
 unleased client r = (r.0 ++ Expired client ∷ [], record r.1 { leases = without_lease client r.1.leases })
 
@@ -71,7 +71,7 @@ lapse_all s = in_turn is_still_held lapse (due s) s
 unfoldable pub expire_all : CoreState → List Effect × CoreState
 expire_all s = in_turn is_lease_over expire (ended s.clock s.leases) s
 
--- The clock reads this moment, where that is later; then each break is over whose deadline has come; then each client
+-- The clock reads this moment, if that is later; then each break is over whose deadline has come; then each client
 -- expires whose lease has ended (CACHE-5).
 unfoldable pub tick : CoreState → Moment → List Effect × CoreState
 tick s now = let r = lapse_all (advanced s now) in behind_told r.0 (expire_all r.1)

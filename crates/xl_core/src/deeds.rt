@@ -57,7 +57,7 @@ pub fn ticks_are_their_deeds()
 
 /// A break is over at its deadline, not before: a batch oplock whose answer is due at moment 7 stands as it is when the clock
 /// reads 6, and is gone when it reads 7. A client that doesn't return its delegation by then has nothing left, also of other
-/// files, and is told to have expired.
+/// files, and its expiry is an effect.
 #[tactic(auto, using(crate::proofs::DeadlineLaws::oplock_stands, crate::proofs::DeadlineLaws::oplock_goes, crate::proofs::DeadlineLaws::client_stands, crate::proofs::DeadlineLaws::client_goes))]
 pub fn breaks_are_over_at_their_deadline()
     ensures stands { (stable : Stable) (times : Times) → (tick (with_claims stable times (broken_oplock ∷ [])) (record { 0 = 6 })).1.claims ≡ broken_oplock ∷ [] }

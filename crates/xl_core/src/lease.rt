@@ -64,12 +64,10 @@ fn has_ended(now: Moment, until: Moment) -> bool
 pub(crate) fn is_ended(leases: &IndexMap<Sequence<u8>, Moment>, now: Moment, client: &[u8]) -> bool
     ensures { result ≡ is_ended now leases.now.entries client.now }
 {
-    leases
-        .iter()
-        .any(|(id, until)| has_ended(now, *until) && client == id.as_slice())
+    leases.iter().any(|(id, until)| has_ended(now, *until) && client == id.as_slice())
 }
 
-/// Puts the id string of the client behind these, where its lease has ended.
+/// Puts the id string of the client behind these, if its lease has ended.
 fn push_ended(
     alloc: Global,
     ids: &mut Vec<Sequence<u8>>,

@@ -21,7 +21,7 @@ use xl_matrix::Claim;
 use xl_names::{Name, Names};
 use xl_table::Leaver;
 
-/// The clock reads this moment, where that is later.
+/// The clock reads this moment, if that is later.
 #[tactic(auto, unfolding(crate::specs::Ticks::advanced), using(crate::proofs::GoodLaws::advanced_good, crate::proofs::UnsettledLaws::advanced_up))]
 fn advance(parts: &mut Parts, now: Moment)
     requires good { IsGood (state_of parts.old) }
@@ -50,7 +50,7 @@ pub(crate) fn renew(
     Ok(Sequence::new(alloc))
 }
 
-/// The party of an NFSv4 client, where its name is kept.
+/// The party of an NFSv4 client, if its name is kept.
 fn party_of(alloc: Global, names: &Names, client: &[u8]) -> Result<Option<Party>, AllocError>
     ensures { IfOk result (λ party. party ≡ party_named names.now (NfsParty client.now)) }
 {
@@ -62,7 +62,7 @@ fn party_of(alloc: Global, names: &Names, client: &[u8]) -> Result<Option<Party>
     )
 }
 
-/// Takes out all claims and waiters of a party, where there is one.
+/// Takes out all claims and waiters of a party, if there is one.
 #[tactic(auto, unfolding(crate::specs::Settle::end_party))]
 fn end_some(
     alloc: Global,
@@ -111,7 +111,7 @@ fn push_all(effects: &mut Sequence<Effect>, more: Sequence<Effect>) -> Result<()
     Ok(())
 }
 
-/// Takes out all that the client has, and its lease, where that has ended, and tells that behind what was told before.
+/// Takes out all that the client has, and its lease, if that has ended, and adds its effects behind those before.
 fn expire_one(
     alloc: Global,
     parts: &mut Parts,
@@ -133,7 +133,7 @@ fn expire_one(
     Ok(())
 }
 
-/// Lets each client expire whose lease has ended, in the order of their id strings, and tells that behind what was told before.
+/// Lets each client expire whose lease has ended, in the order of their id strings, and adds its effects behind those before.
 #[tactic(auto, unfolding(crate::specs::Ticks::expire_all))]
 fn expire_all(
     alloc: Global,
@@ -153,7 +153,7 @@ fn expire_all(
     Ok(())
 }
 
-/// A copy of the id string of the party, where it is an NFSv4 client.
+/// A copy of the id string of the party, if it is an NFSv4 client.
 fn client_of(alloc: Global, names: &Names, party: Party) -> Result<Option<Sequence<u8>>, AllocError>
     ensures { IfOk result (λ client. client ≡ client_of names.now party) }
 {
@@ -189,7 +189,7 @@ fn lapse(
     }
 }
 
-/// Ends the break of a cache, where it is still held, and tells that behind what was told before.
+/// Ends the break of a cache, if it is still held, and adds its effects behind those before.
 fn lapse_one(
     alloc: Global,
     parts: &mut Parts,
@@ -210,7 +210,7 @@ fn lapse_one(
     Ok(())
 }
 
-/// Ends the breaks whose deadline has come, in the order in which they are due, and tells that behind what was told before.
+/// Ends the breaks whose deadline has come, in the order in which they are due, and adds its effects behind those before.
 #[tactic(auto, unfolding(crate::specs::Ticks::lapse_all))]
 fn lapse_all(
     alloc: Global,

@@ -572,6 +572,3 @@ module _ {H O : Type 0} (history : H → List Entry) (halt_of : H → Option Hal
           once = λ p from to. sym (all_times p) ∙ r.once p (omega arith) (omega arith);
         },
       )
-
-pub turn_is : {H O : Type 0} (m : Sat H O) (v : View O) (cs : List (ℕ × Option H)) → m ≡ (v, cs) → m.0.turn ≡ v.turn
-turn_is m v cs e = ap (λ (x : View _ × List (ℕ × Option _)). x.0.turn) e

@@ -93,7 +93,6 @@ impl<H: Serial> Desk<H> {
     /// One event, once the turn is free: the journal begins with all that the pass has seen, and ends with this call, at the
     /// place that is answered. Halted says that this call's step halted the machine, Stopped that it was halted before;
     /// nothing is entered then, and the pass has seen the whole journal. It takes no memory but the step's.
-    #[tactic(auto, using(crate::proofs::Steps::refused_in_turn, crate::proofs::Steps::nothing_grew, crate::proofs::Steps::lawful_from))]
     pub fn call<R: Wait>(
         &self,
         rt: &R,
@@ -115,14 +114,13 @@ impl<H: Serial> Desk<H> {
         give(top, seat);
         match entered {
             Ok(place) => Ok(Receipt { place }),
-            Err(why) => Err(why),
+            Err(why) => return Err(why),
         }
     }
 
     /// What the journal, once the turn is free, sends to the connection in its entries from this place on, and the place
     /// past its last entry. The place is one of those that the pass knows: none before the first, and at most the one past
     /// the last that it has seen. The only error is that memory ran out; the pass has seen the journal all the same (THREAD-6).
-    #[tactic(auto, using(crate::proofs::Steps::lawful_from))]
     pub fn look<R: Wait>(
         &self,
         rt: &R,
@@ -148,7 +146,6 @@ impl<H: Serial> Desk<H> {
     }
 
     /// The place of the journal's first entry, once the turn is free.
-    #[tactic(auto, using(crate::proofs::Steps::lawful_from))]
     pub fn first<R: Wait>(&self, rt: &R, pass: &mut Pass<H>) -> u64
         requires desk { pass.old.desk ≡ self.now }
         ensures desk { pass.new.desk ≡ pass.old.desk }
@@ -178,7 +175,6 @@ impl<H: Serial> Desk<H> {
 
     /// The first call that is due in the journal, once the turn is free, among its entries from this place on, which is as
     /// for `look`. The only error is that memory ran out; the pass has seen the journal all the same (THREAD-6).
-    #[tactic(auto, using(crate::proofs::Steps::lawful_from))]
     pub fn next_call<R: Wait>(
         &self,
         rt: &R,

@@ -43,9 +43,10 @@ fn add_sent(bytes: &mut Vec<u8>, outs: &[Out], conn: u64) -> Result<(), AllocErr
     ensures { IfOk result (λ _. bytes.new.items ≡ bytes.old.items ++ sent_to conn outs.now) }
 {
     'outs: for out in outs {
-        if goes_to(out.dest, conn) {
-            bytes.extend_from_slice(out.bytes.as_slice())?;
+        if !goes_to(out.dest, conn) {
+            continue;
         }
+        bytes.extend_from_slice(out.bytes.as_slice())?;
     }
     Ok(())
 }

@@ -1,11 +1,11 @@
 //! The turn: taken, used and given back.
-ghost use Rattle.std.specs.Prelude.{◌≡◌, ◌≢◌, ◌<◌, ◌≤◌, ◌+◌, ◌^◌, ◌∷◌, ◌++◌, [], length, true, false, None, Some, IfOk, IfErr, IfSome, OnOk};
+ghost use Rattle.std.specs.Prelude.{◌≡◌, ◌≢◌, ◌<◌, ◌≤◌, ◌+◌, ◌∷◌, [], length, true, false, None, Some, IfOk, IfErr, IfSome, OnOk};
 ghost use mathlib.Core.List.{IsPrefix};
 ghost use Rattle.xl_base.specs.Outs.{outs_to};
 ghost use Rattle.xl_base.specs.declared.journal.Entry.{Entry as TheEntry};
 ghost use Rattle.xl_desk.specs.Due.{IsFound, entries_from};
 ghost use Rattle.xl_desk.specs.Passes.{IsRefused};
-ghost use Rattle.xl_desk.specs.Turns.{Tells, HasTurn, Began, with_turn, without_turn, after_call, stopped, number_of};
+ghost use Rattle.xl_desk.specs.Turns.{HasTurn, with_turn, without_turn, after_call, number_of};
 
 use crate::fault::DeskErr;
 use crate::outs::{Due, Found, find, sent};
@@ -79,7 +79,7 @@ fn lift<H: Serial>(top: &Top<H>, seat: &mut Chair<H>) -> H
     requires table { seat.old.table_id ≡ top.now.table_id }
     requires turn { (h : H) × HasTurn H.history H.halt H.origin H.first seat.old.me h }
     ensures seat { (seat.new.table_id ≡ seat.old.table_id) × (seat.new.me ≡ (seat.old.me.0, (0, None) ∷ [])) }
-    ensures tells { Tells H.history H.halt H.origin H.first seat.old.me.0 result }
+    ensures had { HasTurn H.history H.halt H.origin H.first seat.old.me result }
 {
     top.exchange(seat, 0, None).unwrap()
 }
@@ -96,30 +96,19 @@ fn put<H: Serial>(top: &Top<H>, seat: &mut Chair<H>, serial: H)
     let None = empty else { unreachable!() };
 }
 
-/// The halt of the machine in hand, and how many entries it has.
-fn report<H: Serial>(top: &Top<H>, seat: &mut Chair<H>) -> (Option<Halt>, u64)
-    requires table { seat.old.table_id ≡ top.now.table_id }
-    requires turn { (h : H) × HasTurn H.history H.halt H.origin H.first seat.old.me h }
-    ensures seat { (seat.new.table_id ≡ seat.old.table_id) × (seat.new.me.0 ≡ seat.old.me.0) }
-    ensures turn { (h : H) × HasTurn H.history H.halt H.origin H.first seat.new.me h }
-    ensures halt { result.0 ≡ seat.old.me.0.halt }
-    ensures lawful { Began seat.new.me.0 (λ origin. H.lawful origin seat.new.me.0.seen) }
-    ensures may { IfSome result.0 (λ reason. H.may_halt seat.old.me.0.seen reason) }
-    ensures count { result.1 ≡ length seat.old.me.0.seen }
+/// How many entries the machine has, which are a lawful history.
+fn count_of<H: Serial>(serial: &H) -> u64
+    ensures count { result ≡ length (H.history serial.now) }
+    ensures lawful { H.lawful (H.origin serial.now) (H.history serial.now) }
 {
-    let serial = lift(top, seat);
-    let halt = serial.halt();
-    let count = serial.next_place() - serial.first();
-    put(top, seat, serial);
-    (halt, count)
+    serial.next_place() - serial.first()
 }
 
 /// The place of the first entry of the machine in hand.
 pub(crate) fn base<H: Serial>(top: &Top<H>, seat: &mut Chair<H>) -> u64
     requires table { seat.old.table_id ≡ top.now.table_id }
     requires turn { (h : H) × HasTurn H.history H.halt H.origin H.first seat.old.me h }
-    ensures seat { (seat.new.table_id ≡ seat.old.table_id) × (seat.new.me.0 ≡ seat.old.me.0) }
-    ensures turn { (h : H) × HasTurn H.history H.halt H.origin H.first seat.new.me h }
+    ensures seat { (seat.new.table_id ≡ seat.old.table_id) × (seat.new.me ≡ seat.old.me) }
     ensures first { result ≡ seat.old.me.0.first }
 {
     let serial = lift(top, seat);
@@ -128,86 +117,56 @@ pub(crate) fn base<H: Serial>(top: &Top<H>, seat: &mut Chair<H>) -> u64
     first
 }
 
-/// Puts the machine back, which has one entry more than the seat has seen, and counts it.
-fn add<H: Serial>(top: &Top<H>, seat: &mut Chair<H>, serial: H)
-    requires table { (seat.old.table_id ≡ top.now.table_id) × (top.now.table_id.words ≡ 3) × (top.now.table_id.slots ≡ 1) }
-    requires empty { seat.old.me.1 ≡ (0, None) ∷ [] }
-    requires runs { (seat.old.me.0.turn ≡ true) × (seat.old.me.0.halt ≡ None) × (0 < seat.old.me.0.shares) }
-    requires tells { (H.halt serial ≡ None) × (seat.old.me.0.origin ≡ Some (H.origin serial)) × (seat.old.me.0.first ≡ H.first (H.origin serial)) }
-    requires grown { (entry : TheEntry) × (H.history serial ≡ seat.old.me.0.seen ++ entry ∷ []) }
-    requires room { seat.old.me.0.first + length seat.old.me.0.seen + 1 < 2 ^ 64 }
-    requires lawful { H.lawful (H.origin serial) (H.history serial) }
-    ensures seat { seat.new.table_id ≡ seat.old.table_id }
-    ensures done { HasTurn H.history H.halt H.origin H.first seat.new.me serial × ((entry : TheEntry) → H.history serial ≡ seat.old.me.0.seen ++ entry ∷ [] → seat.new.me.0 ≡ after_call seat.old.me.0 entry) }
-{
-    put(top, seat, serial);
-    top.fetch_add::<Add>(seat, 0, 1);
-}
-
-/// Puts the machine back, which has halted, and notes it.
-fn stop<H: Serial>(top: &Top<H>, seat: &mut Chair<H>, serial: H, reason: Halt)
-    requires table { (seat.old.table_id ≡ top.now.table_id) × (top.now.table_id.words ≡ 3) × (top.now.table_id.slots ≡ 1) }
-    requires empty { seat.old.me.1 ≡ (0, None) ∷ [] }
-    requires runs { (seat.old.me.0.turn ≡ true) × (seat.old.me.0.halt ≡ None) × (0 < seat.old.me.0.shares) }
-    requires tells { Tells H.history H.halt H.origin H.first (stopped seat.old.me.0 reason) serial }
-    requires may { H.may_halt seat.old.me.0.seen reason }
-    ensures seat { seat.new.table_id ≡ seat.old.table_id }
-    ensures done { HasTurn H.history H.halt H.origin H.first seat.new.me serial × (seat.new.me.0 ≡ stopped seat.old.me.0 reason) }
-{
-    put(top, seat, serial);
-    top.store::<Stop>(seat, 1, number(Some(reason)));
-}
-
-/// Steps the machine in hand, which isn't halted.
+/// Steps the machine in hand, which isn't halted: it has one entry more then, which is counted, or has halted, which is noted.
 fn step<H: Serial>(
     alloc: Global,
     top: &Top<H>,
     seat: &mut Chair<H>,
     event: Event,
-) -> Result<u64, Halt>
+) -> Result<u64, DeskErr>
     requires table { (seat.old.table_id ≡ top.now.table_id) × (top.now.table_id.words ≡ 3) × (top.now.table_id.slots ≡ 1) }
     requires turn { (h : H) × HasTurn H.history H.halt H.origin H.first seat.old.me h }
     requires runs { seat.old.me.0.halt ≡ None }
     requires takes { H.takes event }
     ensures seat { seat.new.table_id ≡ seat.old.table_id }
-    ensures turn { (h : H) × HasTurn H.history H.halt H.origin H.first seat.new.me h }
+    ensures turn { (h : H) × HasTurn H.history H.halt H.origin H.first seat.new.me h × H.lawful (H.origin h) (H.history h) }
     ensures ok { IfOk result (λ place. (entry : TheEntry) × (seat.new.me.0 ≡ after_call seat.old.me.0 entry) × (entry.event ≡ event) × (place ≡ seat.old.me.0.first + length seat.old.me.0.seen)) }
-    ensures lawful { IfOk result (λ _. Began seat.new.me.0 (λ origin. H.lawful origin seat.new.me.0.seen)) }
-    ensures err { IfErr result (λ reason. (seat.new.me.0 ≡ stopped seat.old.me.0 reason) × H.may_halt seat.old.me.0.seen reason) }
+    ensures err { IfErr result (λ e. IsRefused H.may_halt seat.old.me.0 seat.new.me.0 e) }
 {
     let mut serial = lift(top, seat);
-    match serial.step(alloc, event) {
+    let stepped = serial.step(alloc, event);
+    let count = count_of(&serial);
+    put(top, seat, serial);
+    match stepped {
         Ok(place) => {
-            // What the machine says of its history, it says of the new entry too.
-            serial.next_place();
-            add(top, seat, serial);
+            top.fetch_add::<Add>(seat, 0, 1);
             Ok(place)
         }
         Err(reason) => {
-            stop(top, seat, serial, reason);
-            Err(reason)
+            top.store::<Stop>(seat, 1, number(Some(reason)));
+            Err(DeskErr::Halted(reason, count))
         }
     }
 }
 
 /// Why the machine in hand, which is halted, takes no event.
-#[tactic(auto, using(crate::proofs::Steps::stopped_here))]
 fn refuse<H: Serial>(top: &Top<H>, seat: &mut Chair<H>) -> DeskErr
     requires table { seat.old.table_id ≡ top.now.table_id }
     requires turn { (h : H) × HasTurn H.history H.halt H.origin H.first seat.old.me h }
     requires halted { number_of seat.old.me.0.halt ≢ 0 }
-    ensures seat { (seat.new.table_id ≡ seat.old.table_id) × (seat.new.me.0 ≡ seat.old.me.0) }
-    ensures turn { (h : H) × HasTurn H.history H.halt H.origin H.first seat.new.me h }
-    ensures lawful { Began seat.new.me.0 (λ origin. H.lawful origin seat.new.me.0.seen) }
+    ensures seat { seat.new.table_id ≡ seat.old.table_id }
+    ensures turn { (h : H) × HasTurn H.history H.halt H.origin H.first seat.new.me h × H.lawful (H.origin h) (H.history h) }
     ensures why { IsRefused H.may_halt seat.old.me.0 seat.new.me.0 result }
 {
-    let (halt, count) = report(top, seat);
+    let serial = lift(top, seat);
+    let halt = serial.halt();
+    let count = count_of(&serial);
+    put(top, seat, serial);
     let Some(reason) = halt else { unreachable!() };
     DeskErr::Stopped(reason, count)
 }
 
 /// Steps the machine in hand, unless it is halted.
-#[tactic(auto, using(crate::proofs::Steps::halted_here))]
 pub(crate) fn enter<H: Serial>(
     alloc: Global,
     top: &Top<H>,
@@ -218,22 +177,15 @@ pub(crate) fn enter<H: Serial>(
     requires turn { (h : H) × HasTurn H.history H.halt H.origin H.first seat.old.me h }
     requires takes { H.takes event }
     ensures seat { seat.new.table_id ≡ seat.old.table_id }
-    ensures turn { (h : H) × HasTurn H.history H.halt H.origin H.first seat.new.me h }
+    ensures turn { (h : H) × HasTurn H.history H.halt H.origin H.first seat.new.me h × H.lawful (H.origin h) (H.history h) }
     ensures runs { OnOk result (seat.old.me.0.halt ≡ None) }
     ensures ok { IfOk result (λ place. (entry : TheEntry) × (seat.new.me.0 ≡ after_call seat.old.me.0 entry) × (entry.event ≡ event) × (place ≡ seat.old.me.0.first + length seat.old.me.0.seen)) }
-    ensures lawful { Began seat.new.me.0 (λ origin. H.lawful origin seat.new.me.0.seen) }
     ensures err { IfErr result (λ e. IsRefused H.may_halt seat.old.me.0 seat.new.me.0 e) }
 {
     if top.load::<Check>(seat, 1) != 0 {
         return Err(refuse(top, seat));
     }
-    match step(alloc, top, seat, event) {
-        Ok(place) => Ok(place),
-        Err(reason) => {
-            let (_, count) = report(top, seat);
-            Err(DeskErr::Halted(reason, count))
-        }
-    }
+    step(alloc, top, seat, event)
 }
 
 /// What the machine in hand sends to the connection in its entries from this place on, and the place past the last.
@@ -247,8 +199,7 @@ pub(crate) fn read<H: Serial>(
     requires table { seat.old.table_id ≡ top.now.table_id }
     requires turn { (h : H) × HasTurn H.history H.halt H.origin H.first seat.old.me h }
     requires from { (seat.old.me.0.first ≤ from) × (from ≤ seat.old.me.0.first + length seat.old.me.0.seen) }
-    ensures seat { (seat.new.table_id ≡ seat.old.table_id) × (seat.new.me.0 ≡ seat.old.me.0) }
-    ensures turn { (h : H) × HasTurn H.history H.halt H.origin H.first seat.new.me h }
+    ensures seat { (seat.new.table_id ≡ seat.old.table_id) × (seat.new.me ≡ seat.old.me) }
     ensures read { IfOk result (λ t. (t.0.items ≡ outs_to conn (entries_from seat.old.me.0.first from seat.old.me.0.seen)) × (t.1 ≡ seat.old.me.0.first + length seat.old.me.0.seen)) }
 {
     let serial = lift(top, seat);
@@ -270,8 +221,7 @@ pub(crate) fn search<H: Serial>(
     requires turn { (h : H) × HasTurn H.history H.halt H.origin H.first seat.old.me h }
     requires from { (seat.old.me.0.first ≤ from) × (from ≤ seat.old.me.0.first + length seat.old.me.0.seen) }
     requires share { due.share < due.of }
-    ensures seat { (seat.new.table_id ≡ seat.old.table_id) × (seat.new.me.0 ≡ seat.old.me.0) }
-    ensures turn { (h : H) × HasTurn H.history H.halt H.origin H.first seat.new.me h }
+    ensures seat { (seat.new.table_id ≡ seat.old.table_id) × (seat.new.me ≡ seat.old.me) }
     ensures found { IfOk result (λ found. IsFound due seat.old.me.0.first from seat.old.me.0.seen found) }
 {
     let serial = lift(top, seat);

@@ -82,7 +82,7 @@ module _ (names : List Name) (c : Claim) where
             let there : open_of n l ≡ Some row = ap (λ (k : ℕ). open_of k l) (equal_from number n same) ∙ at in
             let last : is_last_open n l ≡ true = ap (λ (o : Option LeaseKey). is_last_under n o l) (ap key_of there ∙ no_key row none) in
             let going : party_going names l n ≡ Some (parties.Open n) =
-                ap (going_by names l n) there ∙ ap (λ (b : Bool). if b then Some (party_of names n row) else None) last ∙ ap (λ (p : Party). Some p) (party_alone names n row none) in
+            ap (going_by names l n) there ∙ ap (λ (b : Bool). if b then Some (party_of names n row) else None) last ∙ ap (λ (p : Party). Some p) (party_alone names n row none) in
             first_goes (n, party_going names l n) (leavers names (closed n l) ns) c (ap (λ (o : Option Party). One (n, o) c) going ∙ cache_goes n (parties.Open n) c is (own ∙ ap (λ (k : ℕ). parties.Open k) (sym (equal_from number n same)))))
         | inr apart ↦ later_goes (n, party_going names l n) (leavers names (closed n l) ns) c (alone_goes number row ns (closed n l) (open_apart n number l apart ∙ at) none (rw apart at here) is own)
       ]
@@ -138,7 +138,7 @@ module _ (names : List Name) (c : Claim) where
           let found = under_key key row.file n l (open_of n l) refl (among_those (λ k. is_under key row.file (open_of k l) ≡ true) n row.opens some all under) in
           let last : is_last_open n l ≡ true = ap (λ (o : Option LeaseKey). is_last_under n o l) (ap key_of found.1 ∙ found.2) ∙ ap (is_last n) at ∙ all in
           let going : party_going names l n ≡ Some (lease_party names key.client key.key) =
-              ap (going_by names l n) found.1 ∙ ap (λ (b : Bool). if b then Some (party_of names n found.0) else None) last ∙ ap (λ (p : Party). Some p) (party_under names n found.0 key found.2) in
+          ap (going_by names l n) found.1 ∙ ap (λ (b : Bool). if b then Some (party_of names n found.0) else None) last ∙ ap (λ (p : Party). Some p) (party_under names n found.0 key found.2) in
           ap (λ (o : Option Party). One (n, o) c) going ∙ cache_goes n (lease_party names key.client key.key) c is own
 
 -- ---- all that is under one
