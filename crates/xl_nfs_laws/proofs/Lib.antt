@@ -45,3 +45,7 @@ pub mod ClientCaseLaws
 pub mod StatusLaws
 pub mod LockCheckLaws
 pub mod CheckStatusLaws
+pub mod OpenFlagLaws
+pub mod AnsweredLockLaws
+pub mod RangeStatusLaws
+pub mod RangeToldLaws

@@ -226,7 +226,7 @@ as_tied : (n : ℕ) (files : List (List ℕ)) (others : ℕ) (s : CoreState) (l 
 unfolding open_as
 as_tied n files others s l current at o a confirmed good opener tied = by_tied n others s l current o a confirmed (opened_file files s l o.client at a) good opener tied
 
-gives_all_quiet : (s : CoreState) (o : Opener) (rows : List StateidRow) → AllByRecursion IsQuietDeed (gives_all s o rows)
+pub gives_all_quiet : (s : CoreState) (o : Opener) (rows : List StateidRow) → AllByRecursion IsQuietDeed (gives_all s o rows)
 gives_all_quiet s o [] = tt
 gives_all_quiet s o (r ∷ rs) = all_append IsQuietDeed (gives (share_held s o r.file)) (gives_all (given_up s (share_held s o r.file)) o rs) (gives_quiet s o r.file (share_held s o r.file) refl) (gives_all_quiet (given_up s (share_held s o r.file)) o rs)
 

@@ -1,21 +1,30 @@
 -- What a request on a stateid is judged by, and the stateid that it is answered (RFC 7530 9.1.4, 9.1.7).
-use Rattle.std.specs.Prelude.{◌≡◌, ℕ, ◌+◌, ◌-◌, ◌^◌, ◌<◌, Bool, false, ◌⊎◌, Option, Some}
-use Rattle.std.specs.List.{find}
+use Rattle.std.specs.Prelude.{◌≡◌, ℕ, ◌+◌, ◌-◌, ◌^◌, ◌<◌, Bool, false, ◌⊎◌, Option, Some, None}
+use Rattle.std.specs.List.{AllByRecursion, find}
 use Rattle.xl_nfs.specs.declared.basics.LockType.{LockType}
 use Rattle.xl_nfs.specs.declared.basics.LockType.TheVariants as types
 use Rattle.xl_nfs.specs.declared.basics.Stateid.{Stateid}
 use Rattle.xl_nfs.specs.declared.status.NfsStatus.{NfsStatus}
 use Rattle.xl_nfs.specs.declared.status.NfsStatus.TheVariants as statuses
-use Rattle.xl_nfs_state.specs.State.{NfsLists, is_stateid}
+use Rattle.xl_nfs_state.specs.State.{NfsLists, is_stateid, is_whose, with_stateids, without}
 use Rattle.xl_nfs_state.specs.Verdict.{next_seqid}
+use Rattle.xl_nfs_state.specs.declared.owner.OwnerKind.TheVariants as kinds
 use Rattle.xl_nfs_state.specs.declared.owner.OwnerRow.{OwnerRow}
 use Rattle.xl_nfs_state.specs.declared.owner.SeqidState.{SeqidState}
+use Rattle.xl_nfs_state.specs.declared.stateid.Holder.TheVariants as holders
 use Rattle.xl_nfs_state.specs.declared.stateid.StateidRow.{StateidRow}
-use Rattle.xl_core.specs.State.{CoreState}
+use Rattle.xl_nfs_state.specs.declared.stateid.Whose.TheVariants as whose
+use Rattle.xl_core.specs.State.{CoreState, drawn}
+use Rattle.xl_nfs_locks.specs.FirstLocks.{can_enter, counted_both}
+use Rattle.xl_nfs_locks.specs.declared.joining.BothOwners.{BothOwners}
 use Rattle.xl_nfs_laws.specs.LockStateids.{IsLocksOf}
 use Rattle.xl_nfs_laws.specs.OpenLaws.{IsOpenOf}
 use Rattle.xl_nfs_opens.specs.Plans.{Outcome}
 use Rattle.xl_nfs_opens.specs.Renewing.{number_of as number_in_other, stateid_of}
+use Rattle.xl_nfs_opens.specs.Results.{spelled}
+use Rattle.xl_nfs_opens.specs.Seqids.{opener_number}
+use Rattle.xl_nfs_opens.specs.declared.opener.Opener.{Opener}
+use Rattle.xl_nfs_opens.specs.declared.told.Told.TheVariants.{State}
 
 -- ---- what passes, and what is out of order
 
@@ -89,3 +98,27 @@ IsBeyond types.Read access = (access ≡ 1 → ⊥) × (access ≡ 3 → ⊥)
 IsBeyond types.ReadWaiting access = (access ≡ 1 → ⊥) × (access ≡ 3 → ⊥)
 IsBeyond types.Write access = (access ≡ 2 → ⊥) × (access ≡ 3 → ⊥)
 IsBeyond types.WriteWaiting access = (access ≡ 2 → ⊥) × (access ≡ 3 → ⊥)
+
+-- ---- owners of locks
+
+-- an owner of locks has closed nothing by its last request, since it makes no CLOSE
+abbrev pub LockersCloseNothing : NfsLists → Type 0
+LockersCloseNothing l = AllByRecursion (λ (o : OwnerRow). o.name.kind ≡ kinds.Lock → o.seqids.closed ≡ None) l.owners
+
+-- what is remembered once a LOCK under an open, by a lock owner without a stateid there, counted with both owners
+abbrev pub counted_new : CoreState → NfsLists → BothOwners → Opener → NfsLists
+counted_new s l b o = counted_both b o (spelled 12 (State (stateid_of (drawn s) (s.counter + 1) 1))) l
+
+-- its stateid, under the open
+abbrev pub new_locks : CoreState → NfsLists → BothOwners → Opener → StateidRow → StateidRow
+new_locks s l b o r = record {
+  number = s.counter + 1;
+  client = r.client;
+  file = r.file;
+  holder = holders.Lock (opener_number o (counted_new s l b o)) r.number b.number;
+  standing = record { seqid = 1; access = 0; deny = 0; closed = false };
+}
+
+-- it can come
+abbrev pub can_join : CoreState → NfsLists → BothOwners → Opener → StateidRow → Bool
+can_join s l b o r = can_enter (new_locks s l b o r) (with_stateids (counted_new s l b o) (without (is_whose (whose.Stateid (s.counter + 1))) (counted_new s l b o).stateids))

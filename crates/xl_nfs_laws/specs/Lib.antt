@@ -13,3 +13,4 @@ pub mod AnsweredStateids
 pub mod ClientCases
 pub mod Statuses
 pub mod Denied
+pub mod OpenAnswers

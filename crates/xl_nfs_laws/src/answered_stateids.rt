@@ -1,16 +1,28 @@
 //! Laws of the stateids that operations are answered. The functions do nothing: each has laws as its clauses.
-ghost use Rattle.std.specs.Prelude.{◌≡◌, ℕ, true, false, Option};
+ghost use Rattle.std.specs.Prelude.{◌≡◌, ◌+◌, ℕ, true, false, Option, Some};
+ghost use Rattle.std.specs.List.{find};
+ghost use Rattle.xl_nfs.specs.Locks.{LockArgsItem};
 ghost use Rattle.xl_nfs.specs.declared.basics.Stateid.{Stateid};
+ghost use Rattle.xl_nfs.specs.declared.locks.KnownLocker.{KnownLocker as Locker};
+ghost use Rattle.xl_nfs.specs.declared.locks.UnlockArgs.{UnlockArgs as Unlocked};
 ghost use Rattle.xl_nfs.specs.declared.opens.CloseArgs.{CloseArgs};
 ghost use Rattle.xl_nfs.specs.declared.opens.OpenConfirmArgs.{OpenConfirmArgs};
 ghost use Rattle.xl_nfs.specs.declared.opens.OpenDowngradeArgs.{OpenDowngradeArgs};
-ghost use Rattle.xl_nfs_state.specs.State.{NfsLists};
+ghost use Rattle.xl_nfs_state.specs.State.{NfsLists, is_stateid};
+ghost use Rattle.xl_nfs_state.specs.declared.stateid.StateidRow.{StateidRow};
 ghost use Rattle.xl_core.specs.State.{CoreState};
+ghost use Rattle.xl_nfs_locks.specs.Checks.{locks_found};
+ghost use Rattle.xl_nfs_locks.specs.FirstLocks.{joined_new};
+ghost use Rattle.xl_nfs_locks.specs.Locks.{lock_found};
+ghost use Rattle.xl_nfs_locks.specs.Unlocks.{unlock_found};
+ghost use Rattle.xl_nfs_locks.specs.declared.joining.BothOwners.{BothOwners as Owners};
 ghost use Rattle.xl_nfs_opens.specs.Closing.{checked, close_by, confirm_by};
 ghost use Rattle.xl_nfs_opens.specs.Downgrades.{downgrade_by};
 ghost use Rattle.xl_nfs_opens.specs.Plans.{carried};
+ghost use Rattle.xl_nfs_opens.specs.Renewing.{stateid_of};
+ghost use Rattle.xl_nfs_opens.specs.declared.opener.Opener.{Opener as LockOwner};
 ghost use Rattle.xl_nfs_opens.specs.declared.told.Told.TheVariants.{State};
-ghost use Rattle.xl_nfs_laws.specs.AnsweredStateids.{IsAnswered};
+ghost use Rattle.xl_nfs_laws.specs.AnsweredStateids.{IsAnswered, LockersCloseNothing, can_join, new_locks};
 ghost use Rattle.xl_nfs_laws.specs.Orderly.{IsOrderly};
 
 /// What an OPEN_CONFIRM, an OPEN_DOWNGRADE or a CLOSE is answered, once it is OK and no repeat, is the stateid of the open
@@ -21,4 +33,15 @@ pub fn answered_opens_stand()
     ensures confirms { (n : ℕ) (s : CoreState) (l : NfsLists) (current : Option ℕ) (a : OpenConfirmArgs) (told : Stateid) → IsOrderly l → (carried n s l (confirm_by s l current a (checked s l current 20 a.seqid a.stateid))).0 ≡ State told → IsAnswered s l a.stateid told false (carried n s l (confirm_by s l current a (checked s l current 20 a.seqid a.stateid))) }
     ensures downgrades { (n : ℕ) (s : CoreState) (l : NfsLists) (current : Option ℕ) (a : OpenDowngradeArgs) (told : Stateid) → IsOrderly l → (carried n s l (downgrade_by s l current a (checked s l current 21 a.seqid a.stateid))).0 ≡ State told → IsAnswered s l a.stateid told false (carried n s l (downgrade_by s l current a (checked s l current 21 a.seqid a.stateid))) }
     ensures closes { (n : ℕ) (s : CoreState) (l : NfsLists) (current : Option ℕ) (a : CloseArgs) (told : Stateid) → IsOrderly l → (carried n s l (close_by s l current a (checked s l current 4 a.seqid a.stateid))).0 ≡ State told → IsAnswered s l a.stateid told true (carried n s l (close_by s l current a (checked s l current 4 a.seqid a.stateid))) }
+{}
+
+/// So it is of a LOCK by a lock's stateid and of a LOCKU, with the locks that these named, if owners of locks have closed
+/// nothing, as they make no CLOSE (RFC 7530 9.1.4, 16.10, 16.12). One under an open that is OK, of an owner without a stateid
+/// there, is answered a new stateid, with the next number: that of its owner's locks on the file, under the open, which isn't
+/// closed and has that seqid, if it can come.
+pub fn answered_locks_stand()
+    ensures locks { (n : ℕ) (s : CoreState) (l : NfsLists) (current : Option ℕ) (a : LockArgsItem) (x : Locker) (told : Stateid) → IsOrderly l → LockersCloseNothing l → (carried n s l (lock_found s l current a x (locks_found s l current 12 x.seqid x.stateid))).0 ≡ State told → IsAnswered s l x.stateid told false (carried n s l (lock_found s l current a x (locks_found s l current 12 x.seqid x.stateid))) }
+    ensures unlocks { (n : ℕ) (s : CoreState) (l : NfsLists) (current : Option ℕ) (a : Unlocked) (told : Stateid) → IsOrderly l → LockersCloseNothing l → (carried n s l (unlock_found s l current a (locks_found s l current 14 a.seqid a.stateid))).0 ≡ State told → IsAnswered s l a.stateid told false (carried n s l (unlock_found s l current a (locks_found s l current 14 a.seqid a.stateid))) }
+    ensures first { (n : ℕ) (s : CoreState) (l : NfsLists) (current : Option ℕ) (b : Owners) (o : LockOwner) (r : StateidRow) → can_join s l b o r ≡ true → find (is_stateid (s.counter + 1)) (carried n s l (joined_new s l current b o r)).3.stateids ≡ Some (new_locks s l b o r) }
+    ensures told { (n : ℕ) (s : CoreState) (l : NfsLists) (current : Option ℕ) (b : Owners) (o : LockOwner) (r : StateidRow) → (carried n s l (joined_new s l current b o r)).0 ≡ State (stateid_of (carried n s l (joined_new s l current b o r)).4 (s.counter + 1) 1) }
 {}

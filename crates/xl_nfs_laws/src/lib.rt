@@ -11,6 +11,7 @@ pub mod lock_order;
 pub mod lock_owners;
 pub mod lock_seqids;
 pub mod locks;
+pub mod open_answers;
 pub mod open_numbers;
 pub mod open_order;
 pub mod open_seqids;

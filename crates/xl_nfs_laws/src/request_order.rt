@@ -41,7 +41,8 @@ pub fn stateids_are_orderly()
 {}
 
 /// An operation that is no owner's request changes no owner: each that is there afterwards stood so before, with the seqid of
-/// its last request (RFC 7530 9.1.7). Owners go with their client alone.
+/// its last request (RFC 7530 9.1.7). An owner goes with its client, by a RELEASE_LOCKOWNER, or, if it was never confirmed, by
+/// its next OPEN.
 pub fn only_owners_requests_count()
     ensures { (n : ℕ) (files : List (List ℕ)) (others : ℕ) (s : CoreState) (l : NfsLists) (current : Option ℕ) (item : OpItem) (o : OwnerRow) → has_seqid item ≡ false → IsIn o (carried n s l (planned files others s l current item)).3.owners → IsIn o l.owners }
 {}

@@ -177,7 +177,7 @@ dismissed_out told (id ∷ ids) l e distinct named over here =
 
 -- ---- who waits for an open that ends
 
-any_self : (k : ℕ) (ks : List ℕ) → list_any (nat_eq k) ks ≡ true → IsIn k ks
+pub any_self : (k : ℕ) (ks : List ℕ) → list_any (nat_eq k) ks ≡ true → IsIn k ks
 any_self k [] any = absurd (false≢true any)
 any_self k (j ∷ ks) any = elim (cases_Bool (eqb k j)) [ inl same ↦ inl (equal_from k j same) | inr other ↦ inr (any_self k ks (rw other at any)) ]
 

@@ -21,3 +21,6 @@ pub mod ReplyHeadLaws
 pub mod PlanWalks
 pub mod AskedRowLaws
 pub mod WaitRowLaws
+pub mod LockCauseLaws
+pub mod OnceAnsweredLaws
+pub mod RowEndLaws

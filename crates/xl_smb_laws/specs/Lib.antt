@@ -1,4 +1,5 @@
 pub mod AskedRows
+pub mod LockCauses
 pub mod LockLaws
 pub mod OpenRights
 pub mod ReplyHeads

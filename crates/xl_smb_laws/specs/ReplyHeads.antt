@@ -1,5 +1,6 @@
 -- Words of the laws of replies: what their headers repeat, and what they say (MS-SMB2 2.2.1, 3.3.4.1, 3.3.4.2).
-use Rattle.std.specs.Prelude.{◌≡◌, ℕ, ◌==◌, ◌≤◌, true, false, List}
+use Rattle.std.specs.Prelude.{◌≡◌, ℕ, ◌==◌, ◌≤◌, true, false, not, if◌then◌else◌, List, [], ◌∷◌, ◌++◌, filter}
+use Rattle.xl_base.specs.declared.event.Out.{Out}
 use Rattle.xl_smb.specs.Calls.{CallItem, Create, Lock}
 use Rattle.xl_smb.specs.Heads.{is_async, is_set}
 use Rattle.xl_smb.specs.Messages.{Reply, spelling}
@@ -9,7 +10,10 @@ use Rattle.xl_smb.specs.declared.head.SmbHead.{SmbHead}
 use Rattle.xl_smb_state.specs.declared.row.Request.{Request}
 use Rattle.xl_smb_state.specs.declared.row.Request.TheVariants as request
 use Rattle.xl_smb_state.specs.declared.row.Waiting.{Waiting}
+use Rattle.xl_core.specs.declared.ask.Effect.{Effect}
+use Rattle.xl_smb_locks.specs.Finals.{failed_outs, is_cancelled}
 use Rattle.xl_smb_locks.specs.Statuses.{status_number}
+use Rattle.xl_smb_locks.specs.declared.status.SmbStatus.TheVariants.{Cancelled}
 use Rattle.xl_front_smb.specs.Replies.{tree_id}
 use Rattle.xl_front_smb.specs.declared.told.Told.{Told}
 use Rattle.xl_front_smb.specs.declared.told.Told.TheVariants as told
@@ -85,3 +89,15 @@ pub record KeepsHead (h : SmbHead) (conn : ℕ) (call : CallItem) (row : Waiting
   pub charge : row.header.credit_charge ≡ h.credit_charge
   pub command : IsCommandOf call (command_of_request row.request)
   pub connection : row.place.connection ≡ conn
+
+-- ---- those of whom the core tells that they wait no more
+
+-- the final replies, STATUS_CANCELLED, to those of these requests of whom these effects tell so, in order, each to the
+-- connection that it came by
+abbrev pub cancelled_outs : List Effect → List (ℕ × Waiting) → List Out
+cancelled_outs told [] = []
+cancelled_outs told (e ∷ es) = if is_cancelled e.0 told then failed_outs e.0 e.1 Cancelled ++ cancelled_outs told es else cancelled_outs told es
+
+-- the others
+abbrev pub not_cancelled : List Effect → List (ℕ × Waiting) → List (ℕ × Waiting)
+not_cancelled told es = filter (λ e. not (is_cancelled e.0 told)) es

@@ -5,6 +5,7 @@ pub mod asking;
 pub mod awaiting;
 pub mod cancelling;
 pub mod ending;
+pub mod locking;
 pub mod opens;
 pub mod replying;
 pub mod requests;

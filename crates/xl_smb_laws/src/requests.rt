@@ -231,8 +231,9 @@ pub fn a_lease_outlives_its_other_opens()
 {}
 
 /// LOCK of locks of an open that is found (MS-SMB2 3.3.5.14.2): if it is answered that they are locked each range is
-/// held once more, in order behind those that the open had on its file, and the lists stay; if it fails nothing changed
-/// except that breaks of caches began. What others hold stays, as the core's laws of one ask say.
+/// held once more, in order behind those that the open had on its file, and the lists stay; if it fails no share, range,
+/// waiter or name changed, and of the caches, as the law of those says, only those of whose break it tells. What others hold
+/// stays, as the core's laws of one ask say.
 pub fn locked_ranges_are_held()
     ensures held { (n : ℕ) (s : CoreState) (files : List (List ℕ)) (others : ℕ) (l : Lists) (conn : ℕ) (h : SmbHead) (client : List ℕ) (c : LockItem) (session : ℕ) (place : Place) (number : ℕ) (row : Open) → IsOfOpen s l conn h client c.file_id session place number row → unlocks_first (elements_of c.elements) ≡ false → IsGood s → (outcome_of n s files others l conn h (CallItem.Lock c)).0 ≡ Told.Locked → (held_at (outcome_of n s files others l conn h (CallItem.Lock c)).3 (RangesOf row.file number) ≡ held_at s (RangesOf row.file number) ++ map held_as (elements_of c.elements)) × ((outcome_of n s files others l conn h (CallItem.Lock c)).2 ≡ l) }
     ensures refused { (n : ℕ) (s : CoreState) (files : List (List ℕ)) (others : ℕ) (l : Lists) (conn : ℕ) (h : SmbHead) (client : List ℕ) (c : LockItem) (session : ℕ) (place : Place) (number : ℕ) (row : Open) → IsOfOpen s l conn h client c.file_id session place number row → unlocks_first (elements_of c.elements) ≡ false → IsGood s → (status : SmbStatus) → (outcome_of n s files others l conn h (CallItem.Lock c)).0 ≡ Told.Failed status → ((outcome_of n s files others l conn h (CallItem.Lock c)).2 ≡ l) × OnlyBreaks s (outcome_of n s files others l conn h (CallItem.Lock c)).3 }

@@ -9,16 +9,16 @@ put-requires-clause-empty g c = hand_of _ _ _ c.lift-serial.ensures.seat.1
 
 pub fetch_add-requires : goal.fetch_add-requires
 fetch_add-requires g c = let r = c.requires in let t = c.lift-serial.ensures.had in (
-    table_on _ _ _ c.put.ensures.seat (table_on _ _ _ c.lift-serial.ensures.seat.0 r.table.0),
-    word_0 _ r.table.1,
-    may_count g.H.Serial.history g.H.Serial.halt g.H.Serial.origin g.H.Serial.first g.H.Serial.lawful g.H.Serial.may_halt _ _ c.args.seat.now.me.0 c.lift-serial.new.seat.me.0 c.put.new.seat.me c.lift-serial.result _ c.args.event c.in-Ok.place t.1 t.2 r.runs t.3 (view_of _ _ _ c.lift-serial.ensures.seat.1) c.put.ensures.view c.put.ensures.hand c.step-stepped.ensures.origin c.in-Ok.ensures.ok c.count_of-count.ensures.lawful,
+  table_on _ _ _ c.put.ensures.seat (table_on _ _ _ c.lift-serial.ensures.seat.0 r.table.0),
+  word_0 _ r.table.1,
+  may_count g.H.Serial.history g.H.Serial.halt g.H.Serial.origin g.H.Serial.first g.H.Serial.lawful g.H.Serial.may_halt _ _ c.args.seat.now.me.0 c.lift-serial.new.seat.me.0 c.put.new.seat.me c.lift-serial.result _ c.args.event c.in-Ok.place t.1 t.2 r.runs t.3 (view_of _ _ _ c.lift-serial.ensures.seat.1) c.put.ensures.view c.put.ensures.hand c.step-stepped.ensures.origin c.in-Ok.ensures.ok c.count_of-count.ensures.lawful,
 )
 
 pub store-requires : goal.store-requires
 store-requires g c = let r = c.requires in let t = c.lift-serial.ensures.had in (
-    table_on _ _ _ c.put.ensures.seat (table_on _ _ _ c.lift-serial.ensures.seat.0 r.table.0),
-    word_1 _ r.table.1,
-    may_note g.H.Serial.history g.H.Serial.halt g.H.Serial.origin g.H.Serial.first g.H.Serial.lawful g.H.Serial.may_halt _ _ c.args.seat.now.me.0 c.lift-serial.new.seat.me.0 c.put.new.seat.me c.lift-serial.result _ _ c.in-Err.reason t.1 t.2 r.runs (view_of _ _ _ c.lift-serial.ensures.seat.1) c.put.ensures.view c.put.ensures.hand c.in-Err.ensures.err c.number.ensures,
+  table_on _ _ _ c.put.ensures.seat (table_on _ _ _ c.lift-serial.ensures.seat.0 r.table.0),
+  word_1 _ r.table.1,
+  may_note g.H.Serial.history g.H.Serial.halt g.H.Serial.origin g.H.Serial.first g.H.Serial.lawful g.H.Serial.may_halt _ _ c.args.seat.now.me.0 c.lift-serial.new.seat.me.0 c.put.new.seat.me c.lift-serial.result _ _ c.in-Err.reason t.1 t.2 r.runs (view_of _ _ _ c.lift-serial.ensures.seat.1) c.put.ensures.view c.put.ensures.hand c.in-Err.ensures.err c.number.ensures,
 )
 
 pub returns-in-Ok-clause-seat : goal.returns-in-Ok-clause-seat
