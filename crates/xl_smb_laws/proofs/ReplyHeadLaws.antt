@@ -159,11 +159,11 @@ pub served_carries : (s : CoreState) (l : Lists) (id : ℕ) (row : Waiting) (ans
 served_carries s l id row answer = by row.request refl
   where
     locked : (o : Option SmbStatus) → row.request ≡ request.Lock → IsFinalOf id row (final_lock id row o)
-    locked None is = final_carries id row 10 0 Lock (ap command_of_request (sym is)) refl
+    locked None is = final_carries id row _ _ Lock (ap command_of_request (sym is)) refl
     locked (Some said) is = failed_carries id row said
 
     stood : (made : Open) (b : Bool) → row.request ≡ request.Create made → IsFinalOf id row (if b then opened_reply id row (id_of s row.opened) (caching s row.opened made) else failed_reply id row status.InsufficientResources)
-    stood made true is = final_carries id row 5 0 (Create (opened (id_of s row.opened) (caching s row.opened made))) (ap command_of_request (sym is)) refl
+    stood made true is = final_carries id row _ _ (Create (opened (id_of s row.opened) (caching s row.opened made))) (ap command_of_request (sym is)) refl
     stood made false is = failed_carries id row status.InsufficientResources
 
     opens : (made : Open) (o : Option SmbStatus) → row.request ≡ request.Create made → IsFinalOf id row (final_open s l id row made o)

@@ -37,7 +37,7 @@ abbrev pub SaysHere : SmbHead → ℕ → SmbHead → Type 0
 SaysHere h status head = (head.status ≡ status) × (head.session_id ≡ h.session_id) × (head.route ≡ Tree (tree_id h.route))
 
 -- What the header says of what is answered: the status of a failure, STATUS_PENDING, 0x103, with the AsyncId under which the
--- request waits, or STATUS_SUCCESS; and the session and the tree connect are the request's, but for those that begin.
+-- request waits, or STATUS_SUCCESS; and the session and the tree connect are the request's, except those that begin.
 abbrev pub Says : SmbHead → Told → SmbHead → Type 0
 Says h (told.Failed status) head = SaysHere h (status_number status) head
 Says h (told.Pending id) head = (head.status ≡ 0x103) × (head.session_id ≡ h.session_id) × (head.route ≡ Async id)

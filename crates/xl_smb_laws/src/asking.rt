@@ -30,7 +30,7 @@ pub fn what_is_asked_is_of_its_open()
     ensures creates { (n : ℕ) (s : CoreState) (files : List (List ℕ)) (others : ℕ) (l : Lists) (conn : ℕ) (h : SmbHead) (client : List ℕ) (c : CreateCallItem) (session file : ℕ) (place : Place) → IsOnTree s l conn h client session place → file_spelled files c.name ≡ Some file → AllByRecursion (IsAskOf (s.counter + 1) (open_row file client place c)) (deeds_of n s l (planned s files others l conn h (CallItem.Create c))) }
 {}
 
-/// A LOCK of locks, whatever it is answered, leaves each cache as it was, but for those of whose break it tells, which are left
+/// A LOCK of locks, whatever it is answered, leaves each cache as it was, except those of whose break it tells, which are left
 /// as the break says (MS-SMB2 3.3.5.14, 3.3.4.6, 3.3.4.7); so does a CREATE that is refused, or that waits.
 pub fn caches_change_by_breaks_that_are_told()
     ensures locks { (n : ℕ) (s : CoreState) (files : List (List ℕ)) (others : ℕ) (l : Lists) (conn : ℕ) (h : SmbHead) (client : List ℕ) (c : LockItem) (session : ℕ) (place : Place) (number : ℕ) (row : Open) → IsOfOpen s l conn h client c.file_id session place number row → unlocks_first (elements_of c.elements) ≡ false → IsGood s → OnlyTold s (outcome_of n s files others l conn h (CallItem.Lock c)).1 (outcome_of n s files others l conn h (CallItem.Lock c)).3 }

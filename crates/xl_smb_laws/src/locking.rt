@@ -19,7 +19,7 @@ ghost use Rattle.xl_smb_state.specs.State.{Lists, client_of};
 ghost use Rattle.xl_smb_state.specs.declared.row.Open.{Open};
 ghost use Rattle.xl_smb_state.specs.declared.row.Place.{Place};
 
-/// What the flags of a range say (MS-SMB2 2.2.26.1): SHARED_LOCK, 1, and EXCLUSIVE_LOCK, 2, lock, and wait, but for
+/// What the flags of a range say (MS-SMB2 2.2.26.1): SHARED_LOCK, 1, and EXCLUSIVE_LOCK, 2, lock, and wait, except for
 /// FAIL_IMMEDIATELY, 0x10, with them; UNLOCK, 4, unlocks. A range reaches past the last byte exactly if it ends past 2^64.
 pub fn ranges_are_read_by_their_flags()
     ensures shared { (e : LockElement) → e.flags ≡ 1 → IsLockOf false true e }

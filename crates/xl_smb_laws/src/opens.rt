@@ -32,7 +32,7 @@ pub fn what_is_not_shared_is_denied()
     ensures nothing { (access : Rwd) (share : ℕ) → access.r ≡ false → access.w ≡ false → access.d ≡ false → deny_of access share ≡ nothing }
 {}
 
-/// What an open under a lease is told of it is the state of the cache that the lease has on its file, with
+/// What an open under a lease is answered of it is the state of the cache that the lease has on its file, with
 /// SMB2_LEASE_FLAG_BREAK_IN_PROGRESS, 2, exactly if a break of that cache runs (MS-SMB2 2.2.14.2.10, 3.3.5.9.8).
 pub fn leases_are_told_as_they_stand()
     ensures running { (s : CoreState) (number : ℕ) (row : Open) (key : List ℕ) (kind : CacheKind) (running : Break) (rest : List What) → row.lease ≡ Some key → held_at s (CacheOf row.file (lease_party s.names row.client key)) ≡ What.Cache kind (Some running) ∷ rest → caching s number row ≡ Caching.Leased (record { key = key; state = state_of (Some kind); flags = 2; duration = 0 }) }

@@ -38,7 +38,7 @@ pub fn final_replies_repeat_their_requests()
 {}
 
 /// A request is answered STATUS_PENDING exactly if a row of it comes among the requests that wait (MS-SMB2 3.3.4.2): one row,
-/// behind the others, under the AsyncId that it is told; of a CREATE or a LOCK that came by the connection, with the MessageId
+/// behind the others, under the AsyncId that it is given; of a CREATE or a LOCK that came by the connection, with the MessageId
 /// and the session of its header, which its final reply repeats. Whatever else a request is answered, no row comes or goes
 /// by what it comes to.
 pub fn who_is_pending_is_kept()
