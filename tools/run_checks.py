@@ -1,5 +1,5 @@
 #!/usr/bin/env python3
-"""Runs the tests of the tools and the checks of documents, examples and scenarios.
+"""Runs the tests of the tools and the checks of documents, of errors of memory, of examples and of scenarios.
 
     python3 tools/run_checks.py [PROGRAM]
 
@@ -14,6 +14,7 @@ from pathlib import Path
 
 import check_documents
 import check_examples
+import check_memory_errors
 import check_sessions
 import join_scenarios
 
@@ -37,6 +38,7 @@ def main():
     parser.add_argument("program", nargs="?", metavar="PROGRAM", help="a built xlockd, as crates/xlockd/out/xlockd")
     given = parser.parse_args()
     found = [*failed_tests(), *check_documents.faults(ROOT), *check_examples.faults(ROOT / "examples", given.program)]
+    found += check_memory_errors.faults(ROOT)
     found += check_sessions.faults(given.program)
     found += join_scenarios.faults(ROOT)
     for line in found:
