@@ -35,6 +35,7 @@ pub mod DeedLeaves
 pub mod WeakenLaws
 pub mod DeedLaws
 pub mod DeedCaches
+pub mod ByteLaws
 pub mod DeedLists
 pub mod DeedClients
 pub mod HollowLaws

@@ -20,6 +20,7 @@ pub mod Causes
 pub mod Frames
 pub mod Deeds
 pub mod Places
+pub mod Bytes
 pub mod Dues
 pub mod Clients
 pub mod Smallest

@@ -13,3 +13,4 @@ pub mod DoesLaws
 pub mod OwnLaws
 pub mod PlanLaws
 pub mod StatusLaws
+pub mod LeftLaws

@@ -12,3 +12,4 @@ pub mod Grants
 pub mod Answers
 pub mod FrontNlm
 pub mod Statuses
+pub mod Left

@@ -5,6 +5,7 @@ mod aim;
 mod answers;
 mod asks;
 mod call;
+pub mod call_laws;
 mod deeds;
 mod effects;
 mod front;
