@@ -336,7 +336,7 @@ way_own s a r (Waits c cs may blocked is holds e) =
       shares = λ at who apart. refl;
       caches = refl;
       unwished = λ none. refl;
-      stay = λ w h. in_append_left w s.waiters (waiter_of (s.counter + 1) a (c ∷ cs) ∷ []) h;
+      stay = λ w h. in_append_left w s.waiters (waiter_of (s.counter + 1) a (asking_party a s.names) (c ∷ cs) ∷ []) h;
       names = both_go_on a s.names;
     })
 way_own s a r (Frees claim first last holds act file owner e) =
@@ -442,18 +442,18 @@ decided_left n left s a first last c good client named ends act at = by (holds_b
 
 -- ---- who waits stands in the queue
 
-waits_way : (s : CoreState) (a : Ask) (number : ℕ) (r : Answered) → AskWay s a r → r.0 ≡ answers.Queued number → r.2.waiters ≡ s.waiters ++ waiter_of number a (asked_claims a (asked_whats a.act) s.names) ∷ []
+waits_way : (s : CoreState) (a : Ask) (number : ℕ) (r : Answered) → AskWay s a r → r.0 ≡ answers.Queued number → r.2.waiters ≡ s.waiters ++ waiter_of number a (asking_party a s.names) (asked_claims a (asked_whats a.act) s.names) ∷ []
 waits_way s a number r (Stays answer refused e) at = absurd (both_ways (is_refusal answer) (ap is_refusal (sym (ap (λ (x : Answered). x.0) e) ∙ at)) refused)
 waits_way s a number r (Tests c holds e) at = let two : answers.Granted c ≡ answers.Queued number = sym (ap (λ (x : Answered). x.0) e) ∙ at in absurd cc
 waits_way s a number r (Holds c claims is holds e) at = let two : answers.Granted c ≡ answers.Queued number = sym (ap (λ (x : Answered). x.0) e) ∙ at in absurd cc
 waits_way s a number r (Frees c first last holds act file owner e) at = let two : answers.Granted c ≡ answers.Queued number = sym (ap (λ (x : Answered). x.0) e) ∙ at in absurd cc
 waits_way s a number r (Gives c d holds act file owner range e) at = let two : answers.Granted c ≡ answers.Queued number = sym (ap (λ (x : Answered). x.0) e) ∙ at in absurd cc
 waits_way s a number r (Waits c cs may blocked is holds e) at =
-    ap (λ (x : Answered). x.2.waiters) e ∙ (λ i. s.waiters ++ waiter_of (same_number (s.counter + 1) number (sym (ap (λ (x : Answered). x.0) e) ∙ at) i) a (is i) ∷ [])
+    ap (λ (x : Answered). x.2.waiters) e ∙ (λ i. s.waiters ++ waiter_of (same_number (s.counter + 1) number (sym (ap (λ (x : Answered). x.0) e) ∙ at) i) a (asking_party a s.names) (is i) ∷ [])
   where
     same_number : (x y : ℕ) → answers.Queued x ≡ answers.Queued y → x ≡ y
     same_number x y e = cc
 
 pub decided_waits : (n : ℕ) (left : Rooms) (s : CoreState) (a : Ask) (number : ℕ) → IsGood s → is_client a.owner a.party ≡ true → (decided n left s a).0 ≡ answers.Queued number
-    → (decided n left s a).2.waiters ≡ s.waiters ++ waiter_of number a (asked_claims a (asked_whats a.act) s.names) ∷ []
+    → (decided n left s a).2.waiters ≡ s.waiters ++ waiter_of number a (asking_party a s.names) (asked_claims a (asked_whats a.act) s.names) ∷ []
 decided_waits n left s a number good client at = waits_way s a number (decided n left s a) (decided_way n left s a good client) at

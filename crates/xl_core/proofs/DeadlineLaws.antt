@@ -4,7 +4,7 @@ use Rattle.xl_base.specs.Stable.{Stable}
 use Rattle.xl_matrix.specs.Equal.{same_what, same_claims}
 use Rattle.xl_core.specs.BreakAnswers.{due}
 use Rattle.xl_core.specs.Leases.{without_lease, ended, is_ended}
-use Rattle.xl_core.specs.Settle.{waits_for, numbers_with, end_party}
+use Rattle.xl_core.specs.Settle.{waits_for, told_with, end_party}
 use Rattle.xl_core.specs.Smallest.{broken_oplock, its_share, broken_delegation, with_claims}
 use Rattle.xl_core.specs.Ticks.{advanced, expire, lapse_all, expire_all, lapse, tick}
 use Rattle.xl_core.specs.declared.ask.Effect.TheVariants.{Expired}
@@ -23,5 +23,5 @@ unfolding tick advanced lapse_all due expire_all ended
 client_stands stable times = refl
 
 pub client_goes : (stable : Stable) (times : Times) → (let r = tick (with_claims stable times (broken_delegation ∷ its_share ∷ [])) (record { 0 = 7 }) in (r.1.claims ≡ []) × (r.0 ≡ Expired [] ∷ []))
-unfolding tick advanced lapse_all due lapse same_claims same_what expire end_party numbers_with waits_for without_lease expire_all ended
+unfolding tick advanced lapse_all due lapse same_claims same_what expire end_party told_with waits_for without_lease expire_all ended
 client_goes stable times = (refl, refl)

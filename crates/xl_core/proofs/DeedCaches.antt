@@ -120,9 +120,9 @@ lapse_caches s cache = lapsed_caches s cache (client_of s.names cache.party)
 -- what is told before a grant is of breaks
 served_behind : (t : CoreState) (way effects : List Effect) (caches : List Claim) → serves_none way ≡ true → caches_served t (way ++ effects) caches ≡ caches_served t effects caches
 served_behind t [] effects caches none = refl
-served_behind t (Served id answer ∷ told) effects caches none = absurd (both_ways false refl none)
+served_behind t (Served party id answer ∷ told) effects caches none = absurd (both_ways false refl none)
 served_behind t (Begun c to call ∷ told) effects caches none = served_behind t told effects caches none
-served_behind t (Cancelled id ∷ told) effects caches none = served_behind t told effects caches none
+served_behind t (Cancelled party id ∷ told) effects caches none = served_behind t told effects caches none
 served_behind t (Expired text ∷ told) effects caches none = served_behind t told effects caches none
 
 first_caches : (left : Rooms) (s : CoreState) (turn : Turned) → IsGood s → IsFirst left s [] s.waiters turn → caches_of turn.1.claims ≡ caches_served (next_way s).1 turn.0 (caches_of (next_way s).1.claims)
@@ -162,7 +162,7 @@ first_caches left s turn good first =
         let once : once_served t w.id answer ≡ u = ap (λ (cs : List Claim). once_answered t w cs answer) there in
         ap (λ (x : CoreState). caches_of x.claims) new ∙ wish_for_caches w.wish answer u (served_good left s turn first good answer pass).0
         ∙ ap (caches_wished w.wish answer u) (once_cases (λ cs. caches_of cs ≡ caches_of t.claims) all t.claims answer refl (all_granted_caches all t.claims))
-        ∙ sym (ap (λ (effects : List Effect). caches_served t effects (caches_of t.claims)) told ∙ served_behind t way.0 (Served w.id answer ∷ []) (caches_of t.claims) (way_serves first.before (plea_again s w) w.asked s)
+        ∙ sym (ap (λ (effects : List Effect). caches_served t effects (caches_of t.claims)) told ∙ served_behind t way.0 (Served w.party w.id answer ∷ []) (caches_of t.claims) (way_serves first.before (plea_again s w) w.asked s)
         ∙ (λ i. caches_wished (wishes i) answer (once i) (caches_of t.claims)))
     by (Rests e up) =
         ap (λ (x : Turned). caches_of x.1.claims) e

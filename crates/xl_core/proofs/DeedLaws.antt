@@ -32,7 +32,7 @@ use Rattle.xl_wait.specs.declared.waiter.Waiter.{Waiter}
 use Rattle.xl_core.specs.State.{CoreState, drawn}
 use Rattle.xl_core.specs.Askers.{asked_what, asked_whats, asked_claim, known_claim, IsFit, IsFitAct, known_owner, range_what, asked_claims, both_entered}
 use Rattle.xl_core.specs.Causes.{IsTurn, held_once}
-use Rattle.xl_core.specs.Askers.{party_named}
+use Rattle.xl_core.specs.Askers.{asking_party, party_named}
 use Rattle.xl_core.specs.BreakAnswers.{may_be_left, ack, due, client_of}
 use Rattle.xl_core.specs.Ticks.{advanced, renew, end_some, unleased, expire, lapsed_by, lapse}
 use Rattle.xl_names.specs.declared.name.Name.TheVariants.{NfsParty}
@@ -489,23 +489,23 @@ once_made left s w asked answers.StoreFailed p good known pass = refl
 -- what is told before a grant is of breaks
 told_behind : (t : CoreState) (way effects : List Effect) (p : Place) → serves_none way ≡ true → told_at t (way ++ effects) p ≡ told_at t effects p
 told_behind t [] effects p none = refl
-told_behind t (Served id answer ∷ told) effects p none = absurd (both_ways false refl none)
+told_behind t (Served party id answer ∷ told) effects p none = absurd (both_ways false refl none)
 told_behind t (Begun c to call ∷ told) effects p none = told_behind t told effects p none
-told_behind t (Cancelled id ∷ told) effects p none = told_behind t told effects p none
+told_behind t (Cancelled party id ∷ told) effects p none = told_behind t told effects p none
 told_behind t (Expired text ∷ told) effects p none = told_behind t told effects p none
 
 wished_behind : (t : CoreState) (way effects : List Effect) (p : Place) → serves_none way ≡ true → wished_then t (way ++ effects) p ≡ wished_then t effects p
 wished_behind t [] effects p none = refl
-wished_behind t (Served id answer ∷ told) effects p none = absurd (both_ways false refl none)
+wished_behind t (Served party id answer ∷ told) effects p none = absurd (both_ways false refl none)
 wished_behind t (Begun c to call ∷ told) effects p none = wished_behind t told effects p none
-wished_behind t (Cancelled id ∷ told) effects p none = wished_behind t told effects p none
+wished_behind t (Cancelled party id ∷ told) effects p none = wished_behind t told effects p none
 wished_behind t (Expired text ∷ told) effects p none = wished_behind t told effects p none
 
 queue_behind : (way effects : List Effect) (ws : List Waiter) → serves_none way ≡ true → queue_without (way ++ effects) ws ≡ queue_without effects ws
 queue_behind [] effects ws none = refl
-queue_behind (Served id answer ∷ told) effects ws none = absurd (both_ways false refl none)
+queue_behind (Served party id answer ∷ told) effects ws none = absurd (both_ways false refl none)
 queue_behind (Begun c to call ∷ told) effects ws none = queue_behind told effects ws none
-queue_behind (Cancelled id ∷ told) effects ws none = queue_behind told effects ws none
+queue_behind (Cancelled party id ∷ told) effects ws none = queue_behind told effects ws none
 queue_behind (Expired text ∷ told) effects ws none = queue_behind told effects ws none
 
 -- the breaks, then what is granted, then the wish
@@ -564,7 +564,7 @@ first_made left s turn p good first =
     by (Answers answer told new due pass clear) =
         let u = once_answered t w all answer in
         let once : once_served t w.id answer ≡ u = ap (λ (cs : List Claim). once_answered t w cs answer) there in
-        let sole : List Effect = Served w.id answer ∷ [] in
+        let sole : List Effect = Served w.party w.id answer ∷ [] in
         whole (served_at t.claims all answer p) (wished_for w.wish answer u p)
         (ap (λ (x : CoreState). held_at x p) new ∙ for_made w.wish answer u p (served_good left s turn first good answer pass).0
         ∙ ap (else_was (wished_for w.wish answer u p)) (once_made left t w all answer p sound known (λ d e. subst (λ (plea : Plea). AllPass left plea t.claims all) (again_named s w t named) (pass d e).1)))
@@ -594,7 +594,7 @@ first_queue left s turn good first = by first.moved where
   by : IsMoved left first.before s w first.claim first.claims turn → turn.1.waiters ≡ queue_without turn.0 s.waiters
   by (Answers answer told new due pass clear) =
       ap (λ (x : CoreState). x.waiters) (new ∙ wish_claims w.wish answer (once_answered way.1 w (first.claim ∷ first.claims) answer)) ∙ ap (λ (ws : List Waiter). cancelled w.id ws) same
-      ∙ sym (ap (λ (effects : List Effect). queue_without effects s.waiters) told ∙ queue_behind way.0 (Served w.id answer ∷ []) s.waiters (way_serves first.before (plea_again s w) w.asked s))
+      ∙ sym (ap (λ (effects : List Effect). queue_without effects s.waiters) told ∙ queue_behind way.0 (Served w.party w.id answer ∷ []) s.waiters (way_serves first.before (plea_again s w) w.asked s))
   by (Rests e up) =
       ap (λ (x : List Effect × CoreState). x.1.waiters) e ∙ same
       ∙ sym (ap (λ (x : List Effect × CoreState). queue_without x.0 s.waiters) e ∙ ap (λ (effects : List Effect). queue_without effects s.waiters) (sym (append-nil way.0)) ∙ queue_behind way.0 [] s.waiters (way_serves first.before (plea_again s w) w.asked s))
@@ -743,7 +743,7 @@ unfolding lapse
 lapse_queue s cache = lapsed_queue s cache (client_of s.names cache.party)
 
 queue_named : (s t : CoreState) (a : Ask) (answer : Answer) → t.names ≡ s.names → t.waiters ≡ s.waiters → queue_with t a answer t.waiters ≡ queue_with s a answer s.waiters
-queue_named s t a (answers.Queued id) names waiters = λ i. waiters i ++ waiter_of id a (asked_claims a (asked_whats a.act) (names i)) ∷ []
+queue_named s t a (answers.Queued id) names waiters = λ i. waiters i ++ waiter_of id a (asking_party a (names i)) (asked_claims a (asked_whats a.act) (names i)) ∷ []
 queue_named s t a (answers.Granted c) names waiters = waiters
 queue_named s t a (answers.Conflict c) names waiters = waiters
 queue_named s t a (answers.Recall c) names waiters = waiters

@@ -1,7 +1,7 @@
 -- What each call leaves alone, and who leaves the queue by it.
 use Rattle.std.proofs.Common.{◌≡◌, ℕ, zero, suc, ◌+◌, ◌≤◌, nat_lt, length, Bool, true, false, if◌then◌else◌, ◌==◌, inl, inr, List, [], ◌∷◌, ◌++◌, map, Option, Some, None, IfSome, refl, sym, ap, subst, ◌∙◌, append-nil, arith}
 use Rattle.std.specs.List.{AllByRecursion, filter}
-use Rattle.std.proofs.lemmas.Bool.{cases_Bool, both_ways, eq-eqb}
+use Rattle.std.proofs.lemmas.Bool.{cases_Bool, both_ways, eq-eqb, eqb-true}
 use Rattle.xl_base.specs.Lists.{Pairwise}
 use Rattle.xl_base.specs.declared.name.Party.{Party}
 use Rattle.xl_matrix.specs.declared.claim.CacheKind.{CacheKind}
@@ -12,7 +12,7 @@ use Rattle.xl_wait.specs.Waiting.{is_waiting, cancelled}
 use Rattle.xl_wait.specs.declared.waiter.Rooms.{Rooms}
 use Rattle.xl_wait.specs.declared.waiter.Waiter.{Waiter}
 use Rattle.xl_core.specs.State.{CoreState, GoesOn, MayBe, drawn}
-use Rattle.xl_core.specs.Askers.{party_named, both_entered, asked_whats, asked_claims, is_client}
+use Rattle.xl_core.specs.Askers.{asking_party, party_named, both_entered, asked_whats, asked_claims, is_client}
 use Rattle.xl_core.specs.Decide.{Answered, plea_of, waiter_of, decided, way, before_wish, wish_after, ask}
 use Rattle.xl_core.specs.Wishes.{wish_for}
 use Rattle.xl_cache.specs.BreakPlans.{planned}
@@ -27,7 +27,7 @@ use Rattle.xl_core.specs.Good.{are_apart, IsGood}
 use Rattle.xl_core.specs.Judge.{held_with}
 use Rattle.xl_table.specs.declared.leaver.Leaver.{Leaver}
 use Rattle.xl_table.specs.declared.leaver.Leaver.TheVariants as leavers
-use Rattle.xl_core.specs.Settle.{settle, plea_again, way_again, waits_with, numbers_with, all_told, cancel, give_back, weaken, departed, end_party, close_open, all_cancelled}
+use Rattle.xl_core.specs.Settle.{settle, plea_again, way_again, waits_with, numbers_with, gone, told_with, told_of_one, cancel, give_back, weaken, departed, end_party, close_open, all_cancelled}
 use Rattle.xl_core.specs.declared.ask.Answer.{Answer}
 use Rattle.xl_core.specs.declared.ask.Answer.TheVariants as answers
 use Rattle.xl_core.specs.declared.ask.Ask.{Ask}
@@ -79,7 +79,7 @@ way_frame s a r (Tests c holds e) = subst (AskFrame s a) (sym e) (record { stabl
 way_frame s a r (Holds c claims is holds e) = subst (AskFrame s a) (sym e) (record { stable = refl; clock = refl; made = refl; failed = refl; counter = omega arith; names = sym (names_held a c s.names true holds); leave = tt; waiters = nobody s.waiters; times = refl; leases = refl })
 way_frame s a r (Waits c cs may blocked is holds e) =
     subst (AskFrame s a) (sym e)
-    (record { stable = refl; clock = refl; made = refl; failed = refl; counter = refl; names = refl; leave = tt; waiters = ap (λ (ds : List Claim). s.waiters ++ waiter_of (s.counter + 1) a ds ∷ []) is; times = refl; leases = refl })
+    (record { stable = refl; clock = refl; made = refl; failed = refl; counter = refl; names = refl; leave = tt; waiters = ap (λ (ds : List Claim). s.waiters ++ waiter_of (s.counter + 1) a (asking_party a s.names) ds ∷ []) is; times = refl; leases = refl })
 way_frame s a r (Frees c first last holds act file owner e) = subst (AskFrame s a) (sym e) (record { stable = refl; clock = refl; made = refl; failed = refl; counter = omega arith; names = sym (names_held a c s.names false holds); leave = tt; waiters = nobody s.waiters; times = refl; leases = refl })
 way_frame s a r (Gives c d holds act file owner range e) = subst (AskFrame s a) (sym e) (record { stable = refl; clock = refl; made = refl; failed = refl; counter = omega arith; names = sym (names_held a c s.names false holds); leave = tt; waiters = nobody s.waiters; times = refl; leases = refl })
 
@@ -106,15 +106,15 @@ stands_waiting (v ∷ vs) w behind = elim (cases_Bool (v.id == w.id)) [ inl e �
 -- who leaves by both
 pub told_both : (xs ys : List Effect) → who_left (xs ++ ys) ≡ who_left xs ++ who_left ys
 told_both [] ys = refl
-told_both (Served id answer ∷ xs) ys = ap (λ (ids : List ℕ). id ∷ ids) (told_both xs ys)
-told_both (Cancelled id ∷ xs) ys = ap (λ (ids : List ℕ). id ∷ ids) (told_both xs ys)
+told_both (Served party id answer ∷ xs) ys = ap (λ (ids : List ℕ). id ∷ ids) (told_both xs ys)
+told_both (Cancelled party id ∷ xs) ys = ap (λ (ids : List ℕ). id ∷ ids) (told_both xs ys)
 told_both (Begun c to call ∷ xs) ys = told_both xs ys
 told_both (Expired text ∷ xs) ys = told_both xs ys
 
 calls_both : (xs ys : List Effect) → calls_in (xs ++ ys) ≡ calls_in xs + calls_in ys
 calls_both [] ys = omega arith
-calls_both (Served id answer ∷ xs) ys = calls_both xs ys
-calls_both (Cancelled id ∷ xs) ys = calls_both xs ys
+calls_both (Served party id answer ∷ xs) ys = calls_both xs ys
+calls_both (Cancelled party id ∷ xs) ys = calls_both xs ys
 calls_both (Begun c to (Some number) ∷ xs) ys = omega (arith, calls_both xs ys)
 calls_both (Begun c to None ∷ xs) ys = calls_both xs ys
 calls_both (Expired text ∷ xs) ys = calls_both xs ys
@@ -219,8 +219,8 @@ first_frame left s turn first = by first.moved where
   by : IsMoved left first.before s w first.claim first.claims turn → IsFrame s turn.0 turn.1 (calls_in turn.0) s.names []
   by (Answers answer told new due pass clear) =
       let u = once_answered t w (first.claim ∷ first.claims) answer in
-      whole (Served w.id answer ∷ []) (wish_for w.wish answer u) told new refl
-      (for_frame w.wish answer t u (Served w.id answer ∷ []) 0 s.names [] (record { stable = refl; clock = refl; made = refl; failed = refl; counter = omega arith; names = named; leave = (waits, tt); waiters = nobody (cancelled w.id t.waiters); times = refl; leases = refl }))
+      whole (Served w.party w.id answer ∷ []) (wish_for w.wish answer u) told new refl
+      (for_frame w.wish answer t u (Served w.party w.id answer ∷ []) 0 s.names [] (record { stable = refl; clock = refl; made = refl; failed = refl; counter = omega arith; names = named; leave = (waits, tt); waiters = nobody (cancelled w.id t.waiters); times = refl; leases = refl }))
   by (Rests e up) =
       whole [] t (ap (λ (x : Turned). x.0) e ∙ sym (append-nil way.0)) (ap (λ (x : Turned). x.1) e) refl
       (record { stable = refl; clock = refl; made = refl; failed = refl; counter = omega arith; names = named; leave = tt; waiters = nobody t.waiters; times = refl; leases = refl })
@@ -252,9 +252,31 @@ ask_frame n left s a good client =
 
 -- ---- who leaves, and a number
 
+-- one who waits is told of once
+one_left : (id : ℕ) (ws : List Waiter) → is_waiting id ws ≡ true → who_left (told_of_one id ws) ≡ id ∷ []
+one_left id [] waits = absurd (both_ways false refl waits)
+one_left id (w ∷ ws) waits =
+    elim (cases_Bool (w.id == id)) [
+      | inl same ↦ rw same (ap (λ (k : ℕ). k ∷ []) (eqb-true w.id id same))
+      | inr other ↦ rw other (one_left id ws (rw other at waits))
+    ]
+
 pub cancel_frame : (s : CoreState) (id : ℕ) → is_waiting id s.waiters ≡ true → IsFrame s (cancel s id).0 (cancel s id).1 0 s.names []
 unfolding cancel
-cancel_frame s id waits = record { stable = refl; clock = refl; made = refl; failed = refl; counter = omega arith; names = refl; leave = (waits, tt); waiters = nobody (cancelled id s.waiters); times = refl; leases = refl }
+cancel_frame s id waits =
+    let left = one_left id s.waiters waits in
+    record {
+      stable = refl;
+      clock = refl;
+      made = refl;
+      failed = refl;
+      counter = omega arith;
+      names = refl;
+      leave = subst (λ (ids : List ℕ). AllLeave ids s.waiters) (sym left) (waits, tt);
+      waiters = ap (λ (ids : List ℕ). all_cancelled ids s.waiters) (sym left) ∙ nobody _;
+      times = refl;
+      leases = refl;
+    }
 
 pub give_back_frame : (s : CoreState) (claim : Claim) → IsFrame s (give_back s claim).0 (give_back s claim).1 0 s.names []
 unfolding give_back
@@ -272,9 +294,13 @@ pub drawn_frame : (s : CoreState) → IsFrame s [] (drawn s) 1 s.names []
 unfolding drawn
 drawn_frame s = record { stable = refl; clock = refl; made = refl; failed = refl; counter = refl; names = refl; leave = tt; waiters = nobody s.waiters; times = refl; leases = refl }
 
-told_left : (ids : List ℕ) → who_left (all_told ids) ≡ ids
+told_left : (ws : List Waiter) → who_left (map gone ws) ≡ map (λ w. w.id) ws
 told_left [] = refl
-told_left (id ∷ ids) = ap (λ (rest : List ℕ). id ∷ rest) (told_left ids)
+told_left (w ∷ ws) = ap (λ (rest : List ℕ). w.id ∷ rest) (told_left ws)
+
+leaver_left : (leaver : Leaver) (ws : List Waiter) → who_left (told_with leaver ws) ≡ numbers_with leaver ws
+unfolding told_with numbers_with
+leaver_left leaver ws = told_left (filter (waits_with leaver) ws)
 
 -- the first of some waiters that are told apart stays where others leave
 kept_behind : (ids : List ℕ) (w : Waiter) (ws : List Waiter) → AllByRecursion (λ id. (w.id == id) ≡ false) ids → AllLeave ids ws → AllLeave ids (w ∷ ws)
@@ -301,8 +327,8 @@ departed_frame s leaver good = record {
   failed = refl;
   counter = omega arith;
   names = refl;
-  leave = subst (λ (ids : List ℕ). AllLeave ids s.waiters) (sym (told_left (numbers_with leaver s.waiters))) (leaver_leaves leaver s.waiters good.apart);
-  waiters = sym (all_out leaver s.waiters good.apart) ∙ ap (λ (ids : List ℕ). all_cancelled ids s.waiters) (sym (told_left (numbers_with leaver s.waiters))) ∙ nobody _;
+  leave = subst (λ (ids : List ℕ). AllLeave ids s.waiters) (sym (leaver_left leaver s.waiters)) (leaver_leaves leaver s.waiters good.apart);
+  waiters = sym (all_out leaver s.waiters good.apart) ∙ ap (λ (ids : List ℕ). all_cancelled ids s.waiters) (sym (leaver_left leaver s.waiters)) ∙ nobody _;
   times = refl;
   leases = refl;
 }
@@ -317,13 +343,21 @@ close_open_frame s number party good = departed_frame s (leavers.Open number par
 
 -- ---- who leaves is served nothing
 
-told_unserved : (ids : List ℕ) → serves_none (all_told ids) ≡ true
-told_unserved [] = refl
-told_unserved (id ∷ ids) = told_unserved ids
+gone_unserved : (ws : List Waiter) → serves_none (map gone ws) ≡ true
+gone_unserved [] = refl
+gone_unserved (w ∷ ws) = gone_unserved ws
+
+told_unserved : (leaver : Leaver) (ws : List Waiter) → serves_none (told_with leaver ws) ≡ true
+unfolding told_with
+told_unserved leaver ws = gone_unserved (filter (waits_with leaver) ws)
+
+one_unserved : (id : ℕ) (ws : List Waiter) → serves_none (told_of_one id ws) ≡ true
+one_unserved id [] = refl
+one_unserved id (w ∷ ws) = elim (cases_Bool (w.id == id)) [ inl same ↦ rw same refl | inr other ↦ rw other (one_unserved id ws) ]
 
 pub cancel_unserved : (s : CoreState) (id : ℕ) → serves_none (cancel s id).0 ≡ true
 unfolding cancel
-cancel_unserved s id = refl
+cancel_unserved s id = one_unserved id s.waiters
 
 pub give_back_unserved : (s : CoreState) (claim : Claim) → serves_none (give_back s claim).0 ≡ true
 unfolding give_back
@@ -339,19 +373,19 @@ ack_unserved s cache to = refl
 
 pub end_party_unserved : (s : CoreState) (party : Party) → serves_none (end_party s party).0 ≡ true
 unfolding end_party
-end_party_unserved s party = told_unserved (numbers_with (leavers.Party party) s.waiters)
+end_party_unserved s party = told_unserved (leavers.Party party) s.waiters
 
 pub close_open_unserved : (s : CoreState) (number : ℕ) (party : Option Party) → serves_none (close_open s number party).0 ≡ true
 unfolding close_open
-close_open_unserved s number party = told_unserved (numbers_with (leavers.Open number party) s.waiters)
+close_open_unserved s number party = told_unserved (leavers.Open number party) s.waiters
 
 -- ---- the clock
 
 unserved_more : (xs ys : List Effect) → serves_none xs ≡ true → serves_none ys ≡ true → serves_none (xs ++ ys) ≡ true
 unserved_more [] ys first later = later
-unserved_more (Served id answer ∷ xs) ys first later = absurd (both_ways false refl first)
+unserved_more (Served party id answer ∷ xs) ys first later = absurd (both_ways false refl first)
 unserved_more (Begun c to number ∷ xs) ys first later = unserved_more xs ys first later
-unserved_more (Cancelled id ∷ xs) ys first later = unserved_more xs ys first later
+unserved_more (Cancelled party id ∷ xs) ys first later = unserved_more xs ys first later
 unserved_more (Expired client ∷ xs) ys first later = unserved_more xs ys first later
 
 -- who leaves by both, one after another
@@ -365,8 +399,8 @@ cancelled_both (id ∷ xs) ys ws = cancelled_both xs ys (cancelled id ws)
 
 expired_both : (xs ys : List Effect) → who_expired (xs ++ ys) ≡ who_expired xs ++ who_expired ys
 expired_both [] ys = refl
-expired_both (Served id answer ∷ xs) ys = expired_both xs ys
-expired_both (Cancelled id ∷ xs) ys = expired_both xs ys
+expired_both (Served party id answer ∷ xs) ys = expired_both xs ys
+expired_both (Cancelled party id ∷ xs) ys = expired_both xs ys
 expired_both (Begun c to call ∷ xs) ys = expired_both xs ys
 expired_both (Expired client ∷ xs) ys = ap (λ (clients : List (List ℕ)). client ∷ clients) (expired_both xs ys)
 
@@ -375,9 +409,13 @@ unleased_both [] ys ls = refl
 unleased_both (client ∷ xs) ys ls = unleased_both xs ys (without_lease client ls)
 
 -- who are taken out with their party are no clients that expired
-none_expired : (ids : List ℕ) → who_expired (all_told ids) ≡ []
-none_expired [] = refl
-none_expired (id ∷ ids) = none_expired ids
+gone_expired : (ws : List Waiter) → who_expired (map gone ws) ≡ []
+gone_expired [] = refl
+gone_expired (w ∷ ws) = gone_expired ws
+
+none_expired : (leaver : Leaver) (ws : List Waiter) → who_expired (told_with leaver ws) ≡ []
+unfolding told_with
+none_expired leaver ws = gone_expired (filter (waits_with leaver) ws)
 
 -- what an expiry and those behind it leave alone
 abbrev pub IsLeft : CoreState → List Effect × CoreState → Type 0
@@ -406,7 +444,7 @@ left_so s = (λ good. framed_ticked s s [] refl (still s), refl)
 
 ended_expires : (s : CoreState) (party : Party) → who_expired (end_party s party).0 ≡ []
 unfolding end_party
-ended_expires s party = none_expired (numbers_with (leavers.Party party) s.waiters)
+ended_expires s party = none_expired (leavers.Party party) s.waiters
 
 some_left : (s : CoreState) (party : Option Party) → IsLeft s (end_some s party)
 some_left s None = left_so s

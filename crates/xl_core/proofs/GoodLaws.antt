@@ -180,7 +180,7 @@ waiting_good : (left : Rooms) (s : CoreState) (a : Ask) (c : Claim) (cs : List C
 waiting_good left s a c cs good known row wished room =
     let more = both_entered a s.names in
     let next = s.counter + 1 in
-    let new = waiter_of next a (c ∷ cs) in
+    let new = waiter_of next a (asking_party a s.names) (c ∷ cs) in
     let on = both_go_on a s.names in
     let fits = wait_room left a.rows (length s.waiters) (length more) room in
     good_from (waiting a (c ∷ cs) s) (claims_on s.names more s.claims on (good_claims s good)) (both_distinct a s.names good.distinct) fits.2
@@ -405,7 +405,7 @@ Turned = List Effect × CoreState
 -- What becomes of a waiter for these that isn't held up, once the breaks run that it begins: it is held up by them, or each is
 -- judged beside those before it, and it has all of them or is refused.
 pub data IsMoved (left : Rooms) (earlier : List Waiter) (s : CoreState) (w : Waiter) (c : Claim) (cs : List Claim) (turn : Turned) : Type 0 where
-  Answers : (answer : Answer) → turn.0 ≡ (way_again earlier s w).0 ++ Served w.id answer ∷ []
+  Answers : (answer : Answer) → turn.0 ≡ (way_again earlier s w).0 ++ Served w.party w.id answer ∷ []
       → turn.1 ≡ wish_for w.wish answer (record (way_again earlier s w).1 { claims = held_once (c ∷ cs) answer (way_again earlier s w).1.claims; waiters = cancelled w.id (way_again earlier s w).1.waiters })
       → IsEachBehind earlier left w.rows (length s.names) c (c ∷ cs) (way_again earlier s w).1 answer
       → ((d : Claim) → answer ≡ answers.Granted d → (d ≡ c) × AllPass left (plea_again s w) (way_again earlier s w).1.claims (c ∷ cs))
@@ -506,12 +506,12 @@ moved n left s earlier w c cs asked free =
     same_claim : (x y : Claim) → answers.Granted x ≡ answers.Granted y → y ≡ x
     same_claim x y e = cc
 
-    behind : (told : List Effect) (answer : Answer) → told ≡ [] → (way.0 ++ told) ++ Served w.id answer ∷ [] ≡ way.0 ++ Served w.id answer ∷ []
-    behind told answer none = ap (λ (xs : List Effect). (way.0 ++ xs) ++ Served w.id answer ∷ []) none ∙ ap (λ (xs : List Effect). xs ++ Served w.id answer ∷ []) (append-nil way.0)
+    behind : (told : List Effect) (answer : Answer) → told ≡ [] → (way.0 ++ told) ++ Served w.party w.id answer ∷ [] ≡ way.0 ++ Served w.party w.id answer ∷ []
+    behind told answer none = ap (λ (xs : List Effect). (way.0 ++ xs) ++ Served w.party w.id answer ∷ []) none ∙ ap (λ (xs : List Effect). xs ++ Served w.party w.id answer ∷ []) (append-nil way.0)
 
     by : (ruling : Ruling) (told : List Effect) (u : CoreState) → IsRuled earlier left p (c ∷ cs) t ruling told u → IsEachBehind earlier left w.rows (length s.names) c (c ∷ cs) t (answer_by ruling) → does_wait earlier p t c ≡ false → IsMoved left earlier s w c cs (turned w ruling (way.0 ++ told) u)
     by Gets told u is due clear = Answers (answers.Granted c)
-        (behind told (all_of w.asked) is.0 ∙ ap (λ (ds : List Claim). way.0 ++ Served w.id (all_of ds) ∷ []) asked)
+        (behind told (all_of w.asked) is.0 ∙ ap (λ (ds : List Claim). way.0 ++ Served w.party w.id (all_of ds) ∷ []) asked)
         (λ i. wish_for w.wish (all_of (asked i)) (record (is.1 i) { waiters = cancelled w.id (is.1 i).waiters }))
         due
         (λ d e. (same_claim c d e, is.2))

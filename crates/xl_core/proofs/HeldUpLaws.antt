@@ -43,7 +43,7 @@ use Rattle.xl_wait.specs.Waiting.{cancelled}
 use Rattle.xl_wait.specs.declared.waiter.Rooms.{Rooms}
 use Rattle.xl_wait.specs.declared.waiter.Waiter.{Waiter}
 use Rattle.xl_core.specs.State.{CoreState, step_begun, drawn}
-use Rattle.xl_core.specs.Askers.{both_entered, asked_whats, asked_claims, IsFit}
+use Rattle.xl_core.specs.Askers.{asking_party, both_entered, asked_whats, asked_claims, IsFit}
 use Rattle.xl_core.specs.Causes.{IsClaimDue, IsServed, Answered as TurnAnswered, WaitsOn, IsTurn, may_wait, held_once}
 use Rattle.xl_core.specs.Decide.{Answered, plea_of, waiter_of, named, waiting, unlocked_claims, claims_asked, acted, decided, way, before_wish, does_wish, wish_after, ask}
 use Rattle.xl_core.specs.Wishes.{wish_granted, wish_of, wish_for}
@@ -292,7 +292,7 @@ abbrev Runs : CoreState → Ask → Answer → Type 0
 Runs s a answer = (id : ℕ) (c : Claim) (cs : List Claim) → answer ≡ answers.Queued id → c ∷ cs ≡ asked_claims a (asked_whats a.act) s.names → asks_to_hold a.act ≡ true → is_blocked s.claims c ≡ true → is_stopped s.waiters s c ≡ false → all_run s.claims c ≡ true
 
 -- who comes to wait is held up
-comes_up : (u : Unsettled) (s : CoreState) (a : Ask) (c : Claim) (cs : List Claim) → may_wait s.waiters s a c ≡ true → is_blocked s.claims c ≡ true → (is_stopped s.waiters s c ≡ false → all_run s.claims c ≡ true) → IsHeldUp u [] s (waiter_of (s.counter + 1) a (c ∷ cs)) (c ∷ cs)
+comes_up : (u : Unsettled) (s : CoreState) (a : Ask) (c : Claim) (cs : List Claim) → may_wait s.waiters s a c ≡ true → is_blocked s.claims c ≡ true → (is_stopped s.waiters s c ≡ false → all_run s.claims c ≡ true) → IsHeldUp u [] s (waiter_of (s.counter + 1) a (asking_party a s.names) (c ∷ cs)) (c ∷ cs)
 comes_up u s a c cs may blocked run = λ e. by (is_blocked s.claims c) (is_stopped s.waiters s c) a.blocking a.awaits (all_run s.claims c) may blocked run where
   by : (x y z v r : Bool) → (if y then z else v) ≡ true → x ≡ true → (y ≡ false → r ≡ true) → (x && (if y then z else r)) ≡ true
   by true true z v r m b run = m
@@ -306,8 +306,8 @@ same_up u s a answer t (Holds c claims of holds e) given runs all = absurd (both
 same_up u s a answer t (Gives claim d holds act file owner range e) given runs all = absurd (both_ways (is_granted answer) given (ap (λ (x : Answered). is_granted x.0) e))
 same_up u s a answer t (Waits c cs may blocked is holds e) given runs all =
     subst (λ (x : Answered). AreHeldUp u x.2) (sym e)
-    (few_up u u s (waiting a (c ∷ cs) s) (s.waiters ++ waiter_of (s.counter + 1) a (c ∷ cs) ∷ []) refl (λ file n. (n, refl))
-    (all_append (λ (w : Waiter). IsHeldUp u [] s w w.asked) s.waiters (waiter_of (s.counter + 1) a (c ∷ cs) ∷ []) (each_up u s [] s.waiters all) (comes_up u s a c cs may blocked (runs (s.counter + 1) c cs (ap (λ (x : Answered). x.0) e) is holds blocked), tt)))
+    (few_up u u s (waiting a (c ∷ cs) s) (s.waiters ++ waiter_of (s.counter + 1) a (asking_party a s.names) (c ∷ cs) ∷ []) refl (λ file n. (n, refl))
+    (all_append (λ (w : Waiter). IsHeldUp u [] s w w.asked) s.waiters (waiter_of (s.counter + 1) a (asking_party a s.names) (c ∷ cs) ∷ []) (each_up u s [] s.waiters all) (comes_up u s a c cs may blocked (runs (s.counter + 1) c cs (ap (λ (x : Answered). x.0) e) is holds blocked), tt)))
 same_up u s a answer t (Frees claim first last holds act file owner e) given runs all = absurd (both_ways (is_granted answer) given (ap (λ (x : Answered). is_granted x.0) e))
 
 decided_up : (u : Unsettled) (left : Rooms) (s t : CoreState) (a : Ask) (answer : Answer) → decided 0 left s a ≡ (answer, [], t) → IsGood s → IsFit a → Runs s a answer → AreHeldUp u s → AreHeldUp (if may_free a.act answer then with_file a.file u else u) t

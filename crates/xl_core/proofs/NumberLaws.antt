@@ -27,7 +27,7 @@ use Rattle.xl_table.specs.Held.{is_cache}
 use Rattle.xl_wait.specs.Waiting.{cancelled}
 use Rattle.xl_wait.specs.declared.waiter.Rooms.{Rooms}
 use Rattle.xl_wait.specs.declared.waiter.Waiter.{Waiter}
-use Rattle.xl_core.specs.Askers.{party_named, asked_whats, asked_claims, IsFit}
+use Rattle.xl_core.specs.Askers.{asking_party, party_named, asked_whats, asked_claims, IsFit}
 use Rattle.xl_core.specs.BreaksBegun.{with_break, once_begun, once_broken, is_recalled, recalls, breaks_begun}
 use Rattle.xl_core.specs.Blockers.{is_stopped}
 use Rattle.xl_core.specs.BreakAnswers.{may_be_left, with_rest, ack, due, client_of}
@@ -216,7 +216,7 @@ decided_numbers n left s a good fit = omega (arith, others, same_left s.claims (
   by r (Stays answer refused e) = subst (λ (x : Answered). x.2.counter + length x.2.waiters ≤ s.counter + length s.waiters + 2) (sym e) (omega arith)
   by r (Tests c holds e) = subst (λ (x : Answered). x.2.counter + length x.2.waiters ≤ s.counter + length s.waiters + 2) (sym e) (omega arith)
   by r (Holds c claims is holds e) = subst (λ (x : Answered). x.2.counter + length x.2.waiters ≤ s.counter + length s.waiters + 2) (sym e) (omega arith)
-  by r (Waits c cs may blocked is holds e) = subst (λ (x : Answered). x.2.counter + length x.2.waiters ≤ s.counter + length s.waiters + 2) (sym e) (omega (arith, length-append s.waiters (waiter_of (s.counter + 1) a (c ∷ cs) ∷ [])))
+  by r (Waits c cs may blocked is holds e) = subst (λ (x : Answered). x.2.counter + length x.2.waiters ≤ s.counter + length s.waiters + 2) (sym e) (omega (arith, length-append s.waiters (waiter_of (s.counter + 1) a (asking_party a s.names) (c ∷ cs) ∷ [])))
   by r (Frees c first last holds act file owner e) = subst (λ (x : Answered). x.2.counter + length x.2.waiters ≤ s.counter + length s.waiters + 2) (sym e) (omega arith)
   by r (Gives c d holds act file owner range e) = subst (λ (x : Answered). x.2.counter + length x.2.waiters ≤ s.counter + length s.waiters + 2) (sym e) (omega arith)
 
@@ -357,7 +357,7 @@ first_numbers left s turn good first = by first.moved where
       let wished = for_same_left w.wish answer u first.claim first.claims (subst (λ (cs : List Claim). IsWished w.wish cs) first.asked first.is.3) (λ d e. (pass d e).0) in
       let gone : turn.1.waiters ≡ first.before ++ first.behind = ap (λ (x : CoreState). x.waiters) (new ∙ wish_claims w.wish answer u) ∙ ap (λ (ws : List Waiter). cancelled w.id ws) waiters ∙ waiters_left left s turn first good in
       let one : length t.waiters ≡ length (first.before ++ w ∷ first.behind) = ap (λ (ws : List Waiter). length ws) (waiters ∙ first.stood) in
-      omega (arith, fell, caches, wished, ap (λ (x : CoreState). delegations_left x.claims) new, ap (λ (x : CoreState). x.counter) (new ∙ wish_claims w.wish answer u), ap (λ (ws : List Waiter). length ws) gone, one, length-append first.before first.behind, length-append first.before (w ∷ first.behind), ap (λ (ids : List ℕ). length ids) (leave (Served w.id answer ∷ []) told))
+      omega (arith, fell, caches, wished, ap (λ (x : CoreState). delegations_left x.claims) new, ap (λ (x : CoreState). x.counter) (new ∙ wish_claims w.wish answer u), ap (λ (ws : List Waiter). length ws) gone, one, length-append first.before first.behind, length-append first.before (w ∷ first.behind), ap (λ (ids : List ℕ). length ids) (leave (Served w.party w.id answer ∷ []) told))
   by (Rests e up) = omega (arith, fell, ap (λ (x : Turned). numbers_of x.1) e, ap (λ (x : Turned). length (who_left x.0)) e, ap (λ (ids : List ℕ). length ids) (way_leaves first.before (plea_again s w) w.asked s))
 
 -- who was served waits no more, so that a call may tell of it

@@ -26,12 +26,12 @@ use Rattle.xl_core.specs.Judge.{Ruled, all_granted}
 use Rattle.xl_table.specs.Leaving.{goes}
 use Rattle.xl_table.specs.declared.leaver.Leaver.{Leaver}
 use Rattle.xl_table.specs.declared.leaver.Leaver.TheVariants as leavers
-use Rattle.xl_core.specs.Settle.{rests, turned, plea_again, way_again, again, turn_or, first_turn, settle, turns_left, AllRest, waits_for, waits_as, waits_with, numbers_with, all_cancelled, cancel, give_back, departed, end_party, close_open}
+use Rattle.xl_core.specs.Settle.{rests, turned, plea_again, way_again, again, turn_or, first_turn, settle, turns_left, AllRest, waits_for, waits_as, waits_with, numbers_with, gone, told_of_one, all_cancelled, cancel, give_back, departed, end_party, close_open}
 use Rattle.xl_core.specs.declared.ask.Answer.{Answer}
 use Rattle.xl_core.specs.declared.ask.Answer.TheVariants.{Granted, Queued, Conflict, Recall, Grace, NoGrace, NotRecorded, Full, NotHeld, StoreFailed}
 use Rattle.xl_core.proofs.CacheLaws.{all_granted_caches}
 use Rattle.xl_core.proofs.ChangeLaws.{all_spans_left, all_shares_left}
-use Rattle.xl_core.specs.declared.ask.Effect.TheVariants.{Served}
+use Rattle.xl_core.specs.declared.ask.Effect.TheVariants.{Served, Cancelled}
 use Rattle.xl_core.proofs.BreaksBegunLaws.{begun_spans, begun_shares}
 use Rattle.xl_core.specs.Wishes.{wish_for}
 use Rattle.xl_core.proofs.WishLaws.{wish_spans, wish_shares}
@@ -150,7 +150,7 @@ first_turn_is left s turn good first = by first.moved where
       let due_here : IsEachBehind first.before left w.rows (length t.names) first.claim w.asked t answer =
       subst (λ (cs : List Claim). IsEachBehind first.before left w.rows (length t.names) first.claim cs t answer) (sym first.asked)
       (subst (λ (names : List Name). IsEachBehind first.before left w.rows (length names) first.claim all t answer) (sym (same (λ x. x.names) (λ c. begun_names c s))) due) in
-      turned_so (Served w.id answer ∷ []) told
+      turned_so (Served w.party w.id answer ∷ []) told
       (Answered answer refl (λ d e. (pass d e).0) due_here (new ∙ ap (wish_for w.wish answer) same_asked) clear)
       (ap (λ (x : CoreState). x.names) new ∙ ap (λ (x : CoreState). x.names) (wish_claims w.wish answer u) ∙ same (λ x. x.names) (λ c. begun_names c s))
       (λ file owner apart.
@@ -262,6 +262,25 @@ all_out leaver ws apart = out (waits_with leaver) ws apart
 pub cancel_is : (s : CoreState) (id : ℕ) → ((cancel s id).1.claims ≡ s.claims) × ((cancel s id).1.waiters ≡ cancelled id s.waiters)
 unfolding cancel
 cancel_is s id = (refl, refl)
+
+-- of the waiters of a number there is one, whom the effect names
+one_named : (id : ℕ) (ws : List Waiter) (w : Waiter) → Pairwise are_apart ws → IsIn w ws → w.id ≡ id → told_of_one id ws ≡ Cancelled w.party id ∷ []
+one_named id [] w apart here same = absurd here
+one_named id (v ∷ ws) w apart here same =
+    elim (cases_Bool (v.id == id)) [
+      | inl own ↦ elim here [
+        | inl first ↦ rw own (ap (λ (x : Waiter). gone x ∷ []) first ∙ ap (λ (k : ℕ). Cancelled w.party k ∷ []) same)
+        | inr rest ↦ absurd (both_ways (v.id == w.id) (not-true (v.id == w.id) (all_in (λ (y : Waiter). are_apart v y ≡ true) w ws apart.0 rest)) (ap (λ (k : ℕ). v.id == k) same ∙ own))
+      ]
+      | inr other ↦ elim here [
+        | inl first ↦ absurd (both_ways (v.id == id) other (eq-eqb v.id id (ap (λ (x : Waiter). x.id) first ∙ same)))
+        | inr rest ↦ rw other (one_named id ws w apart.1 rest same)
+      ]
+    ]
+
+pub cancel_names : (s : CoreState) (id : ℕ) (w : Waiter) → IsGood s → IsIn w s.waiters → w.id ≡ id → (cancel s id).0 ≡ Cancelled w.party id ∷ []
+unfolding cancel
+cancel_names s id w good here same = one_named id s.waiters w good.apart here same
 
 pub give_back_is : (s : CoreState) (claim : Claim) → ((give_back s claim).1.claims ≡ removed claim s.claims) × ((give_back s claim).1.waiters ≡ s.waiters)
 unfolding give_back

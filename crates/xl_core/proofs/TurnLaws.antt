@@ -168,7 +168,7 @@ called_here s earlier w ws e = rw e refl
 -- its turn is the first
 pub turn_is_found : (left : Rooms) (s r t u : CoreState) (earlier ws : List Waiter) (called : Called) (begun : List Effect) (ruling : Ruling) (effects : List Effect) → first_called s earlier ws ≡ Some called
     → ((before : List Waiter) → made_way before called.plea called.asked s ≡ (begun, r))
-    → ((n : ℕ) (before : List Waiter) → judged n before left called.plea called.asked r ≡ (ruling, [], t)) → ((w : Waiter) → w.id ≡ called.id → w.asked ≡ called.asked → w.wish ≡ called.wish → turned w ruling begun t ≡ (effects, u))
+    → ((n : ℕ) (before : List Waiter) → judged n before left called.plea called.asked r ≡ (ruling, [], t)) → ((w : Waiter) → w.id ≡ called.id → w.party ≡ called.party → w.asked ≡ called.asked → w.wish ≡ called.wish → turned w ruling begun t ≡ (effects, u))
     → (n : ℕ) → first_turn n left s earlier ws ≡ Some (effects, u)
 turn_is_found left s r t u earlier [] called begun ruling effects e way judges turns n = absurd cc
 turn_is_found left s r t u earlier (w ∷ ws) called begun ruling effects e way judges turns n =
@@ -185,7 +185,7 @@ turn_is_found left s r t u earlier (w ∷ ws) called begun ruling effects e way 
           ∙ (λ i. (ruling, append-nil begun i, t)) in
           move_first w (again n left s earlier w) _ (free_moves n left s earlier w free)
           ∙ ap (λ (x : Ruled). Some (turned w x.0 x.1 x.2)) ruled
-          ∙ ap (λ (x : List Effect × CoreState). Some x) (turns w (ap (λ (x : Called). x.id) same) (ap (λ (x : Called). x.asked) same) (ap (λ (x : Called). x.wish) same))
+          ∙ ap (λ (x : List Effect × CoreState). Some x) (turns w (ap (λ (x : Called). x.id) same) (ap (λ (x : Called). x.party) same) (ap (λ (x : Called). x.asked) same) (ap (λ (x : Called). x.wish) same))
     ]
 
 pub none_is_found : (left : Rooms) (s : CoreState) (earlier ws : List Waiter) → first_called s earlier ws ≡ None → (n : ℕ) → first_turn n left s earlier ws ≡ None

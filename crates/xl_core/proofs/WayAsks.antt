@@ -181,12 +181,12 @@ ask_own n left s a good client = record {
     granted answer is = wish_beside_at a.wish answer r.2 a.file (asking_party a t.names) is
 
 pub ask_waits : (n : ℕ) (left : Rooms) (s : CoreState) (a : Ask) (number : ℕ) → IsGood s → is_client a.owner a.party ≡ true → (ask n left s a).0 ≡ answers.Queued number
-    → (ask n left s a).2.waiters ≡ s.waiters ++ waiter_of number a (asked_claims a (asked_whats a.act) s.names) ∷ []
+    → (ask n left s a).2.waiters ≡ s.waiters ++ waiter_of number a (asking_party a s.names) (asked_claims a (asked_whats a.act) s.names) ∷ []
 unfolding ask before_wish
 ask_waits n left s a number good client at =
     ap (λ (x : CoreState). x.waiters) (after_claims a (decided n left (way left s a).1 a).0 (decided n left (way left s a).1 a).2) ∙
     decided_waits n left (way left s a).1 a number (asked_way_good left s a good) client at
-    ∙ (λ i. ask_way_waiters left s a i ++ waiter_of number a (asked_claims a (asked_whats a.act) (ask_way_names left s a i)) ∷ [])
+    ∙ (λ i. ask_way_waiters left s a i ++ waiter_of number a (asking_party a (ask_way_names left s a i)) (asked_claims a (asked_whats a.act) (ask_way_names left s a i)) ∷ [])
 
 pub ask_held : (n : ℕ) (left : Rooms) (s : CoreState) (a : Ask) (first last : ℕ) (exclusive : Bool) (c : Claim) → IsGood s → is_client a.owner a.party ≡ true → is_named a.owner ≡ true → first ≤ last → a.act ≡ acts.Ranges ((Bytes first last, exclusive) ∷ []) → (ask n left s a).0 ≡ answers.Granted c
     → spans_of a.file (asker a s.names) (ask n left s a).2.claims ≡ relocked (spans_of a.file (asker a s.names) s.claims) first last (Some (mode_of exclusive))

@@ -142,7 +142,7 @@ held_once asked answer held = held
 -- first is held up by them it waits on, and has no answer; else each is judged beside those before it, and it is answered so
 -- and waits no more.
 pub data IsServed (left : Rooms) (earlier : List Waiter) (s : CoreState) (w : Waiter) (claim : Claim) (told : List Effect) (new : CoreState) : Type 0 where
-  Answered : (answer : Answer) → told ≡ Served w.id answer ∷ [] → ((c : Claim) → answer ≡ Granted c → c ≡ claim) → IsEachBehind earlier left w.rows (length s.names) claim w.asked s answer → new ≡ wish_for w.wish answer (record s { claims = held_once w.asked answer s.claims; waiters = cancelled w.id s.waiters }) → is_held_up earlier s w claim ≡ false → IsServed left earlier s w claim told new
+  Answered : (answer : Answer) → told ≡ Served w.party w.id answer ∷ [] → ((c : Claim) → answer ≡ Granted c → c ≡ claim) → IsEachBehind earlier left w.rows (length s.names) claim w.asked s answer → new ≡ wish_for w.wish answer (record s { claims = held_once w.asked answer s.claims; waiters = cancelled w.id s.waiters }) → is_held_up earlier s w claim ≡ false → IsServed left earlier s w claim told new
   WaitsOn : told ≡ [] → is_held_up earlier s w claim ≡ true → new ≡ s → IsServed left earlier s w claim told new
 
 -- The first waiter that isn't held up has its turn: its breaks begin, with their effects, and then it is judged. Its

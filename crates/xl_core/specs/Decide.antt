@@ -1,5 +1,6 @@
 -- What an ask is answered, and what it changes.
 use Rattle.std.specs.Prelude.{ℕ, ◌+◌, Bool, true, false, not, if◌then◌else◌, nat_le, List, [], ◌∷◌, ◌++◌, length, Option, Some, None}
+use Rattle.xl_base.specs.declared.name.Party.{Party}
 use Rattle.xl_matrix.specs.declared.claim.CacheKind.{CacheKind}
 use Rattle.xl_matrix.specs.declared.claim.Claim.{Claim}
 use Rattle.xl_matrix.specs.declared.claim.Extent.{Extent}
@@ -8,7 +9,7 @@ use Rattle.xl_matrix.specs.declared.claim.What.TheVariants.{Cache}
 use Rattle.xl_wait.specs.declared.waiter.Rooms.{Rooms}
 use Rattle.xl_wait.specs.declared.waiter.Waiter.{Waiter}
 use Rattle.xl_core.specs.State.{CoreState}
-use Rattle.xl_core.specs.Askers.{both_entered, asked_whats, asked_claim, asked_claims, known_claim}
+use Rattle.xl_core.specs.Askers.{asking_party, both_entered, asked_whats, asked_claim, asked_claims, known_claim}
 use Rattle.xl_table.specs.Least.{least}
 use Rattle.xl_core.specs.Blockers.{test_blockers}
 use Rattle.xl_core.specs.Judge.{judged}
@@ -45,9 +46,9 @@ plea_of left s a =
 abbrev pub waiting_rows : Rooms → Rooms
 waiting_rows rows = record { hosts = 0; owners = rows.owners; opens = rows.opens }
 
--- who waits under this number for these claims
-abbrev pub waiter_of : ℕ → Ask → List Claim → Waiter
-waiter_of id a claims = record { id = id; conn = a.conn; asked = claims; wish = a.wish; blocking = a.blocking; monitored = a.monitored; rows = waiting_rows a.rows }
+-- this party waits under this number for these claims
+abbrev pub waiter_of : ℕ → Ask → Party → List Claim → Waiter
+waiter_of id a party claims = record { id = id; party = party; conn = a.conn; asked = claims; wish = a.wish; blocking = a.blocking; monitored = a.monitored; rows = waiting_rows a.rows }
 
 -- the names of the ask are kept
 abbrev pub named : Ask → CoreState → CoreState
@@ -55,7 +56,7 @@ named a s = record s { names = both_entered a s.names }
 
 -- the asker waits, under the next number
 abbrev pub waiting : Ask → List Claim → CoreState → CoreState
-waiting a claims s = record s { waiters = s.waiters ++ waiter_of (s.counter + 1) a claims ∷ []; names = both_entered a s.names; counter = s.counter + 1 }
+waiting a claims s = record s { waiters = s.waiters ++ waiter_of (s.counter + 1) a (asking_party a s.names) claims ∷ []; names = both_entered a s.names; counter = s.counter + 1 }
 
 -- what an ask is answered by the ruling on its claims: the first of them granted, a refusal, or the number under which it waits
 abbrev pub answered : Ask → List Claim → Claim → Ruling → List Effect → CoreState → Answered

@@ -14,7 +14,7 @@ use Rattle.xl_wait.specs.Waiting.{is_waiting, cancelled}
 use Rattle.xl_wait.specs.declared.waiter.Rooms.{Rooms}
 use Rattle.xl_wait.specs.declared.waiter.Waiter.{Waiter}
 use Rattle.xl_core.specs.State.{CoreState, drawn}
-use Rattle.xl_core.specs.Askers.{party_named, asked_whats, asked_claims, IsFit}
+use Rattle.xl_core.specs.Askers.{party_named, asking_party, asked_whats, asked_claims, IsFit}
 use Rattle.xl_core.specs.Causes.{held_once}
 use Rattle.xl_core.specs.Decide.{waiter_of, way, before_wish, does_wish, ask}
 use Rattle.xl_core.specs.Wishes.{caches_wished}
@@ -129,13 +129,13 @@ AreFit n s (d ∷ ds) = IsFitDeed s d × AreFit n (done n s d) ds
 
 -- one who is answered that it waits comes last
 abbrev pub queue_with : CoreState → Ask → Answer → List Waiter → List Waiter
-queue_with s a (Queued id) waiters = waiters ++ waiter_of id a (asked_claims a (asked_whats a.act) s.names) ∷ []
+queue_with s a (Queued id) waiters = waiters ++ waiter_of id a (asking_party a s.names) (asked_claims a (asked_whats a.act) s.names) ∷ []
 queue_with s a answer waiters = waiters
 
 -- one who is served waits no more
 abbrev pub queue_without : List Effect → List Waiter → List Waiter
 queue_without [] waiters = waiters
-queue_without (Served id answer ∷ effects) waiters = cancelled id waiters
+queue_without (Served party id answer ∷ effects) waiters = cancelled id waiters
 queue_without (effect ∷ effects) waiters = queue_without effects waiters
 
 -- those of a party that ends wait no more
@@ -213,7 +213,7 @@ once_served s id answer = record s { claims = held_once (asked_by id s.waiters) 
 -- the caches once the wish is granted of one who is served
 abbrev pub caches_served : CoreState → List Effect → List Claim → List Claim
 caches_served s [] caches = caches
-caches_served s (Served id answer ∷ effects) caches = caches_wished (wish_by_number id s.waiters) answer (once_served s id answer) caches
+caches_served s (Served party id answer ∷ effects) caches = caches_wished (wish_by_number id s.waiters) answer (once_served s id answer) caches
 caches_served s (effect ∷ effects) caches = caches_served s effects caches
 
 -- and that of an ask

@@ -6,7 +6,7 @@ use Rattle.xl_wait.specs.declared.waiter.Waiter.{Waiter}
 use Rattle.xl_base.specs.declared.event.Moment.{Moment}
 use Rattle.xl_core.specs.State.{CoreState}
 use Rattle.xl_core.specs.Leases.{Lease, moment_after, later, with_lease, without_lease}
-use Rattle.xl_core.specs.Askers.{both_entered, asked_whats, asked_claims}
+use Rattle.xl_core.specs.Askers.{asking_party, both_entered, asked_whats, asked_claims}
 use Rattle.xl_core.specs.Decide.{waiter_of}
 use Rattle.xl_core.specs.Settle.{all_cancelled}
 use Rattle.xl_core.specs.declared.ask.Act.{Act}
@@ -20,8 +20,8 @@ use Rattle.xl_core.specs.declared.ask.Effect.TheVariants.{Begun, Served, Cancell
 -- ---- who leaves the queue
 
 abbrev pub with_told : Effect → List ℕ → List ℕ
-with_told (Served id answer) ids = id ∷ ids
-with_told (Cancelled id) ids = id ∷ ids
+with_told (Served party id answer) ids = id ∷ ids
+with_told (Cancelled party id) ids = id ∷ ids
 with_told _ ids = ids
 
 -- the numbers of the waiters that these tell of, in order: they wait no more
@@ -60,7 +60,7 @@ calls_in (effect ∷ effects) = with_call effect (calls_in effects)
 -- none of these says that someone was served
 abbrev pub serves_none : List Effect → Bool
 serves_none [] = true
-serves_none (Served id answer ∷ effects) = false
+serves_none (Served party id answer ∷ effects) = false
 serves_none (effect ∷ effects) = serves_none effects
 
 -- ---- a call
@@ -132,5 +132,5 @@ names_after a _ names = names
 
 -- who comes to wait
 abbrev pub come_by : Ask → Answer → List Name → List Waiter
-come_by a (Queued number) names = waiter_of number a (asked_claims a (asked_whats a.act) names) ∷ []
+come_by a (Queued number) names = waiter_of number a (asking_party a names) (asked_claims a (asked_whats a.act) names) ∷ []
 come_by a _ names = []

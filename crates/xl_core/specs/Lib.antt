@@ -7,6 +7,7 @@ pub mod Judge
 pub mod Ways
 pub mod Decide
 pub mod Settle
+pub mod Told
 pub mod BreakAnswers
 pub mod BreaksBegun
 pub mod BreaksInOrder

@@ -199,7 +199,7 @@ served_at held asked answer p = None
 -- a waiter that is granted what it waited for has all of that
 abbrev pub told_at : CoreState → List Effect → Place → Option (List What)
 told_at s [] p = None
-told_at s (Served id answer ∷ effects) p = served_at s.claims (asked_by id s.waiters) answer p
+told_at s (Served party id answer ∷ effects) p = served_at s.claims (asked_by id s.waiters) answer p
 told_at s (effect ∷ effects) p = told_at s effects p
 
 -- a wish that gets a kind leaves the party's cache on the file at that kind
@@ -218,7 +218,7 @@ wished_by n left s a p = if does_wish a.act then wished_for a.wish (ask n left s
 -- and that of a waiter that is granted what it waited for
 abbrev pub wished_then : CoreState → List Effect → Place → Option (List What)
 wished_then s [] p = None
-wished_then s (Served id answer ∷ effects) p = wished_for (wish_by_number id s.waiters) answer (once_served s id answer) p
+wished_then s (Served party id answer ∷ effects) p = wished_for (wish_by_number id s.waiters) answer (once_served s id answer) p
 wished_then s (effect ∷ effects) p = wished_then s effects p
 
 -- of a cache of whose break these tell there is left what that says

@@ -1,5 +1,5 @@
 -- Who waits, and whose turn comes.
-use Rattle.std.specs.Prelude.{◌≡◌, ℕ, ◌+◌, Bool, true, false, not, ◌&&◌, if◌then◌else◌, List, [], ◌∷◌, ◌++◌, length, map, Option, Some, None}
+use Rattle.std.specs.Prelude.{◌≡◌, ℕ, ◌+◌, Bool, true, false, not, ◌&&◌, ◌==◌, if◌then◌else◌, List, [], ◌∷◌, ◌++◌, length, map, Option, Some, None}
 use Rattle.std.specs.List.{filter, list_any}
 use Rattle.xl_base.specs.declared.name.Owner.TheVariants as owners
 use Rattle.xl_base.specs.declared.name.Party.{Party}
@@ -49,7 +49,7 @@ all_of (c ∷ cs) = Granted c
 
 -- the waiter is taken out, and answered with this behind what began
 abbrev pub served : Waiter → Answer → List Effect → CoreState → List Effect × CoreState
-served w answer told s = (told ++ Served w.id answer ∷ [], record s { waiters = cancelled w.id s.waiters })
+served w answer told s = (told ++ Served w.party w.id answer ∷ [], record s { waiters = cancelled w.id s.waiters })
 
 -- and then its wish is granted, as it waits no more
 abbrev pub with_its_wish : Waiter → Answer → List Effect × CoreState → List Effect × CoreState
@@ -95,7 +95,7 @@ AllRest n left s earlier ws = AllBehind (λ before w. again n left s before w �
 -- ---- how the first that has a turn is found
 
 abbrev pub called_of : CoreState → Waiter → Called
-called_of s w = record { id = w.id; asked = w.asked; wish = w.wish; plea = plea_again s w }
+called_of s w = record { id = w.id; party = w.party; asked = w.asked; wish = w.wish; plea = plea_again s w }
 
 -- the first of these that isn't held up behind earlier ones
 abbrev pub first_called : CoreState → List Waiter → List Waiter → Option Called
@@ -130,13 +130,22 @@ waits_with (leavers.Open number party) w = waits_as number w
 unfoldable pub numbers_with : Leaver → List Waiter → List ℕ
 numbers_with leaver waiters = map (λ w. w.id) (filter (waits_with leaver) waiters)
 
-abbrev pub all_told : List ℕ → List Effect
-all_told [] = []
-all_told (id ∷ ids) = Cancelled id ∷ all_told ids
+-- the waiter waits no more
+abbrev pub gone : Waiter → Effect
+gone w = Cancelled w.party w.id
+
+-- what is told of those who wait no more then
+unfoldable pub told_with : Leaver → List Waiter → List Effect
+told_with leaver waiters = map gone (filter (waits_with leaver) waiters)
+
+-- what is told of the first waiter of this number, who waits no more
+abbrev pub told_of_one : ℕ → List Waiter → List Effect
+told_of_one id [] = []
+told_of_one id (w ∷ ws) = if w.id == id then gone w ∷ [] else told_of_one id ws
 
 -- one waiter is taken out; no claim changes (TABLE-22)
 unfoldable pub cancel : CoreState → ℕ → List Effect × CoreState
-cancel s id = (Cancelled id ∷ [], record s { waiters = cancelled id s.waiters })
+cancel s id = (told_of_one id s.waiters, record s { waiters = cancelled id s.waiters })
 
 -- one claim is taken out (CORE-15)
 unfoldable pub give_back : CoreState → Claim → List Effect × CoreState
@@ -154,7 +163,7 @@ weaken s share access deny = ([], record s { claims = changed share (Share acces
 -- the claims are taken out that go with who leaves, and the waiters
 abbrev pub departed : CoreState → Leaver → List Effect × CoreState
 departed s leaver = (
-  all_told (numbers_with leaver s.waiters),
+  told_with leaver s.waiters,
   record s { claims = filter (λ c. not (goes leaver c)) s.claims; waiters = filter (λ w. not (waits_with leaver w)) s.waiters },
 )
 

@@ -1,6 +1,8 @@
 //! What is asked of the core, what it answers, and its effects besides.
+ghost use Rattle.std.specs.Prelude.{◌≡◌};
+ghost use Rattle.xl_core.specs.Told.{party_protocol, told_to};
 
-use xl_base::{Moment, Sequence};
+use xl_base::{Moment, Party, Protocol, Sequence};
 use xl_matrix::{CacheKind, Claim, Extent, Rwd};
 use xl_names::Name;
 use xl_wait::Rooms;
@@ -92,10 +94,34 @@ pub enum Answer {
 pub enum Effect {
     /// The break of this cache began, to this kind or none; a recall's call has this number.
     Begun(Claim, Option<CacheKind>, Option<u32>),
-    /// The waiter of this number is served, with this answer.
-    Served(u32, Answer),
-    /// The waiter of this number waits no more.
-    Cancelled(u32),
+    /// The waiter of this party and number is served, with this answer.
+    Served(Party, u32, Answer),
+    /// The waiter of this party and number waits no more.
+    Cancelled(Party, u32),
     /// The client of this id string expired.
     Expired(Sequence<u8>),
+}
+
+/// The protocol of a party.
+fn party_protocol(party: Party) -> Protocol
+    ensures { result ≡ party_protocol party }
+{
+    match party {
+        Party::Name(protocol, _) => protocol,
+        Party::Open(_) => Protocol::Smb,
+    }
+}
+
+impl Effect {
+    /// The protocol whose front hears of it: that of the party that it names. Only clients of NFSv4 expire.
+    pub fn protocol(&self) -> Protocol
+        ensures { result ≡ told_to self.now }
+    {
+        match self {
+            Effect::Begun(cache, _, _) => party_protocol(cache.party),
+            Effect::Served(party, _, _) => party_protocol(*party),
+            Effect::Cancelled(party, _) => party_protocol(*party),
+            Effect::Expired(_) => Protocol::Nfs,
+        }
+    }
 }

@@ -127,6 +127,13 @@ fn party_behind(names: &Names, who: &Who, before: &Who) -> Party
     }
 }
 
+/// The party that asks, with the number that its name has, or gets when it comes.
+pub(crate) fn asking_party(names: &Names, ask: &Ask) -> Party
+    ensures { result ≡ asking_party ask.now names.now }
+{
+    party_behind(names, &ask.party, &ask.owner)
+}
+
 /// The claim that an ask is for.
 pub(crate) fn asked_claim(names: &Names, ask: &Ask, what: What) -> Claim
     ensures { result ≡ asked_claim ask.now what names.now }
@@ -134,7 +141,7 @@ pub(crate) fn asked_claim(names: &Names, ask: &Ask, what: What) -> Claim
     Claim {
         file: ask.file,
         owner: owner_in(names, &ask.owner),
-        party: party_behind(names, &ask.party, &ask.owner),
+        party: asking_party(names, ask),
         what,
     }
 }

@@ -14,14 +14,16 @@ ghost use Rattle.xl_core.specs.Whole.{state_of};
 ghost use Rattle.xl_core.specs.declared.ask.Act.TheVariants.{Ranges};
 
 use crate::ask::{Act, Answer, Ask, Effect};
-use crate::askers::{asked_claim, asked_claims, count_names, enter_both, known_claim};
+use crate::askers::{
+    asked_claim, asked_claims, asking_party, count_names, enter_both, known_claim,
+};
 use crate::judge::{Plea, Ruling, judge_all};
 use crate::limits::{passed_by_wait, passed_by_wish};
 use crate::parts::Parts;
 use crate::ways::make_way;
 use crate::wishes::grant_for;
 use std::alloc::{AllocError, Global};
-use xl_base::Sequence;
+use xl_base::{Party, Sequence};
 use xl_matrix::{Claim, Extent, What, is_posix};
 use xl_table::CLAIMS;
 use xl_wait::{QueueErr, Rooms, Waiter};
@@ -45,12 +47,19 @@ fn plea_of(parts: &Parts, left: &Rooms, ask: &Ask) -> Plea
     }
 }
 
-/// One who waits for these claims.
-fn waiter_of(alloc: Global, id: u32, ask: &Ask, claims: &[Claim]) -> Result<Waiter, AllocError>
-    ensures { IfOk result (λ w. w ≡ waiter_of id ask.now claims.now) }
+/// This party, which waits for these claims.
+fn waiter_of(
+    alloc: Global,
+    id: u32,
+    ask: &Ask,
+    party: Party,
+    claims: &[Claim],
+) -> Result<Waiter, AllocError>
+    ensures { IfOk result (λ w. w ≡ waiter_of id ask.now party claims.now) }
 {
     Ok(Waiter {
         id,
+        party,
         conn: ask.conn,
         asked: Sequence::from_slice(alloc, claims)?,
         wish: Sequence::from_slice(alloc, ask.wish.as_slice())?,
@@ -75,7 +84,8 @@ fn wait(alloc: Global, parts: &mut Parts, ask: &Ask, claims: &[Claim]) -> Result
     ensures failed { parts.new.failed ≡ parts.old.failed }
 {
     let id = parts.counter + 1;
-    let waiter = waiter_of(alloc, id, ask, claims)?;
+    let party = asking_party(&parts.names, ask);
+    let waiter = waiter_of(alloc, id, ask, party, claims)?;
     enter_both(&mut parts.names, ask)?;
     match parts.queue.push(waiter) {
         Ok(()) => {}

@@ -26,7 +26,7 @@ ghost use Rattle.xl_wait.specs.Waiting.{is_waiting, cancelled};
 ghost use Rattle.xl_wait.specs.declared.waiter.Rooms.{Rooms};
 ghost use Rattle.xl_wait.specs.declared.waiter.Waiter.{Waiter};
 ghost use Rattle.xl_core.specs.State.{CoreState, started, step_begun, drawn};
-ghost use Rattle.xl_core.specs.Askers.{asker, asked_whats, asked_what, asked_claim, asked_claims, known_claim, is_named, IsFit};
+ghost use Rattle.xl_core.specs.Askers.{asker, asking_party, asked_whats, asked_what, asked_claim, asked_claims, known_claim, is_named, IsFit};
 ghost use Rattle.xl_core.specs.Causes.{IsSameAsker, IsConflict, limits_of_grant, IsClaimDue, IsTestDue, IsUnlockDue, IsWishDue, IsTurn, IsOwn};
 ghost use Rattle.xl_core.specs.Decide.{waiter_of, way, ask};
 ghost use Rattle.xl_core.specs.Frames.{calls_in, drawn_by, names_after, come_by, who_left, serves_none, IsFrame, IsRenewed, IsTicked};
@@ -36,6 +36,7 @@ ghost use Rattle.xl_core.specs.Settle.{settle, turns_left, AllRest, waits_for, w
 ghost use Rattle.xl_table.specs.Leaving.{goes};
 ghost use Rattle.xl_table.specs.declared.leaver.Leaver.TheVariants as Leaver;
 ghost use Rattle.xl_core.specs.declared.ask.Act.{Act};
+ghost use Rattle.xl_core.specs.declared.ask.Effect.TheVariants.{Cancelled};
 ghost use Rattle.xl_core.specs.declared.ask.Answer.{Answer};
 ghost use Rattle.xl_cache.specs.BreakPlans.{is_running, is_obstacle, planned, is_slow};
 ghost use Rattle.xl_core.specs.BreaksBegun.{with_break, once_broken, idle_caches};
@@ -127,7 +128,7 @@ pub fn nothing_else_changes()
 /// the least limit that this would pass, and waits no more; all others wait on, and have what they had. So turns end,
 /// with nobody left who isn't held up: a turn takes a waiter out, which may be served with a cache, or begins a break.
 pub fn nobody_is_forgotten()
-    ensures waits { (n : ℕ) (left : Rooms) (s : CoreState) (a : Ask) (number : ℕ) → IsGood s → IsFit a → (ask n left s a).0 ≡ Answer.Queued number → (ask n left s a).2.waiters ≡ s.waiters ++ waiter_of number a (asked_claims a (asked_whats a.act) s.names) ∷ [] }
+    ensures waits { (n : ℕ) (left : Rooms) (s : CoreState) (a : Ask) (number : ℕ) → IsGood s → IsFit a → (ask n left s a).0 ≡ Answer.Queued number → (ask n left s a).2.waiters ≡ s.waiters ++ waiter_of number a (asking_party a s.names) (asked_claims a (asked_whats a.act) s.names) ∷ [] }
     ensures settled { (n : ℕ) (left : Rooms) (s : CoreState) → (settle n left s ≡ None) ↔ AllRest n left s [] s.waiters }
     ensures blocked { (n : ℕ) (left : Rooms) (s : CoreState) → AllRest n left s [] s.waiters ↔ IsSettled s }
     ensures turns { (n : ℕ) (left : Rooms) (s : CoreState) → IsGood s → IfSome (settle n left s) (λ r. IsTurn left s r.0 r.1) }
@@ -135,10 +136,11 @@ pub fn nobody_is_forgotten()
 {}
 
 /// Who gives a claim back takes that claim out, and no other. Who cancels takes no claim with it, and of the waiters only the
-/// one of this number. A party that ends takes its own claims and waiters, and no others. An SMB open that is closed takes its
+/// one of this number, whose party and number the one effect names. A party that ends takes its own claims and waiters, and no others. An SMB open that is closed takes its
 /// own share, its ranges and its waiters, and the caches of the party that goes with it, and no others.
 pub fn only_a_party_leaves()
     ensures cancelled { (s : CoreState) (id : ℕ) → ((cancel s id).1.claims ≡ s.claims) × ((cancel s id).1.waiters ≡ cancelled id s.waiters) }
+    ensures named { (s : CoreState) (id : ℕ) (w : Waiter) → IsGood s → IsIn w s.waiters → w.id ≡ id → (cancel s id).0 ≡ Cancelled w.party id ∷ [] }
     ensures given_back { (s : CoreState) (claim : Claim) → ((give_back s claim).1.claims ≡ removed claim s.claims) × ((give_back s claim).1.waiters ≡ s.waiters) }
     ensures claims { (s : CoreState) (party : Party) (c : Claim) → IsIn c (end_party s party).1.claims ↔ (IsIn c s.claims × (same_parties c.party party ≡ false)) }
     ensures waiters { (s : CoreState) (party : Party) (w : Waiter) → IsIn w (end_party s party).1.waiters ↔ (IsIn w s.waiters × (waits_for party w ≡ false)) }

@@ -1,12 +1,12 @@
 //! Who waits no more, who leaves, and who has less from now on.
-ghost use Rattle.std.specs.Prelude.{◌≡◌, ℕ, ◌++◌, true, length, map, OnOk, IfOk};
+ghost use Rattle.std.specs.Prelude.{◌≡◌, ℕ, ◌++◌, [], ◌∷◌, true, length, map, OnOk, IfOk};
 ghost use Rattle.std.specs.List.{filter, list_any};
 ghost use Rattle.xl_matrix.specs.Equal.{same_owners, same_parties};
 ghost use Rattle.xl_wait.specs.Waiting.{cancelled};
 ghost use Rattle.xl_core.specs.Good.{IsGood};
 ghost use Rattle.xl_base.specs.Lists.{IsIn};
 ghost use Rattle.xl_core.specs.BreakAnswers.{ack};
-ghost use Rattle.xl_core.specs.Settle.{waits_for, waits_as, waits_with, numbers_with, all_told, all_cancelled, cancel, give_back, weaken, departed};
+ghost use Rattle.xl_core.specs.Settle.{waits_for, waits_as, waits_with, numbers_with, gone, told_with, told_of_one, all_cancelled, cancel, give_back, weaken, departed};
 ghost use Rattle.xl_core.specs.Whole.{state_of};
 
 use crate::ask::Effect;
@@ -17,6 +17,33 @@ use xl_matrix::{CacheKind, Claim, Rwd, What, same_owner, same_party};
 use xl_table::Leaver;
 use xl_wait::{Queue, Waiter};
 
+fn gone(waiter: &Waiter) -> Effect
+    ensures { result ≡ gone waiter.now }
+{
+    Effect::Cancelled(waiter.party, waiter.id)
+}
+
+/// This effect alone.
+fn alone(alloc: Global, effect: Effect) -> Result<Sequence<Effect>, AllocError>
+    ensures { IfOk result (λ effects. effects ≡ effect ∷ []) }
+{
+    let mut effects = Sequence::new(alloc);
+    effects.push(effect)?;
+    Ok(effects)
+}
+
+/// What is told of the first waiter of this number, who waits no more.
+fn told_of_one(alloc: Global, id: u32, waiters: &[Waiter]) -> Result<Sequence<Effect>, AllocError>
+    ensures { IfOk result (λ effects. effects ≡ told_of_one id waiters.now) }
+{
+    for waiter in waiters {
+        if waiter.id == id {
+            return alone(alloc, gone(waiter));
+        }
+    }
+    Ok(Sequence::new(alloc))
+}
+
 /// Takes one waiter out.
 #[tactic(auto, unfolding(crate::specs::Settle::cancel))]
 pub(crate) fn cancel(
@@ -26,8 +53,7 @@ pub(crate) fn cancel(
 ) -> Result<Sequence<Effect>, AllocError>
     ensures { IfOk result (λ effects. cancel (state_of parts.old) id ≡ (effects, state_of parts.new)) }
 {
-    let mut effects = Sequence::new(alloc);
-    effects.push(Effect::Cancelled(id))?;
+    let effects = told_of_one(alloc, id, parts.queue.waiters())?;
     parts.queue.cancel(id);
     Ok(effects)
 }
@@ -123,12 +149,20 @@ fn numbers_with(alloc: Global, leaver: Leaver, waiters: &[Waiter]) -> Result<Vec
     Ok(numbers)
 }
 
-fn told(alloc: Global, numbers: &[u32]) -> Result<Sequence<Effect>, AllocError>
-    ensures { IfOk result (λ effects. effects ≡ all_told numbers.now) }
+/// What is told of those who wait no more once this one leaves.
+#[tactic(auto, unfolding(crate::specs::Settle::told_with))]
+fn told_with(
+    alloc: Global,
+    leaver: Leaver,
+    waiters: &[Waiter],
+) -> Result<Sequence<Effect>, AllocError>
+    ensures { IfOk result (λ effects. effects ≡ told_with leaver waiters.now) }
 {
     let mut effects = Sequence::new(alloc);
-    for number in numbers {
-        effects.push(Effect::Cancelled(*number))?;
+    for waiter in waiters {
+        if waits_with(leaver, waiter) {
+            effects.push(gone(waiter))?;
+        }
     }
     Ok(effects)
 }
@@ -152,7 +186,7 @@ pub(crate) fn leave(
     ensures { IfOk result (λ effects. departed (state_of parts.old) leaver ≡ (effects, state_of parts.new)) }
 {
     let numbers = numbers_with(alloc, leaver, parts.queue.waiters())?;
-    let effects = told(alloc, &numbers)?;
+    let effects = told_with(alloc, leaver, parts.queue.waiters())?;
     parts.table.remove_leaver(leaver);
     cancel_all(&mut parts.queue, &numbers);
     Ok(effects)

@@ -16,7 +16,7 @@ use crate::unsettled::{Unsettled, is_among, only_file};
 use crate::ways::make_way;
 use crate::wishes::grant_for;
 use std::alloc::{AllocError, Global};
-use xl_base::Sequence;
+use xl_base::{Party, Sequence};
 use xl_matrix::{CacheKind, Claim};
 use xl_wait::{Rooms, Waiter};
 
@@ -25,6 +25,8 @@ use xl_wait::{Rooms, Waiter};
 pub(crate) struct Called {
     /// The waiter's number.
     pub id: u32,
+    /// Its party.
+    pub party: Party,
     /// The claims that it asks for.
     pub asked: Sequence<Claim>,
     /// The caches that it wishes for.
@@ -123,6 +125,7 @@ fn called_of(alloc: Global, parts: &Parts, waiter: &Waiter) -> Result<Called, Al
 {
     Ok(Called {
         id: waiter.id,
+        party: waiter.party,
         asked: Sequence::from_slice(alloc, waiter.asked.as_slice())?,
         wish: Sequence::from_slice(alloc, waiter.wish.as_slice())?,
         plea: plea_again(parts, waiter),
@@ -211,7 +214,7 @@ fn serve(
     ruling: Ruling,
     begun: Sequence<Effect>,
 ) -> Result<Sequence<Effect>, AllocError>
-    ensures turned { (w : Waiter) → w.id ≡ called.now.id → w.asked ≡ called.now.asked → w.wish ≡ called.now.wish → IfOk result (λ effects. turned w ruling begun (state_of parts.old) ≡ (effects, state_of parts.new)) }
+    ensures turned { (w : Waiter) → w.id ≡ called.now.id → w.party ≡ called.now.party → w.asked ≡ called.now.asked → w.wish ≡ called.now.wish → IfOk result (λ effects. turned w ruling begun (state_of parts.old) ≡ (effects, state_of parts.new)) }
     ensures made { parts.new.made ≡ parts.old.made }
     ensures failed { parts.new.failed ≡ parts.old.failed }
 {
@@ -220,13 +223,13 @@ fn serve(
         Ruling::Gets => {
             let answer = all_of(called.asked.as_slice());
             parts.queue.cancel(called.id);
-            effects.push(Effect::Served(called.id, answer))?;
+            effects.push(Effect::Served(called.party, called.id, answer))?;
             grant_for(alloc, parts, called.wish.as_slice(), answer)?;
         }
         Ruling::Waits => {}
         Ruling::Told(answer) => {
             parts.queue.cancel(called.id);
-            effects.push(Effect::Served(called.id, answer))?;
+            effects.push(Effect::Served(called.party, called.id, answer))?;
         }
     }
     Ok(effects)

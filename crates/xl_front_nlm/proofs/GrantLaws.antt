@@ -3,6 +3,7 @@ use Rattle.std.proofs.Common.{◌≡◌, ℕ, ◌+◌, ◌≤◌, Bool, List, []
 use Rattle.std.proofs.lemmas.Bool.{cases_Bool}
 use Rattle.std.specs.Prelude.{nat_le, option_map}
 use Rattle.xl_base.specs.declared.journal.Exports.{Exports}
+use Rattle.xl_base.specs.declared.name.Party.{Party}
 use Rattle.xl_matrix.specs.declared.claim.Claim.{Claim}
 use Rattle.xl_matrix.specs.declared.claim.Extent.TheVariants.{Bytes, Empty}
 use Rattle.xl_matrix.specs.declared.claim.What.{What}
@@ -18,17 +19,17 @@ use Rattle.xl_front_nlm.specs.Grants.{bytes_of, name_of, grant_by, grant_of, add
 use Rattle.xl_front_nlm.specs.State.{FrontState, awaited}
 use Rattle.xl_front_nlm.specs.declared.grant.Grant.{Grant}
 
-pub grant_is_told : (exports : Exports) (f : FrontState) (s : CoreState) (id : ℕ) (claim : Claim) (g : Grant) (to : List ℕ) → grant_of s.names claim ≡ Some g → address_of exports.addresses g.caller ≡ Some to
-    → shown exports f s (Served id (answers.Granted claim)) ≡ (call_of (s.counter + 1) to g ∷ [], awaited f (record { number = s.counter + 1; claim = claim }), drawn s)
+pub grant_is_told : (exports : Exports) (f : FrontState) (s : CoreState) (party : Party) (id : ℕ) (claim : Claim) (g : Grant) (to : List ℕ) → grant_of s.names claim ≡ Some g → address_of exports.addresses g.caller ≡ Some to
+    → shown exports f s (Served party id (answers.Granted claim)) ≡ (call_of (s.counter + 1) to g ∷ [], awaited f (record { number = s.counter + 1; claim = claim }), drawn s)
 unfolding shown
-grant_is_told exports f s id claim g to e at =
+grant_is_told exports f s party id claim g to e at =
     ap (λ (o : Option Grant). told_by f s (option_map (λ told. (claim, told.0, told.1)) (addressed exports o))) e
     ∙ ap (λ (o : Option (List ℕ)). told_by f s (option_map (λ told. (claim, told.0, told.1)) (with_address g o))) at
 
-pub grant_untold : (exports : Exports) (f : FrontState) (s : CoreState) (id : ℕ) (claim : Claim) (g : Grant) → grant_of s.names claim ≡ Some g → address_of exports.addresses g.caller ≡ None
-    → shown exports f s (Served id (answers.Granted claim)) ≡ ([], f, s)
+pub grant_untold : (exports : Exports) (f : FrontState) (s : CoreState) (party : Party) (id : ℕ) (claim : Claim) (g : Grant) → grant_of s.names claim ≡ Some g → address_of exports.addresses g.caller ≡ None
+    → shown exports f s (Served party id (answers.Granted claim)) ≡ ([], f, s)
 unfolding shown
-grant_untold exports f s id claim g e at =
+grant_untold exports f s party id claim g e at =
     ap (λ (o : Option Grant). told_by f s (option_map (λ told. (claim, told.0, told.1)) (addressed exports o))) e
     ∙ ap (λ (o : Option (List ℕ)). told_by f s (option_map (λ told. (claim, told.0, told.1)) (with_address g o))) at
 

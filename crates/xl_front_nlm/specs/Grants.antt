@@ -70,10 +70,10 @@ abbrev pub addressed : Exports → Option Grant → Option (Grant × List ℕ)
 addressed exports None = None
 addressed exports (Some g) = with_address g (address_of exports.addresses g.caller)
 
--- what there is to send of an effect, and to whom: a grant of one who waited. One who waited and found no room is sent
+-- what there is to send of an effect of NLM, and to whom: a grant of one who waited. One who waited and found no room is sent
 -- nothing, and so is one who was cancelled (NLM-10).
 abbrev pub news : Exports → CoreState → Effect → Option (Claim × Grant × List ℕ)
-news exports s (Served id (Granted claim)) = option_map (λ told. (claim, told.0, told.1)) (addressed exports (grant_of s.names claim))
+news exports s (Served party id (Granted claim)) = option_map (λ told. (claim, told.0, told.1)) (addressed exports (grant_of s.names claim))
 news exports s _ = None
 
 -- the call takes the next number, and awaits its answer from then on (NLM-10)
@@ -81,7 +81,7 @@ abbrev pub told_by : FrontState → CoreState → Option (Claim × Grant × List
 told_by f s None = ([], f, s)
 told_by f s (Some told) = (call_of (s.counter + 1) told.2 told.1 ∷ [], awaited f (record { number = s.counter + 1; claim = told.0 }), drawn s)
 
--- what is sent for an effect of the core, and the front and the core afterwards
+-- what is sent for an effect that names a party of NLM, and the front and the core afterwards
 unfoldable pub shown : Exports → FrontState → CoreState → Effect → List Out × FrontState × CoreState
 shown exports f s effect = told_by f s (news exports s effect)
 

@@ -64,11 +64,10 @@ fn tell_grant(
     tell(alloc, layers, claim, &grant, to)
 }
 
-/// What is sent for an effect of the core. Who waited for a lock and was granted it is answered by a call of GRANTED
-/// (XNFS C702), if its caller has an address; the call takes the next number, and awaits its answer from then on. All
-/// else sends nothing, nor does a break that began: no client of NLM has a cache. At least 65,536 numbers must be left
-/// to give out, beside those that who waits and the recalls to come may take. After an error nothing is known of the
-/// front and the core.
+/// What is sent for an effect of the core that names a party of NLM. Who waited for a lock and was granted it is answered
+/// by a call of GRANTED (XNFS C702), if its caller has an address; the call takes the next number, and awaits its answer
+/// from then on. All else sends nothing. At least 65,536 numbers must be left to give out, beside those that who waits and
+/// the recalls to come may take. After an error nothing is known of the front and the core.
 #[tactic(auto, unfolding(crate::specs::Grants::shown), using(crate::proofs::LeaveLaws::leaves_self))]
 pub fn shown(
     alloc: Global,
@@ -82,7 +81,7 @@ pub fn shown(
     ensures little { IfOk result (λ outs. AllByRecursion FitsFrame outs) }
 {
     match effect {
-        Effect::Served(_, Answer::Granted(claim)) => tell_grant(alloc, exports, layers, claim),
+        Effect::Served(_, _, Answer::Granted(claim)) => tell_grant(alloc, exports, layers, claim),
         _ => Ok(Sequence::new(alloc)),
     }
 }

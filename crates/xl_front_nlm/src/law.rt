@@ -2,6 +2,7 @@
 ghost use Rattle.std.specs.Prelude.{◌≡◌, ℕ, ◌+◌, ◌≤◌, ◌==◌, true, false, not, List, [], ◌∷◌, ◌++◌, length, Option, Some, None, ◌↔◌};
 ghost use Rattle.std.specs.List.{find};
 ghost use Rattle.xl_base.specs.declared.journal.Exports.{Exports};
+ghost use Rattle.xl_base.specs.declared.name.Party.{Party};
 ghost use Rattle.xl_matrix.specs.declared.claim.Claim.{Claim};
 ghost use Rattle.xl_matrix.specs.declared.claim.Extent.TheVariants.{Bytes};
 ghost use Rattle.xl_matrix.specs.declared.claim.What.TheVariants.{Range};
@@ -79,10 +80,10 @@ pub fn statuses_have_causes()
 /// No effect sends more than one message.
 #[tactic(auto, using(crate::proofs::GrantLaws::grant_is_told, crate::proofs::GrantLaws::grant_untold, crate::proofs::GrantLaws::grant_is_the_claim, crate::proofs::GrantLaws::one_call))]
 pub fn grants_are_told()
-    ensures told { (exports : Exports) (f : FrontState) (s : CoreState) (id : ℕ) (claim : Claim) (g : Grant) (to : List ℕ) → grant_of s.names claim ≡ Some g → address_of exports.addresses g.caller ≡ Some to
-        → shown exports f s (Served id (Granted claim)) ≡ (call_of (s.counter + 1) to g ∷ [], awaited f (record { number = s.counter + 1; claim = claim }), drawn s) }
-    ensures untold { (exports : Exports) (f : FrontState) (s : CoreState) (id : ℕ) (claim : Claim) (g : Grant) → grant_of s.names claim ≡ Some g → address_of exports.addresses g.caller ≡ None
-        → shown exports f s (Served id (Granted claim)) ≡ ([], f, s) }
+    ensures told { (exports : Exports) (f : FrontState) (s : CoreState) (party : Party) (id : ℕ) (claim : Claim) (g : Grant) (to : List ℕ) → grant_of s.names claim ≡ Some g → address_of exports.addresses g.caller ≡ Some to
+        → shown exports f s (Served party id (Granted claim)) ≡ (call_of (s.counter + 1) to g ∷ [], awaited f (record { number = s.counter + 1; claim = claim }), drawn s) }
+    ensures untold { (exports : Exports) (f : FrontState) (s : CoreState) (party : Party) (id : ℕ) (claim : Claim) (g : Grant) → grant_of s.names claim ≡ Some g → address_of exports.addresses g.caller ≡ None
+        → shown exports f s (Served party id (Granted claim)) ≡ ([], f, s) }
     ensures range { (names : List Name) (claim : Claim) (g : Grant) → grant_of names claim ≡ Some g → (claim.file ≡ g.file) × (claim.what ≡ Range (Bytes g.first g.last) g.exclusive) }
     ensures one { (exports : Exports) (f : FrontState) (s : CoreState) (effect : Effect) → length (shown exports f s effect).0 ≤ 1 }
 {}

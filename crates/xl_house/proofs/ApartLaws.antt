@@ -131,7 +131,7 @@ begin_apart f number apart = begun_by f.state number _ apart
 
 pub shown_apart : (f : FrontSmb) (s : CoreState) (effect : Effect) → AreApart f.state → AreApart (smb_shown f s effect).1.state
 unfolding smb_shown told_of
-shown_apart f s (effects.Served id answer) apart = subst (λ (es : List (ℕ × Waiting)). IsDistinct nat_eq (keys_of es)) (sym (served_rows s id answer f.state).0) (still_distinct id f.state.waiting apart)
-shown_apart f s (effects.Cancelled id) apart = ended_apart id f.state apart
+shown_apart f s (effects.Served party id answer) apart = subst (λ (es : List (ℕ × Waiting)). IsDistinct nat_eq (keys_of es)) (sym (served_rows s id answer f.state).0) (still_distinct id f.state.waiting apart)
+shown_apart f s (effects.Cancelled party id) apart = apart
 shown_apart f s (effects.Begun claim to number) apart = apart
 shown_apart f s (effects.Expired client) apart = apart

@@ -8,6 +8,8 @@ use Rattle.xl_base.specs.declared.event.Kind.{Kind}
 use Rattle.xl_base.specs.declared.event.Kind.TheVariants.{Rpc, Smb}
 use Rattle.xl_base.specs.declared.event.Out.{Out}
 use Rattle.xl_base.specs.declared.journal.Exports.{Exports}
+use Rattle.xl_base.specs.declared.name.Protocol.{Protocol}
+use Rattle.xl_base.specs.declared.name.Protocol.TheVariants as protocols
 use Rattle.xl_matrix.specs.declared.claim.Claim.{Claim}
 use Rattle.xl_programs.specs.Programs.{RequestItem, IncomingItem, Unanswered, Refused, Asked, incoming_at}
 use Rattle.xl_programs.specs.declared.program.Program.{Program}
@@ -17,6 +19,7 @@ use Rattle.xl_core.specs.State.{CoreState, step_begun}
 use Rattle.xl_core.specs.Deeds.{Deed, Lapses, Expires, turned, done, all_done, all_told_of, deeds_in_turn, expiries, lapses, tick_deeds, AreFit}
 use Rattle.xl_core.specs.Good.{IsGood}
 use Rattle.xl_core.specs.Settle.{settle}
+use Rattle.xl_core.specs.Told.{told_to}
 use Rattle.xl_core.specs.declared.ask.Effect.{Effect}
 use Rattle.xl_base.specs.declared.event.Moment.{Moment}
 use Rattle.std.proofs.lemmas.Bool.{cases_Bool, eq-eqb}
@@ -29,40 +32,50 @@ use Rattle.xl_front_nlm.proofs.AnswerLaws.{answer_does, answer_takes, answer_tel
 use Rattle.xl_front_nlm.proofs.DoesLaws.{step_does, step_own, step_replies, step_takes, step_tells}
 use Rattle.xl_front_nlm.proofs.GrantLaws.{telling_does, telling_takes}
 use Rattle.xl_front_nlm.specs.Answers.{refusal_deeds}
-use Rattle.xl_front_nlm.specs.Grants.{news, drawn_for, shown_deeds}
+use Rattle.xl_front_nlm.specs.Grants.{news, drawn_for}
 use Rattle.xl_house.specs.declared.layers.Fronts.{Fronts}
 use Rattle.xl_front_nlm.specs.declared.grant.Grant.{Grant}
 use Rattle.xl_nfs_laws.proofs.RequestDeedLaws as nfs
 use Rattle.xl_nfs_laws.proofs.RequestOwn as nfs_own
 use Rattle.xl_smb_laws.proofs.RequestDeedLaws as smb
 use Rattle.xl_smb_laws.proofs.RequestOwn as smb_own
-use Rattle.xl_house.specs.Done.{Round, told_deeds, turn_deeds, turns_deeds, told_of, behind_own, round_deeds, round_outs, rounds_deeds, rounds_outs, round_of, rounds, deeds, messages}
+use Rattle.xl_house.specs.Done.{Round, deeds_by, told_deeds, turn_deeds, turns_deeds, told_of, behind_own, round_deeds, round_outs, rounds_deeds, rounds_outs, round_of, rounds, deeds, messages}
 use Rattle.xl_house.specs.Journals.{is_restart}
 use Rattle.xl_house.specs.Lawful.{may_do, may_follow, IsCausedBy}
 use Rattle.xl_house.specs.Machine.{replied_by, telling, heard}
 use Rattle.xl_house.specs.Own.{Own, begun, idle, program_own, record_own, message_own, end_own, own_of}
 use Rattle.xl_house.specs.Owners.{AreRefusals, AreOf}
 use Rattle.xl_house.specs.State.{Whole, as_found, nfs_opens, smb_opens, kind_of, rooms_of}
-use Rattle.xl_house.specs.Telling.{TurnTaken, showing, framed_by, all_shown, taken, turns, turns_sent, settled}
+use Rattle.xl_house.specs.Telling.{TurnTaken, shown_by, showing, framed_by, all_shown, taken, turns, turns_sent, settled}
 use Rattle.xl_house.proofs.TurnLaws.{of_turns}
 use Rattle.xl_house.proofs.MayLaws.{nlm_may, nfs_may, smb_may, last_may}
 
 -- ---- telling
+
+shown_does : (n : ℕ) (exports : Exports) (f : Fronts) (s : CoreState) (effect : Effect) (p : Protocol) → (shown_by exports f s effect p).2 ≡ all_done n s (deeds_by exports s effect p)
+shown_does n exports f s effect protocols.Nlm = telling_does n exports f.nlm s effect
+shown_does n exports f s effect protocols.Nfs = refl
+shown_does n exports f s effect protocols.Smb = refl
+
+shown_takes : (n : ℕ) (exports : Exports) (s : CoreState) (effect : Effect) (p : Protocol) → AreFit n s (deeds_by exports s effect p)
+shown_takes n exports s effect protocols.Nlm = telling_takes n exports s effect
+shown_takes n exports s effect protocols.Nfs = tt
+shown_takes n exports s effect protocols.Smb = tt
 
 told_does : (n : ℕ) (exports : Exports) (f : Fronts) (s : CoreState) (effects : List Effect) → (all_shown exports f s effects).2 ≡ all_done n s (told_deeds exports f s effects)
 told_does n exports f s [] = refl
 told_does n exports f s (effect ∷ effects) =
     let r = showing exports f s effect in
     told_does n exports r.1 r.2 effects
-    ∙ ap (λ (t : CoreState). all_done n t (told_deeds exports r.1 r.2 effects)) (telling_does n exports f.nlm s effect)
-    ∙ sym (done_append n s (shown_deeds exports s effect) (told_deeds exports r.1 r.2 effects))
+    ∙ ap (λ (t : CoreState). all_done n t (told_deeds exports r.1 r.2 effects)) (shown_does n exports f s effect (told_to effect))
+    ∙ sym (done_append n s (deeds_by exports s effect (told_to effect)) (told_deeds exports r.1 r.2 effects))
 
 told_fit : (n : ℕ) (exports : Exports) (f : Fronts) (s : CoreState) (effects : List Effect) → AreFit n s (told_deeds exports f s effects)
 told_fit n exports f s [] = tt
 told_fit n exports f s (effect ∷ effects) =
     let r = showing exports f s effect in
-    fit_append n s (shown_deeds exports s effect) (told_deeds exports r.1 r.2 effects) (telling_takes n exports s effect)
-    (subst (λ (t : CoreState). AreFit n t (told_deeds exports r.1 r.2 effects)) (telling_does n exports f.nlm s effect) (told_fit n exports r.1 r.2 effects))
+    fit_append n s (deeds_by exports s effect (told_to effect)) (told_deeds exports r.1 r.2 effects) (shown_takes n exports s effect (told_to effect))
+    (subst (λ (t : CoreState). AreFit n t (told_deeds exports r.1 r.2 effects)) (shown_does n exports f s effect (told_to effect)) (told_fit n exports r.1 r.2 effects))
 
 abbrev Follow : List Deed → Type 0
 Follow ds = AllByRecursion (λ d. may_follow d ≡ true) ds
@@ -71,11 +84,16 @@ drawn_follow : (o : Option (Claim × Grant × List ℕ)) → Follow (drawn_for o
 drawn_follow None = tt
 drawn_follow (Some told) = (refl, tt)
 
+shown_follow : (exports : Exports) (s : CoreState) (effect : Effect) (p : Protocol) → Follow (deeds_by exports s effect p)
+shown_follow exports s effect protocols.Nlm = drawn_follow (news exports s effect)
+shown_follow exports s effect protocols.Nfs = tt
+shown_follow exports s effect protocols.Smb = tt
+
 told_follow : (exports : Exports) (f : Fronts) (s : CoreState) (effects : List Effect) → Follow (told_deeds exports f s effects)
 told_follow exports f s [] = tt
 told_follow exports f s (effect ∷ effects) =
     let r = showing exports f s effect in
-    all_append (λ d. may_follow d ≡ true) (shown_deeds exports s effect) (told_deeds exports r.1 r.2 effects) (drawn_follow (news exports s effect)) (told_follow exports r.1 r.2 effects)
+    all_append (λ d. may_follow d ≡ true) (deeds_by exports s effect (told_to effect)) (told_deeds exports r.1 r.2 effects) (shown_follow exports s effect (told_to effect)) (told_follow exports r.1 r.2 effects)
 
 -- ---- turns
 

@@ -13,6 +13,7 @@ use Rattle.xl_base.specs.declared.event.Moment.{Moment}
 use Rattle.xl_base.specs.declared.event.Out.{Out}
 use Rattle.xl_base.specs.declared.journal.Entry.{Entry}
 use Rattle.xl_base.specs.declared.name.Owner.TheVariants as owners
+use Rattle.xl_base.specs.declared.name.Party.{Party}
 use Rattle.xl_smb_state.proofs.RowLaws.{none_some}
 use Rattle.xl_smb_state.specs.State.{Lists, open_of}
 use Rattle.xl_smb_state.specs.declared.row.Open.{Open}
@@ -100,13 +101,13 @@ none_stands : (last : Lists) (row : Waiting) (claim : Claim) (r : Request) → o
 none_stands last row claim (request.Create made) none stands = none_some (sym none ∙ stands.1)
 none_stands last row claim request.Lock none stands = both_ways false refl (sym (ap (λ (o : Option Open). is_open_on row.place.connection o) none) ∙ stands)
 
-pub open_unmade_in : (n stores conn : ℕ) (bytes : List ℕ) (outs : List Out) (s t : Whole) (u : CoreState) (told : List Effect) (id number : ℕ) (claim : Claim) → IsFree s → (let h = heard n (as_found s) (Message conn bytes) in settle n (rooms_of h.1) h.2 ≡ Some (told, u))
-    → IsIn (Served id (Granted claim)) told → claim.owner ≡ owners.Open number → open_of number t.front.smb.state ≡ None → IsServed n s (record { event = Message conn bytes; stores = stores; outs = outs }) t → ⊥
-open_unmade_in n stores conn bytes outs s t u told id number claim free e here owner none served =
+pub open_unmade_in : (n stores conn : ℕ) (bytes : List ℕ) (outs : List Out) (s t : Whole) (u : CoreState) (told : List Effect) (party : Party) (id number : ℕ) (claim : Claim) → IsFree s → (let h = heard n (as_found s) (Message conn bytes) in settle n (rooms_of h.1) h.2 ≡ Some (told, u))
+    → IsIn (Served party id (Granted claim)) told → claim.owner ≡ owners.Open number → open_of number t.front.smb.state ≡ None → IsServed n s (record { event = Message conn bytes; stores = stores; outs = outs }) t → ⊥
+open_unmade_in n stores conn bytes outs s t u told party id number claim free e here owner none served =
     let event = Message conn bytes in
     let h = heard n (as_found s) event in
     let last : Lists = t.front.smb.state in
     let first = subst (λ (rs : List Round). AreServed t rs) (rounds_are n s event refl) served.1 in
     let have = subst (λ (ts : List TurnTaken). AllByRecursion (λ turn. HaveOpens s.exports last turn) ts) (turns_are n s.exports h.1 h.2 u told (heard_good n (as_found s) event (begun_good s.core free.good)) e) first.0 in
-    let is = have.0 id number claim here owner in
+    let is = have.0 party id number claim here owner in
     none_stands last is.row claim is.row.request (ap (λ (k : ℕ). open_of k last) is.own ∙ none) is.there

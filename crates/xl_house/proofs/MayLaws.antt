@@ -116,9 +116,9 @@ may_of_end number d may = absurd cc
 -- where nobody is served nothing is granted
 pub unserved_quiet : (effects : List Effect) → serves_none effects ≡ true → grants effects ≡ 0
 unserved_quiet [] none = refl
-unserved_quiet (Served id answer ∷ effects) none = absurd (both_ways false refl none)
+unserved_quiet (Served party id answer ∷ effects) none = absurd (both_ways false refl none)
 unserved_quiet (Begun claim to number ∷ effects) none = unserved_quiet effects none
-unserved_quiet (Cancelled id ∷ effects) none = unserved_quiet effects none
+unserved_quiet (Cancelled party id ∷ effects) none = unserved_quiet effects none
 unserved_quiet (Expired id ∷ effects) none = unserved_quiet effects none
 
 pub both_quiet : (xs ys : List Effect) → grants xs ≡ 0 → grants ys ≡ 0 → grants (xs ++ ys) ≡ 0

@@ -6,6 +6,7 @@ use Rattle.std.specs.Map.{lookup}
 use Rattle.std.proofs.lemmas.Bool.{true≢false}
 use Rattle.xl_base.specs.declared.name.Owner.{Owner}
 use Rattle.xl_base.specs.declared.name.Owner.TheVariants as owners
+use Rattle.xl_base.specs.declared.name.Party.{Party}
 use Rattle.xl_matrix.specs.Equal.{same_owners}
 use Rattle.xl_matrix.specs.declared.claim.Claim.{Claim}
 use Rattle.xl_matrix.specs.declared.claim.CacheKind.{CacheKind}
@@ -23,12 +24,9 @@ use Rattle.xl_core.specs.declared.ask.Answer.{Answer}
 use Rattle.xl_core.specs.declared.ask.Answer.TheVariants as answers
 use Rattle.xl_core.specs.declared.ask.Effect.{Effect}
 use Rattle.xl_core.specs.declared.ask.Effect.TheVariants as effects
-use Rattle.xl_smb_locks.specs.Finals.{final_outs, locked_reply, may_stand, open_refusal, opened_outs, request_ended, request_served, served_by, served_with, stood, told_of}
+use Rattle.xl_smb_locks.specs.Finals.{final_outs, locked_reply, may_stand, open_refusal, opened_outs, request_served, served_by, served_with, stood, told_of}
 use Rattle.xl_smb_locks.specs.Levels.{cache_told, caching, level_held}
 use Rattle.xl_smb_locks.specs.declared.status.SmbStatus.{SmbStatus}
-use Rattle.xl_smb_locks.specs.declared.status.SmbStatus.TheVariants as statuses
-use Rattle.xl_smb_laws.proofs.AwaitedRequestLaws.{ended_rows}
-use Rattle.xl_front_smb.proofs.EndLaws.{ended_keeps}
 use Rattle.xl_front_smb.specs.Checks.{is_open_on}
 use Rattle.xl_front_smb.specs.FrontSmb.{smb_shown}
 use Rattle.xl_front_smb.specs.State.{FrontSmb}
@@ -63,8 +61,8 @@ module _ (P : Lists → Type 0) (stays : StaysSo P) where
 
   pub shown_so : (f : FrontSmb) (s : CoreState) (effect : Effect) → P f.state → P (smb_shown f s effect).1.state
   unfolding smb_shown told_of
-  shown_so f s (effects.Served id answer) so = served_so s id answer f.state so
-  shown_so f s (effects.Cancelled id) so = stays.same f.state (request_ended id statuses.Cancelled f.state).1 (ended_rows id statuses.Cancelled f.state).1 (ap (λ (l : Lists). l.leases) (ended_keeps id statuses.Cancelled f.state)) so
+  shown_so f s (effects.Served party id answer) so = served_so s id answer f.state so
+  shown_so f s (effects.Cancelled party id) so = so
   shown_so f s (effects.Begun cache to call) so = so
   shown_so f s (effects.Expired client) so = so
 
@@ -86,10 +84,6 @@ pub begun_shows : (f : FrontSmb) (s : CoreState) (cache : Claim) (to : Option Ca
 unfolding smb_shown told_of
 begun_shows f s cache to call = refl
 
-pub expired_shows : (f : FrontSmb) (s : CoreState) (client : List ℕ) → (smb_shown f s (effects.Expired client)).1.state ≡ f.state
-unfolding smb_shown told_of
-expired_shows f s client = refl
-
 -- ---- who is granted
 
 pub asks_as : (w : Waiter) (claim : Claim) (claims : List Claim) (number : ℕ) → w.asked ≡ claim ∷ claims → claim.owner ≡ owners.Open number → waits_as number w ≡ true
@@ -99,9 +93,9 @@ asks_as w claim claims number asked owner =
     ap (λ (cs : List Claim). list_any (λ (c : Claim). same_owners c.owner (owners.Open number)) cs) asked
     ∙ ap (λ (b : Bool). b || list_any (λ (c : Claim). same_owners c.owner (owners.Open number)) claims) own
 
-pub lock_told : (f : FrontSmb) (s : CoreState) (id : ℕ) (row : Waiting) (claim : Claim) → waiting_of id f.state ≡ Some row → row.request ≡ request.Lock → (smb_shown f s (effects.Served id (answers.Granted claim))).0 ≡ final_outs row (locked_reply id row)
+pub lock_told : (f : FrontSmb) (s : CoreState) (party : Party) (id : ℕ) (row : Waiting) (claim : Claim) → waiting_of id f.state ≡ Some row → row.request ≡ request.Lock → (smb_shown f s (effects.Served party id (answers.Granted claim))).0 ≡ final_outs row (locked_reply id row)
 unfolding smb_shown told_of request_served
-lock_told f s id row claim at locks =
+lock_told f s party id row claim at locks =
     ap (λ (o : Option Waiting). (served_with s id (answers.Granted claim) o f.state).0) at ∙ ap (λ (r : Request). (served_by s id row (answers.Granted claim) r (waiting_dropped id f.state)).0) locks
 
 told_as : (t : CoreState) (counter number : ℕ) (row : Open) (key : Option (List ℕ)) → cache_told (record t { counter = counter }) number row key ≡ cache_told t number row key

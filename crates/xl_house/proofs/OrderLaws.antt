@@ -15,12 +15,15 @@ use Rattle.xl_base.specs.declared.event.Kind.TheVariants.{Rpc, Smb}
 use Rattle.xl_base.specs.declared.event.Out.{Out}
 use Rattle.xl_base.specs.declared.journal.Entry.{Entry}
 use Rattle.xl_base.specs.declared.journal.Exports.{Exports}
+use Rattle.xl_base.specs.declared.name.Protocol.{Protocol}
+use Rattle.xl_base.specs.declared.name.Protocol.TheVariants as protocols
 use Rattle.xl_base.specs.declared.journal.Head.{Head}
 use Rattle.xl_matrix.specs.declared.claim.Claim.{Claim}
 use Rattle.xl_programs.specs.Programs.{RequestItem, IncomingItem, Unanswered, Refused, Asked, incoming_at}
 use Rattle.xl_programs.specs.declared.program.Program.{Program}
 use Rattle.xl_programs.specs.declared.program.Program.TheVariants.{Nlm, Nfs}
 use Rattle.xl_core.specs.State.{CoreState}
+use Rattle.xl_core.specs.Told.{told_to}
 use Rattle.xl_core.specs.declared.ask.Effect.{Effect}
 use Rattle.xl_core.specs.declared.ask.Effect.TheVariants.{Begun, Served, Cancelled, Expired}
 use Rattle.xl_nfs_laws.proofs.RequestDeedLaws as nfs
@@ -43,7 +46,7 @@ use Rattle.xl_house.specs.Journals.{is_restart, IsLegal, IsOrderly, IsTimely, op
 use Rattle.xl_house.specs.Machine.{replied_by, sent_of, heard, connected, settled_turn, step}
 use Rattle.xl_house.specs.Own.{Given, begun_by, begun, program_own, record_own, message_own, end_own, own_of}
 use Rattle.xl_house.specs.State.{Whole, start_of, with_connection, without, kind_of, as_found, nfs_opens, smb_opens, most_connections}
-use Rattle.xl_house.specs.Telling.{Sent, framed_by, framed_to, framed, showing, all_shown, taken, turns_sent, settled}
+use Rattle.xl_house.specs.Telling.{Sent, framed_by, framed_to, framed, shown_by, showing, all_shown, taken, turns_sent, settled}
 use Rattle.xl_house.specs.declared.connections.Connection.{Connection}
 
 abbrev numbers : List Connection → List ℕ
@@ -122,18 +125,20 @@ recalls_timely : (before after : List ℕ) (f : FrontNfs) (s : CoreState) (effec
 unfolding recalls
 recalls_timely before after f s (Begun cache to (Some number)) = recalled_timely before after s f.state number cache.file (client_by f.state (client_of s.names cache.party))
 recalls_timely before after f s (Begun cache to None) = tt
-recalls_timely before after f s (Served id answer) = tt
-recalls_timely before after f s (Cancelled id) = tt
+recalls_timely before after f s (Served party id answer) = tt
+recalls_timely before after f s (Cancelled party id) = tt
 recalls_timely before after f s (Expired client) = tt
 
-shown_timely : (cs : List Connection) (exports : Exports) (f : Fronts) (s : CoreState) (effect : Effect) → Waits cs f → AreTimely (numbers cs) (numbers cs) (showing exports f s effect).0 × Waits cs (showing exports f s effect).1
+by_timely : (cs : List Connection) (exports : Exports) (f : Fronts) (s : CoreState) (effect : Effect) (p : Protocol) → Waits cs f → AreTimely (numbers cs) (numbers cs) (shown_by exports f s effect p).0 × Waits cs (shown_by exports f s effect p).1
 unfolding shown
-shown_timely cs exports f s effect waits =
+by_timely cs exports f s effect protocols.Nlm waits = (by_news (numbers cs) (numbers cs) f.nlm s (news exports s effect), waits)
+by_timely cs exports f s effect protocols.Nfs waits = (recalls_timely (numbers cs) (numbers cs) f.nfs s effect, waits)
+by_timely cs exports f s effect protocols.Smb waits =
     let told = smb_waits.shown_on (IsOpen cs) f.smb s effect waits in
-    let last = timely_append (numbers cs) (numbers cs) (map (framed Rpc) (recalls f.nfs s effect)) (map (framed Smb) (smb_shown f.smb s effect).0) (recalls_timely (numbers cs) (numbers cs) f.nfs s effect) (framed_timely (numbers cs) (numbers cs) Smb (smb_shown f.smb s effect).0 (finals_timely cs (smb_shown f.smb s effect).0 told.0)) in (
-      timely_append (numbers cs) (numbers cs) (map (framed Rpc) (told_by f.nlm s (news exports s effect)).0) (map (framed Rpc) (recalls f.nfs s effect) ++ map (framed Smb) (smb_shown f.smb s effect).0) (by_news (numbers cs) (numbers cs) f.nlm s (news exports s effect)) last,
-      told.1,
-    )
+    (framed_timely (numbers cs) (numbers cs) Smb (smb_shown f.smb s effect).0 (finals_timely cs (smb_shown f.smb s effect).0 told.0), told.1)
+
+shown_timely : (cs : List Connection) (exports : Exports) (f : Fronts) (s : CoreState) (effect : Effect) → Waits cs f → AreTimely (numbers cs) (numbers cs) (showing exports f s effect).0 × Waits cs (showing exports f s effect).1
+shown_timely cs exports f s effect waits = by_timely cs exports f s effect (told_to effect) waits
 
 all_timely : (cs : List Connection) (exports : Exports) (f : Fronts) (s : CoreState) (effects : List Effect) → Waits cs f → AreTimely (numbers cs) (numbers cs) (all_shown exports f s effects).0 × Waits cs (all_shown exports f s effects).1
 all_timely cs exports f s [] waits = (tt, waits)

@@ -1,10 +1,13 @@
 -- Requests of SMB that wait and the core's waiters have each other, whatever is told or done.
-use Rattle.std.proofs.Common.{◌≡◌, ℕ, true, false, not, List, [], ◌∷◌, Option, Some, None, refl, sym, ap, subst, ◌∙◌}
-use Rattle.std.specs.List.{AllByRecursion}
+use Rattle.std.proofs.Common.{◌≡◌, ℕ, Bool, true, false, not, ◌&&◌, eqb, List, [], ◌∷◌, Option, Some, None, refl, sym, ap, subst, ◌∙◌}
+use Rattle.std.specs.List.{AllByRecursion, list_any}
 use Rattle.std.proofs.lemmas.Bool.{or_from, or_parts, true≢false}
 use Rattle.xl_base.proofs.Members.{all_from, all_in}
 use Rattle.xl_base.specs.Lists.{IsIn}
+use Rattle.xl_base.specs.Stable.{same_protocol}
 use Rattle.xl_base.specs.declared.journal.Exports.{Exports}
+use Rattle.xl_base.specs.declared.name.Protocol.{Protocol}
+use Rattle.xl_base.specs.declared.name.Protocol.TheVariants as protocols
 use Rattle.xl_names.specs.declared.name.Name.{Name}
 use Rattle.xl_smb_state.specs.Links.{AreDistinct, IsSound}
 use Rattle.xl_smb_state.specs.State.{Lists}
@@ -17,7 +20,9 @@ use Rattle.xl_plan.specs.Plans.{AllAt}
 use Rattle.xl_core.specs.Deeds.{AreFit, Deed, Asks, IsFitDeed, all_done, all_told_of}
 use Rattle.xl_core.specs.Good.{IsGood}
 use Rattle.xl_core.specs.State.{CoreState}
+use Rattle.xl_core.specs.Told.{party_protocol, told_to}
 use Rattle.xl_core.specs.declared.ask.Effect.{Effect}
+use Rattle.xl_core.specs.declared.ask.Effect.TheVariants as effects
 use Rattle.xl_core.specs.declared.ask.Who.{Who}
 use Rattle.xl_core.specs.declared.ask.Who.TheVariants as who
 use Rattle.xl_smb_laws.proofs.AwaitedRequestLaws.{begin_awaited, end_awaited, moved, one_shown, step_awaited}
@@ -26,8 +31,9 @@ use Rattle.xl_smb_laws.proofs.KeptWaiterLaws.{begin_keeps, deeds_keep, end_keeps
 use Rattle.xl_smb_laws.proofs.StillUntoldLaws.{waits_still}
 use Rattle.xl_smb_laws.proofs.RequestOwn as smb_own
 use Rattle.xl_smb_laws.proofs.PlaceLaws.{keeps_self}
-use Rattle.xl_smb_laws.proofs.StillWaitingLaws.{over, told_awaited}
-use Rattle.xl_smb_laws.specs.WaitingRequests.{AreAwaited, AreKept, IsAwaited, IsKept, ends_wait, is_open_ask}
+use Rattle.xl_smb_laws.proofs.SparedLaws.{spared_awaited}
+use Rattle.xl_smb_laws.proofs.StillWaitingLaws.{over}
+use Rattle.xl_smb_laws.specs.WaitingRequests.{AreAwaited, AreKept, IsAwaited, IsKept, SparesSmb, ends_wait, is_open_ask, serves_request}
 use Rattle.xl_front_smb.specs.Ending.{smb_end, smb_end_deeds}
 use Rattle.xl_front_smb.specs.FrontSmb.{smb_deeds, smb_shown, smb_step}
 use Rattle.xl_front_smb.specs.State.{FrontSmb, smb_begin}
@@ -41,9 +47,9 @@ pub record Stand (s : CoreState) (l : Lists) : Type 0 where
   pub keeps : AreKept s l
   pub apart : AreApart l
 
--- of whom these don't tell that it waits no more, it is awaited
+-- of whom these don't tell SMB's front that it is served, it is awaited
 abbrev pub Pending : CoreState → Lists → List Effect → Type 0
-Pending s l told = (e : ℕ × Waiting) → IsIn e l.waiting → over e.0 told ≡ false → IsAwaited s l e
+Pending s l told = (e : ℕ × Waiting) → IsIn e l.waiting → list_any (serves_request e.0) told ≡ false → IsAwaited s l e
 
 -- of who waits these tell nothing of the kind
 abbrev pub Silent : CoreState → List Effect → Type 0
@@ -81,18 +87,38 @@ quiet_tell s l stand = record {
   apart = stand.apart;
 }
 
--- what one effect tells of is behind
+-- what one effect of SMB's tells of is behind
 pub one_tells : (f : FrontSmb) (s t : CoreState) (effect : Effect) (told : List Effect) → t.waiters ≡ s.waiters → ToTell (effect ∷ told) s f.state → ToTell told t (smb_shown f s effect).1.state
 one_tells f s t effect told same tell =
     let l : Lists = (smb_shown f s effect).1.state in
     record {
       pending = λ e here quiet.
           let one = one_shown f s effect e tell.apart here in
-          same_waiters s t l e same (one.2 (tell.pending e one.0 (or_from (ends_wait e.0 effect) (over e.0 told) one.1 quiet)));
+          same_waiters s t l e same (one.2 (tell.pending e one.0 (or_from (serves_request e.0 effect) (list_any (serves_request e.0) told) one.1 quiet)));
       keeps = same_kept s t l same (shown_keeps f s effect (λ w here. (or_parts (ends_wait w.id effect) (over w.id told) (tell.silent w here)).0) tell.keeps);
       silent = λ w here. (or_parts (ends_wait w.id effect) (over w.id told) (tell.silent w (subst (λ (ws : List Waiter). IsIn w ws) same here))).1;
       apart = shown_apart f s effect tell.apart;
     }
+
+other_protocol : (p : Protocol) (b : Bool) → (p ≡ protocols.Smb → ⊥) → (same_protocol p protocols.Smb && b) ≡ false
+other_protocol protocols.Nlm b other = refl
+other_protocol protocols.Nfs b other = refl
+other_protocol protocols.Smb b other = absurd (other refl)
+
+others_serve : (id : ℕ) (effect : Effect) → (told_to effect ≡ protocols.Smb → ⊥) → serves_request id effect ≡ false
+others_serve id (effects.Served party number answer) other = other_protocol (party_protocol party) (eqb number id) other
+others_serve id (effects.Begun cache to call) other = refl
+others_serve id (effects.Cancelled party number) other = refl
+others_serve id (effects.Expired client) other = refl
+
+-- SMB's front doesn't hear of an effect of another's
+pub other_tells : (s t : CoreState) (l : Lists) (effect : Effect) (told : List Effect) → (told_to effect ≡ protocols.Smb → ⊥) → t.waiters ≡ s.waiters → ToTell (effect ∷ told) s l → ToTell told t l
+other_tells s t l effect told other same tell = record {
+  pending = λ e here quiet. same_waiters s t l e same (tell.pending e here (or_from (serves_request e.0 effect) (list_any (serves_request e.0) told) (others_serve e.0 effect other) quiet));
+  keeps = same_kept s t l same tell.keeps;
+  silent = λ w here. (or_parts (ends_wait w.id effect) (over w.id told) (tell.silent w (subst (λ (ws : List Waiter). IsIn w ws) same here))).1;
+  apart = tell.apart;
+}
 
 pub none_tells : (s : CoreState) (l : Lists) → ToTell [] s l → Stand s l
 none_tells s l tell = record { awaits = all_from (IsAwaited s l) l.waiting (λ e here. tell.pending e here refl); keeps = tell.keeps; apart = tell.apart }
@@ -103,13 +129,19 @@ none_tells s l tell = record { awaits = all_from (IsAwaited s l) l.waiting (λ e
 abbrev pub Others : List Deed → Type 0
 Others ds = AllByRecursion (λ d. is_open_ask d ≡ false) ds
 
-pub deeds_tell : (n : ℕ) (s t : CoreState) (l : Lists) (ds : List Deed) (told : List Effect) → IsGood s → AreFit n s ds → Others ds → t ≡ all_done n s ds → told ≡ all_told_of n s ds → Stand s l → ToTell told t l
-deeds_tell n s t l ds told good fit others is said stand = record {
-  pending = λ e here quiet. subst (λ (u : CoreState). IsAwaited u l e) (sym is) (told_awaited n s l ds e good fit stand.awaits here (ap (λ (es : List Effect). over e.0 es) (sym said) ∙ quiet));
+pub tells_by : (n : ℕ) (s t : CoreState) (l : Lists) (ds : List Deed) (told : List Effect) → IsGood s → AreFit n s ds → Others ds → t ≡ all_done n s ds → told ≡ all_told_of n s ds → Stand s l → Pending t l told → ToTell told t l
+tells_by n s t l ds told good fit others is said stand pending = record {
+  pending = pending;
   keeps = subst (λ (u : CoreState). AreKept u l) (sym is) (deeds_keep n s l ds good fit others stand.keeps);
   silent = λ w here. ap (λ (es : List Effect). over w.id es) said ∙ waits_still n s ds w good fit (subst (λ (u : CoreState). IsIn w u.waiters) is here);
   apart = stand.apart;
 }
+
+-- where they leave SMB's waiters each request stays awaited
+pub deeds_tell : (n : ℕ) (s t : CoreState) (l : Lists) (ds : List Deed) (told : List Effect) → IsGood s → AreFit n s ds → Others ds → AllAt SparesSmb n s ds → t ≡ all_done n s ds → told ≡ all_told_of n s ds → Stand s l → ToTell told t l
+deeds_tell n s t l ds told good fit others spare is said stand =
+    let awaits : AreAwaited t l = subst (λ (u : CoreState). AreAwaited u l) (sym is) (spared_awaited n s l ds good fit spare stand.awaits) in
+    tells_by n s t l ds told good fit others is said stand (λ e here quiet. all_in (IsAwaited t l) e l.waiting awaits here)
 
 -- ---- whose asks are no open's
 

@@ -92,25 +92,25 @@ answer_quiet f g s t number reply effects good is =
 
 -- who is told of a grant waits no more
 with_left : (effect : Effect) (effects : List Effect) → (if is_grant effect then grants effects + 1 else grants effects) ≤ length (with_told effect []) + grants effects
-with_left (Served id (answers.Granted claim)) effects = omega arith
-with_left (Served id (answers.Conflict claim)) effects = omega arith
-with_left (Served id (answers.Queued number)) effects = omega arith
-with_left (Served id (answers.Recall claim)) effects = omega arith
-with_left (Served id (answers.Grace until)) effects = omega arith
-with_left (Served id (answers.NoGrace clock)) effects = omega arith
-with_left (Served id answers.NotRecorded) effects = omega arith
-with_left (Served id (answers.Full limit)) effects = omega arith
-with_left (Served id answers.NotHeld) effects = omega arith
-with_left (Served id answers.StoreFailed) effects = omega arith
+with_left (Served party id (answers.Granted claim)) effects = omega arith
+with_left (Served party id (answers.Conflict claim)) effects = omega arith
+with_left (Served party id (answers.Queued number)) effects = omega arith
+with_left (Served party id (answers.Recall claim)) effects = omega arith
+with_left (Served party id (answers.Grace until)) effects = omega arith
+with_left (Served party id (answers.NoGrace clock)) effects = omega arith
+with_left (Served party id answers.NotRecorded) effects = omega arith
+with_left (Served party id (answers.Full limit)) effects = omega arith
+with_left (Served party id answers.NotHeld) effects = omega arith
+with_left (Served party id answers.StoreFailed) effects = omega arith
 with_left (Begun cache to call) effects = omega arith
-with_left (Cancelled id) effects = omega arith
+with_left (Cancelled party id) effects = omega arith
 with_left (Expired client) effects = omega arith
 
 one_left : (effect : Effect) (ids : List ℕ) → length (with_told effect ids) ≡ length (with_told effect []) + length ids
-one_left (Served id answer) ids = omega arith
+one_left (Served party id answer) ids = omega arith
 one_left (Begun cache to (Some number)) ids = omega arith
 one_left (Begun cache to None) ids = omega arith
-one_left (Cancelled id) ids = omega arith
+one_left (Cancelled party id) ids = omega arith
 one_left (Expired client) ids = omega arith
 
 grants_left : (effects : List Effect) → grants effects ≤ length (who_left effects)

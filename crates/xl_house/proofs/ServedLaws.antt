@@ -10,6 +10,8 @@ use Rattle.xl_base.specs.declared.event.Out.{Out}
 use Rattle.xl_base.specs.declared.journal.Entry.{Entry}
 use Rattle.xl_base.specs.declared.journal.Exports.{Exports}
 use Rattle.xl_base.specs.declared.journal.Head.{Head}
+use Rattle.xl_base.specs.declared.name.Party.{Party}
+use Rattle.xl_base.specs.declared.name.Protocol.TheVariants as protocols
 use Rattle.xl_matrix.specs.declared.claim.Claim.{Claim}
 use Rattle.xl_smb_state.specs.Links.{most_opens}
 use Rattle.xl_smb_state.specs.State.{Lists, open_of, waiting_of}
@@ -17,10 +19,12 @@ use Rattle.xl_smb_state.specs.declared.row.Open.{Open as OpenRow}
 use Rattle.xl_smb_state.specs.declared.row.Request.{Request}
 use Rattle.xl_smb_state.specs.declared.row.Request.TheVariants as request
 use Rattle.xl_smb_state.specs.declared.row.Waiting.{Waiting}
+use Rattle.xl_wait.specs.declared.waiter.Waiter.{Waiter}
 use Rattle.xl_core.proofs.GoodLaws.{begun_good}
 use Rattle.xl_core.specs.Good.{IsGood}
 use Rattle.xl_core.specs.Settle.{settle}
 use Rattle.xl_core.specs.State.{CoreState, step_begun}
+use Rattle.xl_core.specs.Told.{party_protocol}
 use Rattle.xl_core.specs.declared.ask.Answer.TheVariants as answers
 use Rattle.xl_core.specs.declared.ask.Effect.{Effect}
 use Rattle.xl_core.specs.declared.ask.Effect.TheVariants as effects
@@ -29,7 +33,7 @@ use Rattle.xl_core.specs.Ids.{id_of}
 use Rattle.xl_smb_locks.specs.Levels.{caching}
 use Rattle.xl_smb_locks.specs.declared.levels.Caching.{Caching}
 use Rattle.xl_smb_laws.proofs.AwaitedRequestLaws.{row_in}
-use Rattle.xl_smb_laws.proofs.GrantedCreateLaws.{granted_lease, granted_reply, granted_row, granted_share, served_grant, turn_of}
+use Rattle.xl_smb_laws.proofs.GrantedCreateLaws.{granted_lease, granted_reply, granted_row, granted_share, one_waiter, served_grant, turn_of}
 use Rattle.xl_smb_laws.specs.WaitingRequests.{IsAwaited, IsGranted, IsKept, IsUnder}
 use Rattle.xl_front_smb.specs.FrontSmb.{smb_shown}
 use Rattle.xl_front_smb.specs.Laws.{IsLeased}
@@ -62,8 +66,8 @@ rooms_leave f = omega arith
 -- ---- a turn
 
 -- of a waiter that a turn grants a claim for an SMB open, and of its request
-module _ (n fuel : ℕ) (exports : Exports) (f : Fronts) (s t : CoreState) (told : List Effect) (id number : ℕ) (claim : Claim) (good : IsGood s) (stand : Stand s f.smb.state) (turned : settle n (rooms_of f) s ≡ Some (told, t))
-    (served : IsIn (effects.Served id (answers.Granted claim)) told) (row : Waiting) (waited : waiting_of id f.smb.state ≡ Some row) where
+module _ (n fuel : ℕ) (exports : Exports) (f : Fronts) (s t : CoreState) (told : List Effect) (party : Party) (id number : ℕ) (claim : Claim) (good : IsGood s) (stand : Stand s f.smb.state) (turned : settle n (rooms_of f) s ≡ Some (told, t))
+    (served : IsIn (effects.Served party id (answers.Granted claim)) told) (row : Waiting) (waited : waiting_of id f.smb.state ≡ Some row) where
   -- the lists at the end
   abbrev last_lists : Lists
   last_lists = (let r = all_shown exports f t told in (turns_sent exports r.1 r.2 (taken fuel n exports r.1 r.2)).1.smb.state)
@@ -74,18 +78,26 @@ module _ (n fuel : ℕ) (exports : Exports) (f : Fronts) (s t : CoreState) (told
   stays : (k : ℕ) (found : OpenRow) → open_of k (all_shown exports f t told).1.smb.state ≡ Some found → open_of k last_lists ≡ Some found
   stays k found at = (let r = all_shown exports f t told in taken_so (λ (l : Lists). open_of k l ≡ Some found) (open_stays k found) fuel n exports r.1 r.2 at)
 
-  granted : (made : OpenRow) → row.request ≡ request.Create made → IsGranted n (rooms_of f) s t f.smb.state id row made claim
+  granted : (made : OpenRow) → row.request ≡ request.Create made → IsGranted n (rooms_of f) s t f.smb.state party id row made claim
   granted made makes = record { told = told; turn = turned; served = served; waits = waited; makes = makes; room = rooms_leave f }
 
+  -- the request's waiter is granted it, which is a party of SMB
+  of_smb : party_protocol party ≡ protocols.Smb
+  of_smb =
+      let grant = served_grant (rooms_of f) s t told party id claim (turn_of n (rooms_of f) s t told good turned) served in
+      let is = all_in (IsAwaited s f.smb.state) (id, row) f.smb.state.waiting stand.awaits (row_in id f.smb.state.waiting row waited) in
+      let one : is.waiter ≡ grant.waiter = one_waiter s.waiters is.waiter grant.waiter good.apart is.waits grant.waits (is.number ∙ sym grant.number) in
+      ap (λ (p : Party). party_protocol p) (sym grant.named ∙ ap (λ (w : Waiter). w.party) (sym one)) ∙ is.smb.party
+
   -- what the turn leaves of the lists is what its grant leaves
-  ends_as : (u : CoreState) × ((all_shown exports f t told).1.smb.state ≡ (smb_shown f.smb u (effects.Served id (answers.Granted claim))).1.state)
+  ends_as : (u : CoreState) × ((all_shown exports f t told).1.smb.state ≡ (smb_shown f.smb u (effects.Served party id (answers.Granted claim))).1.state)
   ends_as =
-      let x : Effect = effects.Served id (answers.Granted claim) in
-      let grant = served_grant (rooms_of f) s t told id claim (turn_of n (rooms_of f) s t told good turned) served in
+      let x : Effect = effects.Served party id (answers.Granted claim) in
+      let grant = served_grant (rooms_of f) s t told party id claim (turn_of n (rooms_of f) s t told good turned) served in
       let r = all_shown exports f t grant.before in (
         r.2,
         ap (λ (es : List Effect). (all_shown exports f t es).1.smb.state) grant.last
-            ∙ last_shows exports f t grant.before x
+            ∙ last_shows exports f t grant.before x of_smb
             ∙ ap (λ (l : Lists). (smb_shown (record { state = l }) r.2 x).1.state) (quiet_shows exports f t grant.before grant.begun),
       )
 
@@ -94,10 +106,10 @@ module _ (n fuel : ℕ) (exports : Exports) (f : Fronts) (s t : CoreState) (told
       let ends = ends_as in
       let is = granted made makes in
       let r = all_shown exports f t told in (
-        (granted_share n (rooms_of f) s t ends.0 f.smb id row made claim good stand.awaits is).1,
-        stays row.opened made (ap (λ (l : Lists). open_of row.opened l) ends.1 ∙ granted_row n (rooms_of f) s t ends.0 f.smb id row made claim good stand.awaits is),
+        (granted_share n (rooms_of f) s t ends.0 f.smb party id row made claim good stand.awaits is).1,
+        stays row.opened made (ap (λ (l : Lists). open_of row.opened l) ends.1 ∙ granted_row n (rooms_of f) s t ends.0 f.smb party id row made claim good stand.awaits is),
         taken_so (λ (l : Lists). IsLeased l row.opened made) (leased_stays row.opened made) fuel n exports r.1 r.2
-            (subst (λ (l : Lists). IsLeased l row.opened made) (sym ends.1) (granted_lease n (rooms_of f) s t ends.0 f.smb id row made claim good stand.awaits is)),
+            (subst (λ (l : Lists). IsLeased l row.opened made) (sym ends.1) (granted_lease n (rooms_of f) s t ends.0 f.smb party id row made claim good stand.awaits is)),
       )
 
   is_there : (r : Request) → row.request ≡ r → OpenStands last_lists row claim r
@@ -109,19 +121,19 @@ module _ (n fuel : ℕ) (exports : Exports) (f : Fronts) (s t : CoreState) (told
       refl (subst (λ (r : Request). IsUnder f.smb.state (id, row) r) locks is.under)
 
   -- what SMB's front says, in a core that is the turn's but for the numbers that were given out since
-  says : (u : CoreState) (counter : ℕ) (r : Request) → u ≡ record t { counter = counter } → row.request ≡ r → (smb_shown f.smb u (effects.Served id (answers.Granted claim))).0 ≡ final_outs row (success_of t id row r)
+  says : (u : CoreState) (counter : ℕ) (r : Request) → u ≡ record t { counter = counter } → row.request ≡ r → (smb_shown f.smb u (effects.Served party id (answers.Granted claim))).0 ≡ final_outs row (success_of t id row r)
   says u counter (request.Create made) same makes =
-      granted_reply n (rooms_of f) s t u f.smb id row made claim good stand.awaits (granted made makes)
+      granted_reply n (rooms_of f) s t u f.smb party id row made claim good stand.awaits (granted made makes)
       ∙ ap (λ (c : CoreState). final_outs row (opened_reply id row (id_of c row.opened) (caching c row.opened made))) same
       ∙ ap (λ (held : Caching). final_outs row (opened_reply id row (id_of t row.opened) held)) (same_caching t counter row.opened made)
-  says u counter request.Lock same locks = lock_told f.smb u id row claim waited locks
+  says u counter request.Lock same locks = lock_told f.smb u party id row claim waited locks
 
   pub is_told : (earlier : List Out) × ((all_shown exports f t told).0 ≡ earlier ++ map (framed Smb) (final_outs row (success_of t id row row.request)))
   is_told =
-      let x : Effect = effects.Served id (answers.Granted claim) in
-      let grant = served_grant (rooms_of f) s t told id claim (turn_of n (rooms_of f) s t told good turned) served in
+      let x : Effect = effects.Served party id (answers.Granted claim) in
+      let grant = served_grant (rooms_of f) s t told party id claim (turn_of n (rooms_of f) s t told good turned) served in
       let r = all_shown exports f t grant.before in
-      let ends = last_ends exports f t grant.before x in (
+      let ends = last_ends exports f t grant.before x of_smb in (
         ends.0,
         ap (λ (es : List Effect). (all_shown exports f t es).0) grant.last
             ∙ ends.1
@@ -134,11 +146,11 @@ module _ (n fuel : ℕ) (exports : Exports) (f : Fronts) (s t : CoreState) (told
 
 turn_has : (n fuel : ℕ) (exports : Exports) (f : Fronts) (s t : CoreState) (told : List Effect) → IsGood s → Stand s f.smb.state → settle n (rooms_of f) s ≡ Some (told, t)
     → (let r = all_shown exports f t told in HaveOpens exports (turns_sent exports r.1 r.2 (taken fuel n exports r.1 r.2)).1.smb.state (record { front = f; told = told; left = t }))
-turn_has n fuel exports f s t told good stand e = λ id number claim served owner.
+turn_has n fuel exports f s t told good stand e = λ party id number claim served owner.
     let left = rooms_of f in
-    let grant = served_grant left s t told id claim (turn_of n left s t told good e) served in
+    let grant = served_grant left s t told party id claim (turn_of n left s t told good e) served in
     let kept = all_in (IsKept f.smb.state) grant.waiter s.waiters stand.keeps grant.waits number (asks_as grant.waiter claim grant.claims number grant.asked owner) in
-    has_open n fuel exports f s t told id number claim good stand e served kept.0 (subst (λ (k : ℕ). waiting_of k f.smb.state ≡ Some kept.0) grant.number kept.1) kept.2
+    has_open n fuel exports f s t told party id number claim good stand e served kept.0 (subst (λ (k : ℕ). waiting_of k f.smb.state ≡ Some kept.0) grant.number kept.1) kept.2
 
 -- ---- all turns
 

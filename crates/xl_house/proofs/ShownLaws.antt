@@ -5,11 +5,14 @@ use Rattle.std.proofs.lemmas.List.{drop_more}
 use Rattle.std.proofs.lemmas.Bool.{cases_Bool}
 use Rattle.xl_base.specs.declared.event.Out.{Out}
 use Rattle.xl_base.specs.declared.journal.Exports.{Exports}
+use Rattle.xl_base.specs.declared.name.Protocol.{Protocol}
+use Rattle.xl_base.specs.declared.name.Protocol.TheVariants.{Nlm, Nfs, Smb}
 use Rattle.xl_matrix.specs.declared.claim.Claim.{Claim}
 use Rattle.xl_core.specs.Numbers.{delegations_left, numbers_of}
 use Rattle.xl_core.specs.Settle.{turns_left}
 use Rattle.xl_core.specs.State.{CoreState, drawn}
 use Rattle.xl_core.specs.Good.{IsGood}
+use Rattle.xl_core.specs.Told.{told_to}
 use Rattle.xl_core.specs.declared.ask.Answer.TheVariants as answers
 use Rattle.xl_core.specs.declared.ask.Effect.{Effect}
 use Rattle.xl_core.specs.declared.ask.Effect.TheVariants.{Served}
@@ -18,7 +21,7 @@ use Rattle.xl_front_nlm.specs.Grants.{news, told_by, shown}
 use Rattle.xl_front_nlm.specs.State.{FrontState}
 use Rattle.xl_house.specs.declared.layers.Fronts.{Fronts}
 use Rattle.xl_front_nlm.specs.declared.grant.Grant.{Grant}
-use Rattle.xl_house.specs.Telling.{Sent, is_grant, grants, behind, showing, all_shown}
+use Rattle.xl_house.specs.Telling.{Sent, is_grant, grants, behind, shown_by, showing, all_shown}
 use Rattle.xl_plan.proofs.BudgetLaws.{come_same}
 use Rattle.xl_front_nlm.specs.Short.{IsReady, Leaves}
 use Rattle.xl_house.specs.Shown.{IsShown}
@@ -48,18 +51,28 @@ by_news : (P : CoreState → Type 0) (f : FrontState) (s : CoreState) (o : Optio
 by_news P f s None holds = holds.0
 by_news P f s (Some told) holds = holds.1
 
-shown_holds : (P : CoreState → Type 0) (exports : Exports) (f : Fronts) (s : CoreState) (effect : Effect) → Holds P s → P (showing exports f s effect).2
+by_protocol : (P : CoreState → Type 0) (exports : Exports) (f : Fronts) (s : CoreState) (effect : Effect) (p : Protocol) → Holds P s → P (shown_by exports f s effect p).2
 unfolding shown
-shown_holds P exports f s effect holds = by_news P f.nlm s (news exports s effect) holds
+by_protocol P exports f s effect Nlm holds = by_news P f.nlm s (news exports s effect) holds
+by_protocol P exports f s effect Nfs holds = holds.0
+by_protocol P exports f s effect Smb holds = holds.0
+
+shown_holds : (P : CoreState → Type 0) (exports : Exports) (f : Fronts) (s : CoreState) (effect : Effect) → Holds P s → P (showing exports f s effect).2
+shown_holds P exports f s effect holds = by_protocol P exports f s effect (told_to effect) holds
 
 -- an effect that tells of no grant shows nothing
 no_news : (exports : Exports) (s : CoreState) (effect : Effect) → is_grant effect ≡ false → news exports s effect ≡ None
-no_news exports s (Served id (answers.Granted claim)) h = absurd cc
+no_news exports s (Served party id (answers.Granted claim)) h = absurd cc
 no_news exports s effect h = refl
 
-quiet_shown : (exports : Exports) (f : Fronts) (s : CoreState) (effect : Effect) → is_grant effect ≡ false → (showing exports f s effect).2 ≡ s
+quiet_by : (exports : Exports) (f : Fronts) (s : CoreState) (effect : Effect) (p : Protocol) → is_grant effect ≡ false → (shown_by exports f s effect p).2 ≡ s
 unfolding shown
-quiet_shown exports f s effect h = ap (λ (o : Option (Claim × Grant × List ℕ)). (told_by f.nlm s o).2) (no_news exports s effect h)
+quiet_by exports f s effect Nlm h = ap (λ (o : Option (Claim × Grant × List ℕ)). (told_by f.nlm s o).2) (no_news exports s effect h)
+quiet_by exports f s effect Nfs h = refl
+quiet_by exports f s effect Smb h = refl
+
+quiet_shown : (exports : Exports) (f : Fronts) (s : CoreState) (effect : Effect) → is_grant effect ≡ false → (showing exports f s effect).2 ≡ s
+quiet_shown exports f s effect h = quiet_by exports f s effect (told_to effect) h
 
 drawn_shown : (s : CoreState) → IsShown 1 s (drawn s)
 unfolding drawn

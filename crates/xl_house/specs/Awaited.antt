@@ -9,6 +9,7 @@ use Rattle.xl_base.specs.declared.event.Kind.TheVariants.{Smb}
 use Rattle.xl_base.specs.declared.event.Out.{Out}
 use Rattle.xl_base.specs.declared.journal.Exports.{Exports}
 use Rattle.xl_base.specs.declared.name.Owner.TheVariants as owners
+use Rattle.xl_base.specs.declared.name.Party.{Party}
 use Rattle.xl_matrix.specs.declared.claim.Claim.{Claim}
 use Rattle.xl_smb_state.specs.State.{Lists, open_of, waiting_of}
 use Rattle.xl_smb_state.specs.declared.row.Request.{Request}
@@ -58,7 +59,7 @@ pub record HasItsOpen (exports : Exports) (last : Lists) (turn : TurnTaken) (id 
 
 -- so it is of each claim that is granted by it to an SMB open
 abbrev pub HaveOpens : Exports → Lists → TurnTaken → Type 0
-HaveOpens exports last turn = (id number : ℕ) (claim : Claim) → IsIn (Served id (Granted claim)) turn.told → claim.owner ≡ owners.Open number → HasItsOpen exports last turn id number claim
+HaveOpens exports last turn = (party : Party) (id number : ℕ) (claim : Claim) → IsIn (Served party id (Granted claim)) turn.told → claim.owner ≡ owners.Open number → HasItsOpen exports last turn id number claim
 
 -- ---- an entry
 

@@ -5,8 +5,11 @@ use Rattle.xl_base.specs.declared.event.Event.{Event}
 use Rattle.xl_base.specs.declared.event.Event.TheVariants.{Restart}
 use Rattle.xl_base.specs.declared.event.Out.{Out}
 use Rattle.xl_base.specs.declared.journal.Exports.{Exports}
+use Rattle.xl_base.specs.declared.name.Protocol.{Protocol}
+use Rattle.xl_base.specs.declared.name.Protocol.TheVariants.{Nlm, Nfs, Smb}
 use Rattle.xl_core.specs.State.{CoreState}
 use Rattle.xl_core.specs.Deeds.{Deed, Serves}
+use Rattle.xl_core.specs.Told.{told_to}
 use Rattle.xl_core.specs.declared.ask.Effect.{Effect}
 use Rattle.xl_front_nlm.specs.Grants.{shown_deeds}
 use Rattle.xl_house.specs.Machine.{replied_by, telling, heard}
@@ -17,10 +20,16 @@ use Rattle.xl_house.specs.declared.layers.Fronts.{Fronts}
 
 -- ---- turns
 
+-- what telling of an effect does: a number is given out if NLM's front sends a grant
+abbrev pub deeds_by : Exports → CoreState → Effect → Protocol → List Deed
+deeds_by exports s effect Nlm = shown_deeds exports s effect
+deeds_by exports s effect Nfs = []
+deeds_by exports s effect Smb = []
+
 -- what telling of these effects does, in order
 abbrev pub told_deeds : Exports → Fronts → CoreState → List Effect → List Deed
 told_deeds exports f s [] = []
-told_deeds exports f s (effect ∷ effects) = shown_deeds exports s effect ++ told_deeds exports (showing exports f s effect).1 (showing exports f s effect).2 effects
+told_deeds exports f s (effect ∷ effects) = deeds_by exports s effect (told_to effect) ++ told_deeds exports (showing exports f s effect).1 (showing exports f s effect).2 effects
 
 -- what telling of what an event gave of itself does
 abbrev pub told_of : Exports → Given → List Deed

@@ -6,8 +6,11 @@ use Rattle.xl_base.specs.declared.event.Kind.{Kind}
 use Rattle.xl_base.specs.declared.event.Kind.TheVariants.{Rpc, Smb}
 use Rattle.xl_base.specs.declared.event.Out.{Out}
 use Rattle.xl_base.specs.declared.journal.Exports.{Exports}
+use Rattle.xl_base.specs.declared.name.Protocol.{Protocol}
+use Rattle.xl_base.specs.declared.name.Protocol.TheVariants as protocols
 use Rattle.xl_frame.specs.Frames.{wrapped}
 use Rattle.xl_core.specs.State.{CoreState}
+use Rattle.xl_core.specs.Told.{told_to}
 use Rattle.xl_core.specs.Settle.{turns_left, settle}
 use Rattle.xl_core.specs.declared.ask.Answer.TheVariants.{Granted}
 use Rattle.xl_core.specs.declared.ask.Effect.{Effect}
@@ -15,7 +18,7 @@ use Rattle.xl_core.specs.declared.ask.Effect.TheVariants.{Served}
 use Rattle.xl_front_nlm.specs.Grants.{shown}
 use Rattle.xl_front_nlm.specs.State.{FrontState}
 use Rattle.xl_front_nfs.specs.Recalls.{recalls}
-use Rattle.xl_front_nfs.specs.State.{nfs_shown}
+use Rattle.xl_front_nfs.specs.State.{FrontNfs, nfs_shown}
 use Rattle.xl_front_smb.specs.FrontSmb.{smb_shown}
 use Rattle.xl_front_smb.specs.State.{FrontSmb}
 use Rattle.xl_house.specs.State.{rooms_of}
@@ -52,18 +55,31 @@ before done outs = (done.0 ++ outs, done.1, done.2)
 abbrev pub and_then : (Fronts → CoreState → Sent) → Sent → Sent
 and_then rest done = behind done.0 (rest done.1 done.2)
 
--- all fronts hear of an effect; that of NLM may send a grant by a call, then that of NFSv4 recalls a delegation by one,
--- and then that of SMB sends a notice or a final reply
-abbrev pub with_news : Fronts → Effect → List Out × FrontState × CoreState → List Out → List Out × FrontSmb → Sent
-with_news f effect r calls q = (map (framed Rpc) r.0 ++ (map (framed Rpc) calls ++ map (framed Smb) q.0), record f { nlm = r.1; nfs = nfs_shown f.nfs effect; smb = q.1 }, r.2)
+-- NLM's front may send a grant by a call
+abbrev pub nlm_sent : Fronts → List Out × FrontState × CoreState → Sent
+nlm_sent f r = (map (framed Rpc) r.0, record f { nlm = r.1 }, r.2)
 
--- what the fronts send for an effect, in its frames, in the state that it left
+-- NFSv4's recalls a delegation by a call, and forgets a client that expired
+abbrev pub nfs_sent : Fronts → CoreState → List Out → FrontNfs → Sent
+nfs_sent f s calls nfs = (map (framed Rpc) calls, record f { nfs = nfs }, s)
+
+-- SMB's sends a notice or a final reply
+abbrev pub smb_sent : Fronts → CoreState → List Out × FrontSmb → Sent
+smb_sent f s q = (map (framed Smb) q.0, record f { smb = q.1 }, s)
+
+-- what the front of this protocol sends for an effect, in its frames, in the state that it left; the others hear nothing of it
+abbrev pub shown_by : Exports → Fronts → CoreState → Effect → Protocol → Sent
+shown_by exports f s effect protocols.Nlm = nlm_sent f (shown exports f.nlm s effect)
+shown_by exports f s effect protocols.Nfs = nfs_sent f s (recalls f.nfs s effect) (nfs_shown f.nfs effect)
+shown_by exports f s effect protocols.Smb = smb_sent f s (smb_shown f.smb s effect)
+
+-- an effect goes to one front, that of the party that it names (HOUSE-13)
 abbrev pub showing : Exports → Fronts → CoreState → Effect → Sent
-showing exports f s effect = with_news f effect (shown exports f.nlm s effect) (recalls f.nfs s effect) (smb_shown f.smb s effect)
+showing exports f s effect = shown_by exports f s effect (told_to effect)
 
 -- the effect tells of a grant, and how many of these do
 abbrev pub is_grant : Effect → Bool
-is_grant (Served id (Granted claim)) = true
+is_grant (Served party id (Granted claim)) = true
 is_grant _ = false
 
 abbrev pub grants : List Effect → ℕ

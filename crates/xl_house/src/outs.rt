@@ -4,11 +4,15 @@ ghost use Rattle.std.specs.List.{AllByRecursion};
 ghost use Rattle.xl_front_nlm.specs.Short.{IsReady, Leaves};
 ghost use Rattle.xl_programs.specs.Sent.{FitsFrame};
 ghost use Rattle.xl_house.specs.Machine.{sent_of};
-ghost use Rattle.xl_house.specs.Telling.{showing, framed, grants, behind, all_shown};
+ghost use Rattle.xl_base.specs.declared.name.Protocol.TheVariants.{Nlm};
+ghost use Rattle.xl_front_nfs.specs.Recalls.{recalls};
+ghost use Rattle.xl_front_nfs.specs.State.{nfs_shown};
+ghost use Rattle.xl_front_smb.specs.FrontSmb.{smb_shown};
+ghost use Rattle.xl_house.specs.Telling.{nfs_sent, smb_sent, shown_by, showing, framed, grants, behind, all_shown};
 
 use crate::layers::Layers;
 use std::alloc::{AllocError, Global};
-use xl_base::{Dest, Exports, Kind, Out, Sequence};
+use xl_base::{Dest, Exports, Kind, Out, Protocol, Sequence};
 use xl_core::Effect;
 use xl_frame::wrap;
 use xl_front_nfs::{nfs_shown, recalls};
@@ -53,7 +57,87 @@ pub(crate) fn send_all(
     Ok(())
 }
 
-/// Adds what the fronts send for an effect, of which all hear, in the state that it left.
+/// Adds what the front of NLM sends for an effect of its own.
+fn show_nlm(
+    alloc: Global,
+    exports: &Exports,
+    layers: &mut Layers,
+    effect: &Effect,
+    outs: &mut Sequence<Out>,
+) -> Result<(), AllocError>
+    requires ready { IsReady 0 layers.old.core }
+    ensures state { OnOk result (behind outs.old (shown_by exports.now layers.old.front layers.old.core effect.now Nlm) ≡ (outs.new, layers.new.front, layers.new.core)) }
+    ensures leaves { OnOk result (Leaves 2 layers.old.core layers.new.core) }
+{
+    let calls = shown(
+        alloc,
+        exports,
+        NlmLayers {
+            front: &mut layers.front.nlm,
+            core: &mut layers.core,
+        },
+        effect,
+    )?;
+    send_all(alloc, Kind::Rpc, calls, outs)?;
+    Ok(())
+}
+
+/// Adds what the front of NFSv4 sends for an effect of its own. The core stays.
+#[tactic(auto, using(xl_front_nlm::proofs::LeaveLaws::leaves_self))]
+fn show_nfs(
+    alloc: Global,
+    layers: &mut Layers,
+    effect: &Effect,
+    outs: &mut Sequence<Out>,
+) -> Result<(), AllocError>
+    requires ready { IsReady 0 layers.old.core }
+    ensures state { OnOk result (behind outs.old (nfs_sent layers.old.front layers.old.core (recalls layers.old.front.nfs layers.old.core effect.now) (nfs_shown layers.old.front.nfs effect.now)) ≡ (outs.new, layers.new.front, layers.new.core)) }
+    ensures leaves { OnOk result (Leaves 2 layers.old.core layers.new.core) }
+{
+    let calls = recalls(alloc, &layers.front.nfs, &layers.core, effect)?;
+    nfs_shown(&mut layers.front.nfs, effect);
+    send_all(alloc, Kind::Rpc, calls, outs)?;
+    Ok(())
+}
+
+/// Adds what the front of SMB sends for an effect of its own. The core stays.
+#[tactic(auto, using(xl_front_nlm::proofs::LeaveLaws::leaves_self))]
+fn show_smb(
+    alloc: Global,
+    layers: &mut Layers,
+    effect: &Effect,
+    outs: &mut Sequence<Out>,
+) -> Result<(), AllocError>
+    requires ready { IsReady 0 layers.old.core }
+    ensures state { OnOk result (behind outs.old (smb_sent layers.old.front layers.old.core (smb_shown layers.old.front.smb layers.old.core effect.now)) ≡ (outs.new, layers.new.front, layers.new.core)) }
+    ensures leaves { OnOk result (Leaves 2 layers.old.core layers.new.core) }
+{
+    let finals = smb_shown(alloc, &mut layers.front.smb, &layers.core, effect)?;
+    send_all(alloc, Kind::Smb, finals, outs)?;
+    Ok(())
+}
+
+/// Adds what the front of this protocol sends for an effect of its own, in the state that it left.
+fn show_by(
+    alloc: Global,
+    exports: &Exports,
+    layers: &mut Layers,
+    effect: &Effect,
+    protocol: Protocol,
+    outs: &mut Sequence<Out>,
+) -> Result<(), AllocError>
+    requires ready { IsReady 0 layers.old.core }
+    ensures state { OnOk result (behind outs.old (shown_by exports.now layers.old.front layers.old.core effect.now protocol) ≡ (outs.new, layers.new.front, layers.new.core)) }
+    ensures leaves { OnOk result (Leaves 2 layers.old.core layers.new.core) }
+{
+    match protocol {
+        Protocol::Nlm => show_nlm(alloc, exports, layers, effect, outs),
+        Protocol::Nfs => show_nfs(alloc, layers, effect, outs),
+        Protocol::Smb => show_smb(alloc, layers, effect, outs),
+    }
+}
+
+/// Adds what is sent for an effect, in the state that it left: one front hears of it, that of the party that it names.
 fn show(
     alloc: Global,
     exports: &Exports,
@@ -65,21 +149,7 @@ fn show(
     ensures state { OnOk result (behind outs.old (showing exports.now layers.old.front layers.old.core effect.now) ≡ (outs.new, layers.new.front, layers.new.core)) }
     ensures leaves { OnOk result (Leaves 2 layers.old.core layers.new.core) }
 {
-    let asked_back = recalls(alloc, &layers.front.nfs, &layers.core, effect)?;
-    nfs_shown(&mut layers.front.nfs, effect);
-    let finals = smb_shown(alloc, &mut layers.front.smb, &layers.core, effect)?;
-    let calls = shown(
-        alloc,
-        exports,
-        NlmLayers {
-            front: &mut layers.front.nlm,
-            core: &mut layers.core,
-        },
-        effect,
-    )?;
-    send_all(alloc, Kind::Rpc, calls, outs)?;
-    send_all(alloc, Kind::Rpc, asked_back, outs)?;
-    send_all(alloc, Kind::Smb, finals, outs)?;
+    show_by(alloc, exports, layers, effect, effect.protocol(), outs)?;
     Ok(())
 }
 

@@ -1,14 +1,16 @@
 -- Each request that waits in the front's lists is a waiter of the core.
 use Rattle.std.proofs.Common.{◌≡◌, ℕ, ◌+◌, ◌<◌, ◌≤◌, ◌&&◌, arith, Bool, true, false, not, eqb, List, [], ◌∷◌, ◌++◌, map, length, Option, Some, None, Ok, Err, Result, is_some, if◌then◌else◌, refl, sym, ap, subst, ◌∙◌, inl, inr}
-use Rattle.std.proofs.lemmas.Bool.{cases_Bool, true≢false, false≢true, eqb-true}
+use Rattle.std.proofs.lemmas.Bool.{and_right, cases_Bool, true≢false, false≢true, eqb-true}
 use Rattle.std.proofs.lemmas.Map.Made.{IsDistinct-keys_filter}
 use Rattle.std.specs.Prelude.{nat_eq, ◌==◌, ◌⊎◌, nat_lt, filter}
 use Rattle.std.specs.List.{AllByRecursion, IsDistinct, list_any}
 use Rattle.std.specs.Map.{keys_of, lookup, remove_entry}
-use Rattle.xl_base.proofs.Members.{all_from, all_in, in_append_left, in_append_right, in_filter, in_filter_from, in_map}
+use Rattle.xl_base.proofs.Members.{all_from, all_in, in_append_left, in_append_right, in_filter, in_filter_from}
 use Rattle.xl_base.specs.Lists.{IsIn}
+use Rattle.xl_base.specs.Stable.{same_protocol}
 use Rattle.xl_base.specs.declared.journal.Exports.{Exports}
 use Rattle.xl_base.specs.declared.name.Party.{Party}
+use Rattle.xl_base.specs.declared.name.Protocol.TheVariants.{Smb}
 use Rattle.xl_base.specs.declared.name.Owner.TheVariants as owners
 use Rattle.xl_matrix.specs.Equal.{same_owners}
 use Rattle.xl_matrix.specs.Owners.{posix}
@@ -55,15 +57,16 @@ use Rattle.xl_core.proofs.DeedLists.{deeds_good}
 use Rattle.xl_core.proofs.FrameLaws.{ask_frame, ask_quiet, way_leaves}
 use Rattle.xl_core.proofs.SettleLaws.{open_waiters}
 use Rattle.xl_core.proofs.WayAsks.{ask_there}
-use Rattle.xl_core.specs.Askers.{asked_claim, asked_claims, asked_whats, asker, is_client, owner_in, range_what}
+use Rattle.xl_core.specs.Askers.{asking_party, asked_claim, asked_claims, asked_whats, asker, is_client, owner_in, range_what}
 use Rattle.xl_core.specs.Decide.{Answered as Asked, ask, decided, freed, plea_of, unlocked, waiter_of}
 use Rattle.xl_core.specs.Deeds.{Deed, Cancels, Draws, all_done, all_told_of, Acks}
 use Rattle.xl_core.specs.Frames.{come_by, who_left}
 use Rattle.xl_core.specs.Good.{IsGood, IsWaiter}
 use Rattle.xl_table.specs.declared.leaver.Leaver.{Leaver}
 use Rattle.xl_table.specs.declared.leaver.Leaver.TheVariants as leavers
-use Rattle.xl_core.specs.Settle.{all_cancelled, all_told, cancel as cancel_of, close_open as close_core, departed, end_party, numbers_with, waits_as, waits_for, waits_with}
+use Rattle.xl_core.specs.Settle.{all_cancelled, cancel as cancel_of, close_open as close_core, departed, end_party, gone, told_of_one, told_with, waits_as, waits_for, waits_with}
 use Rattle.xl_core.specs.State.{CoreState, drawn}
+use Rattle.xl_core.specs.Told.{party_protocol}
 use Rattle.xl_core.specs.declared.ask.Answer.{Answer}
 use Rattle.xl_core.specs.declared.ask.Answer.TheVariants as answers
 use Rattle.xl_core.specs.declared.ask.Ask.{Ask}
@@ -78,7 +81,7 @@ use Rattle.xl_smb_locks.specs.Locks.{lock_ask, lock_told, range_of, unlock_ask, 
 use Rattle.xl_smb_locks.specs.declared.locking.Locking.{Locking}
 use Rattle.xl_smb_locks.specs.declared.status.SmbStatus.{SmbStatus}
 use Rattle.xl_smb_locks.specs.declared.status.SmbStatus.TheVariants as statuses
-use Rattle.xl_smb_laws.specs.WaitingRequests.{AreAwaited, AsksToOpen, IsAskerOf, IsAwaited, IsOnFile, IsUnder, IsUsedOn, ends_wait}
+use Rattle.xl_smb_laws.specs.WaitingRequests.{AreAwaited, AsksToOpen, IsAskerOf, IsAwaited, IsOnFile, IsUnder, IsUsedOn, serves_request}
 use Rattle.xl_front_smb.specs.Checks.{file_number, id_of, is_fresh, is_open_on, negotiated_by, number_in}
 use Rattle.xl_front_smb.specs.Ending.{all_closed, party_going, leavers_under, connection_gone, session_gone, ends, smb_end, all_dismissed, all_ended, numbers_under, requests_gone}
 use Rattle.xl_front_smb.specs.Files.{acknowledge, may_keep, lease_left, ack_lease_by, ack_cache, ack_lease, break_by, close, close_open, create, create_on, has_room_for_open, key_asked, lease_key, is_key_elsewhere, open_keyed, open_as, open_ask, open_file, open_found, open_row, overwrites, access_of, all_opens, ack_by, ack_level, ack_of, ack_open, deny_of, is_refused, left_at, refused_ack, taken_ack}
@@ -94,10 +97,11 @@ use Rattle.xl_front_smb.specs.Texts.{file_spelled, is_share}
 use Rattle.xl_front_smb.specs.declared.told.Told.{Told as Answered}
 use Rattle.xl_front_smb.specs.declared.told.Told.TheVariants as told
 use Rattle.xl_front_smb.proofs.AskLaws.{queued_after}
-use Rattle.xl_front_smb.proofs.EndLaws.{dismissed_keeps, ended_keeps, ended_told, numbers_going}
+use Rattle.xl_front_smb.proofs.EndLaws.{dismissed_keeps, ended_told, numbers_going}
 use Rattle.xl_front_smb.proofs.GoneLaws.{done_without, end_without, gone_opens, out_one, all_gone_opens}
 use Rattle.xl_smb_laws.proofs.LeaseKeyLaws.{AllUsed, LeasesStay, came_on, closed_leases, ended_leases, gone_leases, has_file, own_file, same_leases, used_by, used_for, used_still}
 use Rattle.xl_smb_laws.proofs.PlaceLaws.{Keeps, Stays, apart_under, begun_place, changed_place, closed_place, disconnected_place, ended_place, keeps_all, keeps_by, keeps_self, logged_off_place, same_places, tree_place, under_still}
+use Rattle.xl_smb_laws.proofs.SmbWaiterLaws.{asks_of_smb}
 use Rattle.xl_smb_laws.proofs.RequestOwn.{by_client, by_open, by_session, by_tree}
 use Rattle.xl_smb_laws.proofs.WaitConnectionLaws.{all_gone_waiting, closed_waiting, gone_waiting, stands_on}
 use Rattle.xl_matrix.specs.declared.claim.CacheKind.{CacheKind}
@@ -218,17 +222,30 @@ any_right p (x ∷ xs) ys any = elim (cases_Bool (p x)) [ inl here ↦ rw here r
 none_first : (p : ℕ → Bool) (xs ys : List ℕ) → list_any p (xs ++ ys) ≡ false → list_any p xs ≡ false
 none_first p xs ys none = elim (cases_Bool (list_any p xs)) [ inl some ↦ absurd (true≢false (sym (any_left p xs ys some) ∙ none)) | inr stays ↦ stays ]
 
-told_all : (id : ℕ) (ids : List ℕ) → IsIn id ids → is_cancelled id (all_told ids) ≡ true
-told_all id [] here = absurd here
-told_all id (k ∷ ids) here =
-    elim (cases_Bool (eqb k id)) [
+told_all : (w : Waiter) (ws : List Waiter) → IsIn w ws → is_cancelled w.id (map gone ws) ≡ true
+told_all w [] here = absurd here
+told_all w (v ∷ ws) here =
+    elim (cases_Bool (eqb v.id w.id)) [
       | inl same ↦ rw same refl
-      | inr other ↦ rw other (elim here [ inl same ↦ absurd (true≢false (sym (subst (λ (j : ℕ). eqb k j ≡ true) same (equal_self k)) ∙ other)) | inr rest ↦ told_all id ids rest ])
+      | inr other ↦ rw other (elim here [ inl first ↦ absurd (true≢false (sym (ap (λ (x : Waiter). eqb x.id w.id) first ∙ equal_self w.id) ∙ other)) | inr rest ↦ told_all w ws rest ])
     ]
 
+-- one who waits is told of by its number
+pub one_told : (w : Waiter) (ws : List Waiter) → IsIn w ws → is_cancelled w.id (told_of_one w.id ws) ≡ true
+one_told w [] here = absurd here
+one_told w (v ∷ ws) here =
+    elim (cases_Bool (eqb v.id w.id)) [
+      | inl same ↦ (let told : is_cancelled w.id (gone v ∷ []) ≡ true = rw same refl in rw same told)
+      | inr other ↦ rw other (elim here [ inl first ↦ absurd (true≢false (sym (ap (λ (x : Waiter). eqb x.id w.id) first ∙ equal_self w.id) ∙ other)) | inr rest ↦ one_told w ws rest ])
+    ]
+
+-- under whichever name of the number
+pub told_under : (w : Waiter) (ws : List Waiter) (id : ℕ) → IsIn w ws → w.id ≡ id → is_cancelled id (told_of_one id ws) ≡ true
+told_under w ws id here same = subst (λ (k : ℕ). is_cancelled k (told_of_one k ws) ≡ true) same (one_told w ws here)
+
 leaver_told : (s : CoreState) (leaver : Leaver) (w : Waiter) → IsIn w s.waiters → waits_with leaver w ≡ true → is_cancelled w.id (departed s leaver).0 ≡ true
-unfolding numbers_with
-leaver_told s leaver w here waits = told_all w.id (map (λ (v : Waiter). v.id) (filter (waits_with leaver) s.waiters)) (in_map (λ (v : Waiter). v.id) w (filter (waits_with leaver) s.waiters) (in_filter (waits_with leaver) w s.waiters here waits))
+unfolding told_with
+leaver_told s leaver w here waits = told_all w (filter (waits_with leaver) s.waiters) (in_filter (waits_with leaver) w s.waiters here waits)
 
 pub party_told : (s : CoreState) (party : Party) (w : Waiter) → IsIn w s.waiters → waits_for party w ≡ true → is_cancelled w.id (end_party s party).0 ≡ true
 unfolding end_party
@@ -267,7 +284,7 @@ Way s l deeds lists =
 
 -- who waits for this
 abbrev pub asker_of : Ask → ℕ → List Name → Waiter
-asker_of a id names = waiter_of id a (asked_claims a (asked_whats a.act) names)
+asker_of a id names = waiter_of id a (asking_party a names) (asked_claims a (asked_whats a.act) names)
 
 -- what is asked is for this open, and something
 abbrev pub AsksFor : Ask → ℕ → Type 0
@@ -304,7 +321,7 @@ same_stays : (k : ℕ) (l m : Lists) → open_of k m ≡ open_of k l → Stays k
 same_stays k l m same = λ c on. ap (is_open_on c) same ∙ on
 
 pub moved : (s t : CoreState) (l m : Lists) (e : ℕ × Waiting) (is : IsAwaited s l e) → IsIn is.waiter t.waiters → Keeps l m e e.1.request → IsAwaited t m e
-moved s t l m e is stays keeps = record { waiter = is.waiter; waits = stays; number = is.number; own = is.own; alone = is.alone; asker = is.asker; under = under_still l m e e.1.request keeps is.under }
+moved s t l m e is stays keeps = record { waiter = is.waiter; waits = stays; number = is.number; own = is.own; alone = is.alone; smb = is.smb; asker = is.asker; under = under_still l m e e.1.request keeps is.under }
 
 -- rows that were there
 in_same : (l m : Lists) (x : ℕ × Waiting) → m.waiting ≡ l.waiting → IsIn x m.waiting → IsIn x l.waiting
@@ -348,7 +365,7 @@ cancel_settles : (n : ℕ) (s : CoreState) (l : Lists) (id : ℕ) (answer : Answ
 unfolding cancel_of
 cancel_settles n s l id answer e is =
     elim (cases_Bool (eqb id e.0)) [
-      | inl same ↦ (let over : is_cancelled e.0 (effects.Cancelled id ∷ []) ≡ true = rw same refl in inr (over, refl))
+      | inl same ↦ inr (any_left (cancels e.0) (told_of_one id s.waiters) [] (subst (λ (k : ℕ). is_cancelled e.0 (told_of_one k s.waiters) ≡ true) (equal_from id e.0 same) (told_under is.waiter s.waiters e.0 is.waits is.number)), refl)
       | inr other ↦ (
           let apart : eqb is.waiter.id id ≡ false = subst (λ (k : ℕ). eqb k id ≡ false) (sym is.number) (unequal_both id e.0 other) in
           inl (moved s (cancel_of s id).1 l l e is (cancelled_in id s.waiters is.waiter is.waits apart) (keeps_self l e e.1.request)))
@@ -448,10 +465,10 @@ others_kept l id row e apart agrees =
     })
 
 -- who waited still does, and so does the request that comes
-queued_settle : (t s : CoreState) (l : Lists) (a : Ask) (row : Waiting) (id : ℕ) (names : List Name) (e : ℕ × Waiting) → t.waiters ≡ s.waiters ++ come_by a (answers.Queued id) names → AsksFor a row.opened → ((x : ℕ × Waiting) → IsIn x l.waiting → IsAwaited s l x)
+queued_settle : (t s : CoreState) (l : Lists) (a : Ask) (row : Waiting) (id : ℕ) (names : List Name) (e : ℕ × Waiting) → t.waiters ≡ s.waiters ++ come_by a (answers.Queued id) names → is_client a.owner a.party ≡ true → AsksFor a row.opened → ((x : ℕ × Waiting) → IsIn x l.waiting → IsAwaited s l x)
     → ((x : ℕ × Waiting) → IsIn x l.waiting → Keeps l (with_waiting id row l) x x.1.request) → IsAskerOf (asker_of a id names) row.opened row.request → IsUnder (with_waiting id row l) (id, row) row.request
     → IsIn e (with_waiting id row l).waiting → IsAwaited t (with_waiting id row l) e
-queued_settle t s l a row id names e queue asks all kept asker under here =
+queued_settle t s l a row id names e queue client asks all kept asker under here =
     let new : Waiter = asker_of a id names in
     let is_new = asks id names in
     let left : Lists = with_waiting id row l in
@@ -464,6 +481,7 @@ queued_settle t s l a row id names e queue asks all kept asker under here =
           number = refl;
           own = is_new.0;
           alone = is_new.1;
+          smb = asks_of_smb a id row.opened names client is_new.0;
           asker = asker;
           under = under;
         })
@@ -476,7 +494,7 @@ lock_queued : (t s : CoreState) (l : Lists) (a : Ask) (row : Waiting) (id : ℕ)
     → IsIn e (with_waiting id row l).waiting → IsAwaited t (with_waiting id row l) e
 lock_queued t s l a row id names e queue asks all here =
     let m : Lists = with_waiting id row l in
-    queued_settle t s l a row id names e queue asks.1 all (λ x old. others_kept l id row x (λ makes made same. true≢false (sym made ∙ ap makes_open asks.2)) (λ key file other at it. absurd (none_some (ap (file_for key) (sym asks.2) ∙ it))))
+    queued_settle t s l a row id names e queue asks.0 asks.1 all (λ x old. others_kept l id row x (λ makes made same. true≢false (sym made ∙ ap makes_open asks.2)) (λ key file other at it. absurd (none_some (ap (file_for key) (sym asks.2) ∙ it))))
     (subst (λ (r : Request). IsAskerOf (asker_of a id names) row.opened r) (sym asks.2) tt)
     (subst (λ (r : Request). IsUnder m (id, row) r) (sym asks.2) (ap (λ (es : List (ℕ × Open)). is_open_on row.place.connection (lookup (nat_eq row.opened) es)) (with_opens (has_room_to_wait l id) id row l) ∙ asks.3))
     here
@@ -518,7 +536,7 @@ create_queued t s u l a number row waiting id names e queue good distinct later 
     let m : Lists = with_waiting id waiting l in
     let room : Bool = has_room_to_wait l id in
     let used = used_new s l a number row waiting distinct new before in
-    queued_settle t u l a waiting id names e queue new.asks all (λ x old. others_kept l id waiting x (λ makes made same. not_next s l x number good (before x old) makes new.next (sym new.opened ∙ same)) (agrees_new s l a number row waiting distinct new before x old))
+    queued_settle t u l a waiting id names e queue new.client new.asks all (λ x old. others_kept l id waiting x (λ makes made same. not_next s l x number good (before x old) makes new.next (sym new.opened ∙ same)) (agrees_new s l a number row waiting distinct new before x old))
     (subst (λ (r : Request). IsAskerOf (asker_of a id names) waiting.opened r) (sym new.makes) (subst (λ (k : ℕ). AsksToOpen (asker_of a id names) k row) (sym new.opened) (new.asker id names)))
     (subst (λ (r : Request). IsUnder m (id, waiting) r) (sym new.makes) (record {
       held = new.held;
@@ -1092,18 +1110,16 @@ other_awaited s l m id e leaves distinct here =
 
 -- who waits once an effect is told waited before, is not told that it waits no more, and is awaited if it was
 pub one_shown : (f : FrontSmb) (s : CoreState) (effect : Effect) (e : ℕ × Waiting) → IsDistinct nat_eq (keys_of f.state.waiting) → IsIn e (smb_shown f s effect).1.state.waiting
-    → IsIn e f.state.waiting × (ends_wait e.0 effect ≡ false) × (IsAwaited s f.state e → IsAwaited s (smb_shown f s effect).1.state e)
+    → IsIn e f.state.waiting × (serves_request e.0 effect ≡ false) × (IsAwaited s f.state e → IsAwaited s (smb_shown f s effect).1.state e)
 unfolding smb_shown told_of
-one_shown f s (effects.Served id answer) e distinct here = other_awaited s f.state (request_served s id answer f.state).1 id e (served_rows s id answer f.state) distinct here
-one_shown f s (effects.Cancelled id) e distinct here =
-    let left : Lists = (request_ended id statuses.Cancelled f.state).1 in
-    let same = ended_rows id statuses.Cancelled f.state in
-    let kept = ended_keeps id statuses.Cancelled f.state in
-    other_awaited s f.state left id e (only_gone id f.state left same.0 same.1 (ap (λ (m : Lists). m.leases) kept) (ap (λ (m : Lists). m.trees) kept) (ap (λ (m : Lists). m.connections) kept)) distinct here
+one_shown f s (effects.Served party id answer) e distinct here =
+    let other = other_awaited s f.state (request_served s id answer f.state).1 id e (served_rows s id answer f.state) distinct here in
+    (other.0, and_right (same_protocol (party_protocol party) Smb) (eqb id e.0) other.1, other.2)
+one_shown f s (effects.Cancelled party id) e distinct here = (here, refl, (λ is. is))
 one_shown f s (effects.Begun claim to number) e distinct here = (here, refl, (λ is. is))
 one_shown f s (effects.Expired client) e distinct here = (here, refl, (λ is. is))
 
-pub shown_awaited : (f : FrontSmb) (s : CoreState) (effect : Effect) → IsDistinct nat_eq (keys_of f.state.waiting) → ((e : ℕ × Waiting) → IsIn e f.state.waiting → ends_wait e.0 effect ≡ false → IsAwaited s f.state e) → AreAwaited s (smb_shown f s effect).1.state
+pub shown_awaited : (f : FrontSmb) (s : CoreState) (effect : Effect) → IsDistinct nat_eq (keys_of f.state.waiting) → ((e : ℕ × Waiting) → IsIn e f.state.waiting → serves_request e.0 effect ≡ false → IsAwaited s f.state e) → AreAwaited s (smb_shown f s effect).1.state
 shown_awaited f s effect distinct all =
     let left : Lists = (smb_shown f s effect).1.state in
     all_from (IsAwaited s left) left.waiting (λ e here. (let one = one_shown f s effect e distinct here in one.2 (all e one.0 one.1)))

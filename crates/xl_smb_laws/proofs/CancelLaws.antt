@@ -9,6 +9,7 @@ use Rattle.xl_base.proofs.Members.{all_in}
 use Rattle.xl_base.specs.Lists.{IsIn}
 use Rattle.xl_base.specs.declared.event.Out.{Out}
 use Rattle.xl_base.specs.declared.journal.Exports.{Exports}
+use Rattle.xl_base.specs.declared.name.Party.{Party}
 use Rattle.xl_smb.specs.Calls.{Cancel}
 use Rattle.xl_smb.specs.declared.head.Route.{Route}
 use Rattle.xl_smb.specs.declared.head.SmbHead.{SmbHead}
@@ -17,7 +18,8 @@ use Rattle.xl_smb_state.specs.State.{Lists, client_of, covers, keys_where, waiti
 use Rattle.xl_smb_state.specs.declared.row.Scope.TheVariants as scope
 use Rattle.xl_smb_state.specs.declared.row.Waiting.{Waiting}
 use Rattle.xl_wait.specs.Waiting.{is_waiting}
-use Rattle.xl_core.specs.Settle.{cancel as cancel_of}
+use Rattle.xl_wait.specs.declared.waiter.Waiter.{Waiter}
+use Rattle.xl_core.specs.Settle.{cancel as cancel_of, told_of_one}
 use Rattle.xl_core.specs.State.{CoreState}
 use Rattle.xl_core.specs.declared.ask.Effect.{Effect}
 use Rattle.xl_core.specs.declared.ask.Effect.TheVariants.{Cancelled}
@@ -39,30 +41,30 @@ use Rattle.xl_smb_laws.proofs.RequestOwn.{named_in}
 
 -- ---- of one that waits no more, among requests
 
-abbrev one_over : ℕ → List Effect
-one_over id = Cancelled id ∷ []
+abbrev one_over : Party → ℕ → List Effect
+one_over party id = Cancelled party id ∷ []
 
-none_dismissed : (id : ℕ) (ids : List ℕ) (l : Lists) → AllByRecursion (λ k. eqb id k ≡ false) ids → dismissed (one_over id) ids l ≡ ([], l)
-none_dismissed id [] l all = refl
-none_dismissed id (k ∷ ids) l all = let other : eqb id k ≡ false = all.0 in rw other (none_dismissed id ids l all.1)
+none_dismissed : (party : Party) (id : ℕ) (ids : List ℕ) (l : Lists) → AllByRecursion (λ k. eqb id k ≡ false) ids → dismissed (one_over party id) ids l ≡ ([], l)
+none_dismissed party id [] l all = refl
+none_dismissed party id (k ∷ ids) l all = let other : eqb id k ≡ false = all.0 in rw other (none_dismissed party id ids l all.1)
 
-first_dismissed : (id : ℕ) (ids : List ℕ) (l : Lists) → ((m : Lists) → dismissed (one_over id) ids m ≡ ([], m)) → dismissed (one_over id) (id ∷ ids) l ≡ request_ended id statuses.Cancelled l
-first_dismissed id ids l none =
+first_dismissed : (party : Party) (id : ℕ) (ids : List ℕ) (l : Lists) → ((m : Lists) → dismissed (one_over party id) ids m ≡ ([], m)) → dismissed (one_over party id) (id ∷ ids) l ≡ request_ended id statuses.Cancelled l
+first_dismissed party id ids l none =
     let ended : List Out × Lists = request_ended id statuses.Cancelled l in
     let same : eqb id id ≡ true = equal_self id in
     rw same ((λ i. (ended.0 ++ (none ended.1 i).0, (none ended.1 i).1)) ∙ (λ i. (append-nil ended.0 i, ended.1)))
 
-one_dismissed : (id : ℕ) (ids : List ℕ) (l : Lists) → IsDistinct nat_eq ids → IsIn id ids → dismissed (one_over id) ids l ≡ request_ended id statuses.Cancelled l
-one_dismissed id [] l distinct here = absurd here
-one_dismissed id (k ∷ ids) l distinct here =
+one_dismissed : (party : Party) (id : ℕ) (ids : List ℕ) (l : Lists) → IsDistinct nat_eq ids → IsIn id ids → dismissed (one_over party id) ids l ≡ request_ended id statuses.Cancelled l
+one_dismissed party id [] l distinct here = absurd here
+one_dismissed party id (k ∷ ids) l distinct here =
     elim (cases_Bool (eqb id k)) [
       | inl same ↦ (
           let is : id ≡ k = eqb-true id k same in
-          subst (λ (j : ℕ). dismissed (one_over j) (k ∷ ids) l ≡ request_ended j statuses.Cancelled l) (sym is)
-          (first_dismissed k ids l (λ m. none_dismissed k ids m (IsDistinct-head nat_eq k ids distinct))))
+          subst (λ (j : ℕ). dismissed (one_over party j) (k ∷ ids) l ≡ request_ended j statuses.Cancelled l) (sym is)
+          (first_dismissed party k ids l (λ m. none_dismissed party k ids m (IsDistinct-head nat_eq k ids distinct))))
       | inr other ↦ (
           let later : IsIn id ids = elim here [ inl first ↦ absurd (true≢false (sym (subst (λ (j : ℕ). eqb j k ≡ true) first (equal_self k)) ∙ other)) | inr rest ↦ rest ] in
-          rw other (one_dismissed id ids l (IsDistinct-tail nat_eq k ids distinct) later))
+          rw other (one_dismissed party id ids l (IsDistinct-tail nat_eq k ids distinct) later))
     ]
 
 -- ---- the request that is named
@@ -142,22 +144,36 @@ pub cancel_over : (n : ℕ) (exports : Exports) (others : ℕ) (f : FrontSmb) (s
 cancel_over n exports others f s conn bytes h client id is known named over =
     quiet n exports others f s conn bytes h is (ap (λ (p : Plan). carried n s f.state p) (named_plan s exports.files others f.state conn h client (Some id) known named) ∙ over_plan n s f.state id (is_waiting id s.waiters) refl over)
 
-waits_plan : (n : ℕ) (s : CoreState) (l : Lists) (id : ℕ) → is_waiting id s.waiters ≡ true → carried n s l (cancel_named s l (Some id)) ≡ (told.Nothing, one_over id, l, (cancel_of s id).1)
+waits_plan : (n : ℕ) (s : CoreState) (l : Lists) (id : ℕ) → is_waiting id s.waiters ≡ true → carried n s l (cancel_named s l (Some id)) ≡ (told.Nothing, (cancel_of s id).0, l, (cancel_of s id).1)
+waits_plan n s l id waits = rw waits (λ i. (told.Nothing, append-nil (cancel_of s id).0 i, l, (cancel_of s id).1))
+
+-- it is told of one, by its party
+told_among : (id : ℕ) (ws : List Waiter) → is_waiting id ws ≡ true → (party : Party) × (told_of_one id ws ≡ one_over party id)
+told_among id [] waits = absurd (true≢false (sym waits))
+told_among id (w ∷ ws) waits =
+    elim (cases_Bool (eqb w.id id)) [
+      | inl same ↦ (w.party, rw same (ap (λ (k : ℕ). one_over w.party k) (sym (equal_from w.id id same))))
+      | inr other ↦ (let later = told_among id ws (rw other at waits) in (later.0, rw other later.1))
+    ]
+
+told_is : (s : CoreState) (id : ℕ) → is_waiting id s.waiters ≡ true → (party : Party) × ((cancel_of s id).0 ≡ one_over party id)
 unfolding cancel_of
-waits_plan n s l id waits = rw waits refl
+told_is s id waits = told_among id s.waiters waits
 
 ended_so : (id : ℕ) (l : Lists) (row : Waiting) → waiting_of id l ≡ Some row → request_ended id statuses.Cancelled l ≡ (failed_outs id row statuses.Cancelled, waiting_dropped id l)
 unfolding request_ended
 ended_so id l row found = ap (λ (o : Option Waiting). ended_with id statuses.Cancelled o l) found
 
 pub cancel_sends : (n : ℕ) (exports : Exports) (others : ℕ) (f : FrontSmb) (s : CoreState) (conn : ℕ) (bytes : List ℕ) (h : SmbHead) (client : List ℕ) (id : ℕ) (row : Waiting) → IsRequest bytes h Cancel → client_of conn f.state ≡ Some client → IsDistinct nat_eq (keys_of f.state.waiting) → request_named conn f.state h.message_id h.route ≡ Some id → waiting_of id f.state ≡ Some row → is_waiting id s.waiters ≡ true
-    → smb_step n exports others f s conn bytes ≡ (failed_outs id row statuses.Cancelled, Cancelled id ∷ [], record { state = waiting_dropped id f.state }, (cancel_of s id).1)
+    → smb_step n exports others f s conn bytes ≡ (failed_outs id row statuses.Cancelled, (cancel_of s id).0, record { state = waiting_dropped id f.state }, (cancel_of s id).1)
 cancel_sends n exports others f s conn bytes h client id row is known distinct named found waits =
     let t : CoreState = (cancel_of s id).1 in
-    let sent : all_dismissed (one_over id) f.state ≡ (failed_outs id row statuses.Cancelled, waiting_dropped id f.state) =
-    one_dismissed id (keys_of f.state.waiting) f.state distinct (in_keys (λ (r : Waiting). covers (scope.Connection conn) r.place) f.state.waiting id (named_in conn f.state h.message_id h.route id named)) ∙ ended_so id f.state row found in
+    let effects : List Effect = (cancel_of s id).0 in
+    let own = told_is s id waits in
+    let sent : all_dismissed effects f.state ≡ (failed_outs id row statuses.Cancelled, waiting_dropped id f.state) =
+    ap (λ (es : List Effect). all_dismissed es f.state) own.1 ∙ one_dismissed own.0 id (keys_of f.state.waiting) f.state distinct (in_keys (λ (r : Waiting). covers (scope.Connection conn) r.place) f.state.waiting id (named_in conn f.state h.message_id h.route id named)) ∙ ended_so id f.state row found in
     request_comes n exports others f s conn bytes h Cancel is
     ∙ ap (λ (p : Plan). answered conn h (carried n s f.state p)) (named_plan s exports.files others f.state conn h client (Some id) known named)
     ∙ ap (answered conn h) (waits_plan n s f.state id waits)
-    ∙ answered_so conn h f.state (one_over id) t
-    ∙ ap (λ (r : List Out × Lists). (r.0, one_over id, record { state = r.1 }, t)) sent
+    ∙ answered_so conn h f.state effects t
+    ∙ ap (λ (r : List Out × Lists). (r.0, effects, record { state = r.1 }, t)) sent

@@ -7,6 +7,7 @@ use Rattle.xl_base.proofs.Members.{all_in, in_append_right}
 use Rattle.xl_base.specs.Lists.{IsIn, Pairwise}
 use Rattle.xl_base.specs.declared.event.Out.{Out}
 use Rattle.xl_base.specs.declared.name.Owner.TheVariants as owners
+use Rattle.xl_base.specs.declared.name.Party.{Party}
 use Rattle.xl_matrix.specs.declared.claim.Claim.{Claim}
 use Rattle.xl_smb_state.proofs.RowLaws.{equal_self}
 use Rattle.xl_smb_state.specs.Links.{most_opens}
@@ -89,24 +90,24 @@ each_room earlier left rows kept first c d s due =
 
 -- ---- who is served is the waiter of the row
 
-none_served : (id : ℕ) (answer : Answer) (es : List Effect) → who_left es ≡ [] → IsIn (effects.Served id answer) es → ⊥
-none_served id answer [] none here = absurd here
-none_served id answer (effects.Served k told ∷ es) none here = cc
-none_served id answer (effects.Cancelled k ∷ es) none here = cc
-none_served id answer (effects.Begun cache to call ∷ es) none here = elim here [ inl same ↦ absurd (differs same) | inr rest ↦ none_served id answer es none rest ]
+none_served : (party : Party) (id : ℕ) (answer : Answer) (es : List Effect) → who_left es ≡ [] → IsIn (effects.Served party id answer) es → ⊥
+none_served party id answer [] none here = absurd here
+none_served party id answer (effects.Served other k told ∷ es) none here = cc
+none_served party id answer (effects.Cancelled other k ∷ es) none here = cc
+none_served party id answer (effects.Begun cache to call ∷ es) none here = elim here [ inl same ↦ absurd (differs same) | inr rest ↦ none_served party id answer es none rest ]
   where
-    differs : effects.Begun cache to call ≡ effects.Served id answer → ⊥
+    differs : effects.Begun cache to call ≡ effects.Served party id answer → ⊥
     differs e = cc
-none_served id answer (effects.Expired client ∷ es) none here = elim here [ inl same ↦ absurd (differs same) | inr rest ↦ none_served id answer es none rest ]
+none_served party id answer (effects.Expired client ∷ es) none here = elim here [ inl same ↦ absurd (differs same) | inr rest ↦ none_served party id answer es none rest ]
   where
-    differs : effects.Expired client ≡ effects.Served id answer → ⊥
+    differs : effects.Expired client ≡ effects.Served party id answer → ⊥
     differs e = cc
 
 in_either : (e : Effect) (xs ys : List Effect) → IsIn e (xs ++ ys) → IsIn e xs ⊎ IsIn e ys
 in_either e [] ys here = inr here
 in_either e (x ∷ xs) ys here = elim here [ inl same ↦ inl (inl same) | inr rest ↦ elim (in_either e xs ys rest) [ inl old ↦ inl (inr old) | inr new ↦ inr new ] ]
 
-one_waiter : (ws : List Waiter) (v w : Waiter) → Pairwise are_apart ws → IsIn v ws → IsIn w ws → v.id ≡ w.id → v ≡ w
+pub one_waiter : (ws : List Waiter) (v w : Waiter) → Pairwise are_apart ws → IsIn v ws → IsIn w ws → v.id ≡ w.id → v ≡ w
 one_waiter [] v w apart here there same = absurd here
 one_waiter (x ∷ ws) v w apart here there same =
     elim here [
@@ -132,31 +133,35 @@ rest_of e = cc
 same_granted : {c d : Claim} → answers.Granted c ≡ answers.Granted d → c ≡ d
 same_granted e = cc
 
-same_id : {id k : ℕ} {answer told : Answer} → effects.Served k told ≡ effects.Served id answer → k ≡ id
+same_party : {party other : Party} {id k : ℕ} {answer told : Answer} → effects.Served other k told ≡ effects.Served party id answer → other ≡ party
+same_party e = cc
+
+same_id : {party other : Party} {id k : ℕ} {answer told : Answer} → effects.Served other k told ≡ effects.Served party id answer → k ≡ id
 same_id e = cc
 
-same_answer : {id k : ℕ} {answer told : Answer} → effects.Served k told ≡ effects.Served id answer → told ≡ answer
+same_answer : {party other : Party} {id k : ℕ} {answer told : Answer} → effects.Served other k told ≡ effects.Served party id answer → told ≡ answer
 same_answer e = cc
 
 -- what is served with a grant
-pub record IsGrantOf (left : Rooms) (s : CoreState) (told : List Effect) (id : ℕ) (claim : Claim) : Type 0 where
+pub record IsGrantOf (left : Rooms) (s : CoreState) (told : List Effect) (party : Party) (id : ℕ) (claim : Claim) : Type 0 where
   pub before : List Effect
   pub begun : who_left before ≡ []
-  pub last : told ≡ before ++ effects.Served id (answers.Granted claim) ∷ []
+  pub last : told ≡ before ++ effects.Served party id (answers.Granted claim) ∷ []
   pub waiter : Waiter
   pub waits : IsIn waiter s.waiters
   pub number : waiter.id ≡ id
+  pub named : waiter.party ≡ party
   pub claims : List Claim
   pub asked : waiter.asked ≡ claim ∷ claims
   pub room : claims ≡ [] → waiter.rows.opens ≤ left.opens
 
-pub served_grant : (left : Rooms) (s t : CoreState) (told : List Effect) (id : ℕ) (claim : Claim) → IsTurn left s told t → IsIn (effects.Served id (answers.Granted claim)) told → IsGrantOf left s told id claim
-served_grant left s t told id claim turn here =
-    elim (in_either (effects.Served id (answers.Granted claim)) (way_again turn.before s turn.waiter).0 turn.told (subst (λ (es : List Effect). IsIn (effects.Served id (answers.Granted claim)) es) turn.effects_are here)) [
-      | inl begun ↦ absurd (none_served id (answers.Granted claim) (way_again turn.before s turn.waiter).0 (way_leaves turn.before (plea_again s turn.waiter) turn.waiter.asked s) begun)
+pub served_grant : (left : Rooms) (s t : CoreState) (told : List Effect) (party : Party) (id : ℕ) (claim : Claim) → IsTurn left s told t → IsIn (effects.Served party id (answers.Granted claim)) told → IsGrantOf left s told party id claim
+served_grant left s t told party id claim turn here =
+    elim (in_either (effects.Served party id (answers.Granted claim)) (way_again turn.before s turn.waiter).0 turn.told (subst (λ (es : List Effect). IsIn (effects.Served party id (answers.Granted claim)) es) turn.effects_are here)) [
+      | inl begun ↦ absurd (none_served party id (answers.Granted claim) (way_again turn.before s turn.waiter).0 (way_leaves turn.before (plea_again s turn.waiter) turn.waiter.asked s) begun)
       | inr last ↦ elim turn.served [
-        | WaitsOn none up same ↦ absurd (subst (λ (es : List Effect). IsIn (effects.Served id (answers.Granted claim)) es) none last)
-        | Answered answer is granted due new free ↦ elim (subst (λ (es : List Effect). IsIn (effects.Served id (answers.Granted claim)) es) is last) [
+        | WaitsOn none up same ↦ absurd (subst (λ (es : List Effect). IsIn (effects.Served party id (answers.Granted claim)) es) none last)
+        | Answered answer is granted due new free ↦ elim (subst (λ (es : List Effect). IsIn (effects.Served party id (answers.Granted claim)) es) is last) [
           | inr none ↦ absurd none
           | inl one ↦ (
               let own : answer ≡ answers.Granted claim = same_answer one in
@@ -168,6 +173,7 @@ served_grant left s t told id claim turn here =
                 waiter = turn.waiter;
                 waits = subst (λ (ws : List Waiter). IsIn turn.waiter ws) (sym turn.stood) (in_append_right turn.waiter turn.before (turn.waiter ∷ turn.behind) (inl refl));
                 number = same_id one;
+                named = same_party one;
                 claims = turn.claims;
                 asked = turn.asked ∙ ap (λ (c : Claim). c ∷ turn.claims) (sym this);
                 room = λ alone. each_room turn.before left turn.waiter.rows (length (way_again turn.before s turn.waiter).1.names) turn.claim turn.claim claim (way_again turn.before s turn.waiter).1
@@ -196,10 +202,10 @@ pub record MakesStand (l : Lists) (row : Waiting) (made : Open) (claim : Claim) 
 all_three : (a b c : Bool) → a ≡ true → b ≡ false → c ≡ true → (a && (not b && c)) ≡ true
 all_three a b c first second third = rw (first, second, third) refl
 
-pub grant_stands : (left : Rooms) (s t : CoreState) (l : Lists) (told : List Effect) (id : ℕ) (claim : Claim) (row : Waiting) (made : Open) → IsGood s → AreAwaited s l → IsTurn left s told t → IsIn (effects.Served id (answers.Granted claim)) told
+pub grant_stands : (left : Rooms) (s t : CoreState) (l : Lists) (told : List Effect) (party : Party) (id : ℕ) (claim : Claim) (row : Waiting) (made : Open) → IsGood s → AreAwaited s l → IsTurn left s told t → IsIn (effects.Served party id (answers.Granted claim)) told
     → left.opens ≤ most_opens - length l.opens → waiting_of id l ≡ Some row → row.request ≡ request.Create made → MakesStand l row made claim
-grant_stands left s t l told id claim row made good all turn here room at makes =
-    let grant = served_grant left s t told id claim turn here in
+grant_stands left s t l told party id claim row made good all turn here room at makes =
+    let grant = served_grant left s t told party id claim turn here in
     let is = all_in (IsAwaited s l) (id, row) l.waiting all (row_in id l.waiting row at) in
     let one : is.waiter ≡ grant.waiter = one_waiter s.waiters is.waiter grant.waiter good.apart is.waits grant.waits (is.number ∙ sym grant.number) in
     let asks : AsksToOpen is.waiter row.opened made = subst (λ (r : Request). IsAskerOf is.waiter row.opened r) makes is.asker in
@@ -221,24 +227,24 @@ turn_of n left s t told good e = subst (λ (o : Option (List Effect × CoreState
 
 -- ---- as the laws say it
 
-module _ (n : ℕ) (left : Rooms) (s t u : CoreState) (f : FrontSmb) (id : ℕ) (row : Waiting) (made : Open) (claim : Claim) where
-  stands : IsGood s → AreAwaited s f.state → IsGranted n left s t f.state id row made claim → MakesStand f.state row made claim
-  stands good all is = grant_stands left s t f.state is.told id claim row made good all (turn_of n left s t is.told good is.turn) is.served is.room is.waits is.makes
+module _ (n : ℕ) (left : Rooms) (s t u : CoreState) (f : FrontSmb) (party : Party) (id : ℕ) (row : Waiting) (made : Open) (claim : Claim) where
+  stands : IsGood s → AreAwaited s f.state → IsGranted n left s t f.state party id row made claim → MakesStand f.state row made claim
+  stands good all is = grant_stands left s t f.state is.told party id claim row made good all (turn_of n left s t is.told good is.turn) is.served is.room is.waits is.makes
 
-  pub granted_share : IsGood s → AreAwaited s f.state → IsGranted n left s t f.state id row made claim → (claim.owner ≡ owners.Open row.opened) × (claim.file ≡ made.file)
+  pub granted_share : IsGood s → AreAwaited s f.state → IsGranted n left s t f.state party id row made claim → (claim.owner ≡ owners.Open row.opened) × (claim.file ≡ made.file)
   granted_share good all is = let made_so = stands good all is in (made_so.owner, made_so.file)
 
-  pub granted_row : IsGood s → AreAwaited s f.state → IsGranted n left s t f.state id row made claim → open_of row.opened (smb_shown f u (effects.Served id (answers.Granted claim))).1.state ≡ Some made
+  pub granted_row : IsGood s → AreAwaited s f.state → IsGranted n left s t f.state party id row made claim → open_of row.opened (smb_shown f u (effects.Served party id (answers.Granted claim))).1.state ≡ Some made
   unfolding smb_shown
-  granted_row good all is = granted_stands u f.state id claim row made is.waits is.makes (stands good all is).may
+  granted_row good all is = granted_stands u f.state party id claim row made is.waits is.makes (stands good all is).may
 
-  pub granted_reply : IsGood s → AreAwaited s f.state → IsGranted n left s t f.state id row made claim → (smb_shown f u (effects.Served id (answers.Granted claim))).0 ≡ final_outs row (opened_reply id row (id_of u row.opened) (caching u row.opened made))
+  pub granted_reply : IsGood s → AreAwaited s f.state → IsGranted n left s t f.state party id row made claim → (smb_shown f u (effects.Served party id (answers.Granted claim))).0 ≡ final_outs row (opened_reply id row (id_of u row.opened) (caching u row.opened made))
   unfolding smb_shown
-  granted_reply good all is = ap (λ (r : List Out × Lists). r.0) (granted_told u f.state id claim row made is.waits is.makes (stands good all is).may)
+  granted_reply good all is = ap (λ (r : List Out × Lists). r.0) (granted_told u f.state party id claim row made is.waits is.makes (stands good all is).may)
 
-  pub granted_lease : IsGood s → AreAwaited s f.state → IsGranted n left s t f.state id row made claim → IsLeased (smb_shown f u (effects.Served id (answers.Granted claim))).1.state row.opened made
+  pub granted_lease : IsGood s → AreAwaited s f.state → IsGranted n left s t f.state party id row made claim → IsLeased (smb_shown f u (effects.Served party id (answers.Granted claim))).1.state row.opened made
   unfolding smb_shown
   granted_lease good all is =
       let made_so = stands good all is in
-      let told = ap (λ (r : List Out × Lists). r.1) (granted_told u f.state id claim row made is.waits is.makes made_so.may) in
+      let told = ap (λ (r : List Out × Lists). r.1) (granted_told u f.state party id claim row made is.waits is.makes made_so.may) in
       subst (λ (m : Lists). IsLeased m row.opened made) (sym told) (comes_leased row.opened made (waiting_dropped id f.state) made_so.on)

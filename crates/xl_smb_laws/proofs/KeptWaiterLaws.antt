@@ -8,11 +8,7 @@ use Rattle.std.proofs.lemmas.Map.Made.{IsDistinct-keys_filter}
 use Rattle.xl_base.proofs.Members.{all_from, all_in, in_filter, in_filter_from}
 use Rattle.xl_base.specs.Lists.{IsIn}
 use Rattle.xl_base.specs.declared.journal.Exports.{Exports}
-use Rattle.xl_base.specs.declared.name.Owner.TheVariants as owners
 use Rattle.xl_base.specs.declared.name.Party.{Party}
-use Rattle.xl_matrix.specs.Equal.{same_owners}
-use Rattle.xl_matrix.specs.declared.claim.Claim.{Claim}
-use Rattle.xl_matrix.specs.declared.claim.What.{What}
 use Rattle.xl_names.specs.declared.name.Name.{Name}
 use Rattle.xl_smb.specs.Heads.{head_of}
 use Rattle.xl_smb.specs.declared.head.SmbHead.{SmbHead}
@@ -32,7 +28,7 @@ use Rattle.xl_wait.specs.declared.waiter.Waiter.{Waiter}
 use Rattle.xl_core.proofs.DeedLaws.{deed_good}
 use Rattle.xl_core.proofs.DeedLists.{deeds_good}
 use Rattle.xl_core.proofs.FrameLaws.{ask_quiet, way_leaves}
-use Rattle.xl_core.specs.Askers.{asked_claims, asked_whats, asker, is_client, is_named, owner_in}
+use Rattle.xl_core.specs.Askers.{asked_claims, asked_whats, is_client, is_named}
 use Rattle.xl_core.specs.Decide.{ask, plea_of}
 use Rattle.xl_core.specs.Deeds.{Deed, Asks, GivesBack, Weakens, Acks, Cancels, Ends, Closes, Serves, Draws, Advances, Lapses, Renews, Expires, AreFit, IsFitDeed, all_done, all_told_of, done, given}
 use Rattle.xl_core.specs.Frames.{come_by, who_left}
@@ -66,16 +62,10 @@ use Rattle.xl_smb_laws.proofs.StillUntoldLaws.{come_of, deed_moves, in_cancelled
 use Rattle.xl_smb_laws.proofs.RequestOwn.{requested_theirs}
 use Rattle.xl_smb_laws.proofs.PlaceLaws.{apart_under, lookup_but}
 use Rattle.xl_smb_laws.proofs.RoomLaws.{queued_kept}
+use Rattle.xl_smb_laws.proofs.SmbWaiterLaws.{none_for}
 use Rattle.xl_smb_laws.proofs.StillWaitingLaws.{cancelled_over, over}
 
 -- ---- deeds that are no ask by an open
-
-none_for : (a : Ask) (names : List Name) (k : ℕ) (p : Who) (xs : List What) → a.owner ≡ p → is_named p ≡ true → list_any (λ (c : Claim). same_owners c.owner (owners.Open k)) (asked_claims a xs names) ≡ false
-none_for a names k (who.Open number) xs is named = absurd (false≢true named)
-none_for a names k (who.Named name) [] is named = refl
-none_for a names k (who.Named name) (x ∷ xs) is named =
-    let apart : same_owners (asker a names) (owners.Open k) ≡ false = ap (λ (w : Who). same_owners (owner_in w names) (owners.Open k)) is in
-    rw apart (none_for a names k (who.Named name) xs is named)
 
 named_so : (p : Who) → not (is_named p) ≡ false → is_named p ≡ true
 named_so (who.Named name) h = refl
@@ -290,12 +280,10 @@ removed_kept id l m w rows other kept = λ k asks.
 
 pub shown_keeps : (f : FrontSmb) (s : CoreState) (effect : Effect) → ((w : Waiter) → IsIn w s.waiters → ends_wait w.id effect ≡ false) → AreKept s f.state → AreKept s (smb_shown f s effect).1.state
 unfolding smb_shown told_of
-shown_keeps f s (effects.Served id answer) others kept =
+shown_keeps f s (effects.Served party id answer) others kept =
     let m : Lists = (request_served s id answer f.state).1 in
     all_from (IsKept m) s.waiters (λ w here. removed_kept id f.state m w (served_rows s id answer f.state).0 (others w here) (all_in (IsKept f.state) w s.waiters kept here))
-shown_keeps f s (effects.Cancelled id) others kept =
-    let m : Lists = (request_ended id statuses.Cancelled f.state).1 in
-    all_from (IsKept m) s.waiters (λ w here. removed_kept id f.state m w (ended_rows id statuses.Cancelled f.state).0 (others w here) (all_in (IsKept f.state) w s.waiters kept here))
+shown_keeps f s (effects.Cancelled party id) others kept = kept
 shown_keeps f s (effects.Begun claim to number) others kept = kept
 shown_keeps f s (effects.Expired client) others kept = kept
 

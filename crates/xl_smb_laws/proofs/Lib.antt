@@ -8,12 +8,14 @@ pub mod RangeLaws
 pub mod CancelLaws
 pub mod LeaseKeyLaws
 pub mod PlaceLaws
+pub mod SmbWaiterLaws
 pub mod AwaitedRequestLaws
 pub mod RoomLaws
 pub mod StillWaitingLaws
 pub mod StillUntoldLaws
 pub mod KeptWaiterLaws
 pub mod GrantedCreateLaws
+pub mod SparedLaws
 pub mod LeaseLaws
 pub mod OpenRightLaws
 pub mod NothingHeldLaws

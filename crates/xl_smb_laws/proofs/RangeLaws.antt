@@ -1,5 +1,5 @@
 -- What LOCK leaves of an open's ranges, and what CANCEL leaves.
-use Rattle.std.proofs.Common.{◌≡◌, ℕ, ◌≤◌, ◌||◌, Bool, true, false, is_some, List, [], ◌∷◌, ◌++◌, length, map, Option, Some, None, refl, sym, ap, subst, ◌∙◌, ◌⊎◌, inl, inr, find}
+use Rattle.std.proofs.Common.{◌≡◌, ℕ, ◌≤◌, ◌||◌, Bool, true, false, is_some, List, [], ◌∷◌, ◌++◌, length, map, Option, Some, None, refl, sym, ap, subst, ◌∙◌, ◌⊎◌, inl, inr, find, append-nil}
 use Rattle.std.specs.Option.{option_or}
 use Rattle.std.proofs.lemmas.Bool.{true≢false}
 use Rattle.xl_matrix.specs.declared.claim.Extent.{Extent}
@@ -37,7 +37,6 @@ use Rattle.xl_core.specs.State.{CoreState}
 use Rattle.xl_core.specs.declared.ask.Answer.{Answer}
 use Rattle.xl_core.specs.declared.ask.Answer.TheVariants as answers
 use Rattle.xl_core.specs.declared.ask.Ask.{Ask}
-use Rattle.xl_core.specs.declared.ask.Effect.TheVariants.{Cancelled}
 use Rattle.xl_wait.specs.declared.waiter.Rooms.{Rooms}
 use Rattle.xl_core.proofs.BreaksBegunLaws.{begun_others}
 use Rattle.xl_core.proofs.GoodLaws.{ask_good}
@@ -367,11 +366,10 @@ module _ (n : ℕ) (s : CoreState) (files : List (List ℕ)) (others : ℕ) (l :
   cancel_planned at = ap (negotiated_by (λ k. cancel s l conn h)) at
 
   abbrev CancelsOne : Outcome → Type 0
-  CancelsOne r = (r ≡ (told.Nothing, [], l, s)) ⊎ ((id : ℕ) × IsIn id (waiting_under (scope.Connection conn) l) × (is_waiting id s.waiters ≡ true) × (r ≡ (told.Nothing, Cancelled id ∷ [], l, (cancel_of s id).1)))
+  CancelsOne r = (r ≡ (told.Nothing, [], l, s)) ⊎ ((id : ℕ) × IsIn id (waiting_under (scope.Connection conn) l) × (is_waiting id s.waiters ≡ true) × (r ≡ (told.Nothing, (cancel_of s id).0, l, (cancel_of s id).1)))
 
   cancel_waiter : (id : ℕ) (waits : Bool) → is_waiting id s.waiters ≡ waits → IsIn id (waiting_under (scope.Connection conn) l) → CancelsOne (carried n s l (cancel_named s l (Some id)))
-  unfolding cancel_of
-  cancel_waiter id true is there = rw is (inr (id, there, is, refl))
+  cancel_waiter id true is there = rw is (inr (id, there, is, (λ i. (told.Nothing, append-nil (cancel_of s id).0 i, l, (cancel_of s id).1))))
   cancel_waiter id false is there = rw is (inl refl)
 
   cancel_by : (o : Option ℕ) → ((number : ℕ) → o ≡ Some number → IsIn number (waiting_under (scope.Connection conn) l)) → CancelsOne (carried n s l (cancel_named s l o))

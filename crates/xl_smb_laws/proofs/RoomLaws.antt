@@ -17,7 +17,7 @@ use Rattle.xl_smb_state.specs.declared.row.Waiting.{Waiting}
 use Rattle.xl_wait.specs.declared.waiter.Rooms.{Rooms}
 use Rattle.xl_wait.specs.declared.waiter.Waiter.{Waiter}
 use Rattle.xl_core.proofs.GoodLaws.{ask_good}
-use Rattle.xl_core.specs.Askers.{IsFit, asked_claims, asked_whats}
+use Rattle.xl_core.specs.Askers.{IsFit, asked_claims, asked_whats, asking_party}
 use Rattle.xl_core.specs.Decide.{ask, waiter_of}
 use Rattle.xl_core.specs.Frames.{come_by}
 use Rattle.xl_core.specs.Good.{IsGood, are_apart}
@@ -108,7 +108,7 @@ both a b first second = ap (λ (x : Bool). x && not b) first ∙ ap (λ (x : Boo
 pub queued_kept : (n : ℕ) (left : Rooms) (s : CoreState) (l : Lists) (a : Ask) (id : ℕ) → IsGood s → IsFit a → IsDistinct nat_eq (keys_of l.waiting) → AreAwaited s l → (ask n left s a).0 ≡ Queued id → has_room_to_wait l id ≡ true
 queued_kept n left s l a id good fit distinct all at =
     let t = (ask n left s a).2 in
-    let new : Waiter = waiter_of id a (asked_claims a (asked_whats a.act) s.names) in
+    let new : Waiter = waiter_of id a (asking_party a s.names) (asked_claims a (asked_whats a.act) s.names) in
     let queue : t.waiters ≡ s.waiters ++ new ∷ [] = asked_waits n left s a good fit.party ∙ ap (λ (answer : Answer). s.waiters ++ come_by a answer s.names) at in
     let kept : IsGood t = ask_good n left s a good fit in
     let crowd : length (s.waiters ++ new ∷ []) ≤ most_waiting = subst (λ (ws : List Waiter). length ws ≤ most_waiting) queue kept.crowd in

@@ -37,8 +37,8 @@ use Rattle.xl_smb_laws.proofs.StillWaitingLaws.{over}
 
 pub over_left : (id : ℕ) (told : List Effect) → over id told ≡ true → IsIn id (who_left told)
 over_left id [] any = absurd (false≢true any)
-over_left id (effects.Served k answer ∷ es) any = elim (cases_Bool (eqb k id)) [ inl same ↦ inl (sym (equal_from k id same)) | inr other ↦ inr (over_left id es (rw other at any)) ]
-over_left id (effects.Cancelled k ∷ es) any = elim (cases_Bool (eqb k id)) [ inl same ↦ inl (sym (equal_from k id same)) | inr other ↦ inr (over_left id es (rw other at any)) ]
+over_left id (effects.Served party k answer ∷ es) any = elim (cases_Bool (eqb k id)) [ inl same ↦ inl (sym (equal_from k id same)) | inr other ↦ inr (over_left id es (rw other at any)) ]
+over_left id (effects.Cancelled party k ∷ es) any = elim (cases_Bool (eqb k id)) [ inl same ↦ inl (sym (equal_from k id same)) | inr other ↦ inr (over_left id es (rw other at any)) ]
 over_left id (effects.Begun cache to call ∷ es) any = over_left id es any
 over_left id (effects.Expired client ∷ es) any = over_left id es any
 

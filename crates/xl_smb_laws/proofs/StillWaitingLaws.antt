@@ -9,7 +9,7 @@ use Rattle.xl_base.specs.declared.name.Party.{Party}
 use Rattle.xl_matrix.specs.declared.claim.Claim.{Claim}
 use Rattle.xl_smb_state.specs.State.{Lists}
 use Rattle.xl_smb_state.specs.declared.row.Waiting.{Waiting}
-use Rattle.xl_smb_state.proofs.RowLaws.{unequal_both}
+use Rattle.xl_smb_state.proofs.RowLaws.{equal_from, unequal_both}
 use Rattle.xl_wait.specs.Waiting.{cancelled}
 use Rattle.xl_wait.specs.declared.waiter.Waiter.{Waiter}
 use Rattle.xl_core.proofs.DeedLaws.{deed_good}
@@ -22,14 +22,14 @@ use Rattle.xl_core.specs.Decide.{ask}
 use Rattle.xl_core.specs.Deeds.{Deed, Asks, GivesBack, Weakens, Acks, Cancels, Ends, Closes, Serves, Draws, Advances, Lapses, Renews, Expires, AreFit, IsFitDeed, all_done, all_told_of, done, given, turned}
 use Rattle.xl_core.specs.Frames.{IsFrame, calls_in, come_by, who_left}
 use Rattle.xl_core.specs.Good.{IsGood}
-use Rattle.xl_core.specs.Settle.{all_cancelled, cancel, close_open, end_party, give_back, settle, waits_as, waits_for, weaken}
+use Rattle.xl_core.specs.Settle.{all_cancelled, cancel, close_open, end_party, give_back, settle, told_of_one, waits_as, waits_for, weaken}
 use Rattle.xl_core.specs.State.{CoreState, drawn}
 use Rattle.xl_core.specs.Ticks.{advanced, end_some, expire, lapse, lapsed_by, renew}
 use Rattle.xl_core.specs.declared.ask.Effect.{Effect}
 use Rattle.xl_core.specs.declared.ask.Effect.TheVariants as effects
-use Rattle.xl_smb_locks.specs.Finals.{cancels}
+use Rattle.xl_smb_locks.specs.Finals.{cancels, is_cancelled}
 use Rattle.xl_smb_laws.specs.WaitingRequests.{AreAwaited, IsAwaited, ends_wait}
-use Rattle.xl_smb_laws.proofs.AwaitedRequestLaws.{any_left, any_right, asked_waits, cancelled_in, moved, closed_told, party_told}
+use Rattle.xl_smb_laws.proofs.AwaitedRequestLaws.{any_left, any_right, asked_waits, cancelled_in, moved, closed_told, one_told, party_told}
 use Rattle.xl_smb_laws.proofs.PlaceLaws.{keeps_self}
 
 -- one of these tells that this one waits no more
@@ -44,8 +44,8 @@ Stays w told t = IsIn w t.waiters ⊎ (over w.id told ≡ true)
 
 pub cancelled_over : (id : ℕ) (es : List Effect) → list_any (cancels id) es ≡ true → over id es ≡ true
 cancelled_over id [] any = absurd (false≢true any)
-cancelled_over id (effects.Cancelled k ∷ es) any = elim (cases_Bool (eqb k id)) [ inl same ↦ rw same refl | inr other ↦ rw other (cancelled_over id es (rw other at any)) ]
-cancelled_over id (effects.Served k answer ∷ es) any = elim (cases_Bool (eqb k id)) [ inl same ↦ rw same refl | inr other ↦ rw other (cancelled_over id es any) ]
+cancelled_over id (effects.Cancelled party k ∷ es) any = elim (cases_Bool (eqb k id)) [ inl same ↦ rw same refl | inr other ↦ rw other (cancelled_over id es (rw other at any)) ]
+cancelled_over id (effects.Served party k answer ∷ es) any = elim (cases_Bool (eqb k id)) [ inl same ↦ rw same refl | inr other ↦ rw other (cancelled_over id es any) ]
 cancelled_over id (effects.Begun cache to call ∷ es) any = cancelled_over id es any
 cancelled_over id (effects.Expired client ∷ es) any = cancelled_over id es any
 
@@ -85,14 +85,14 @@ unfolding lapse
 lapse_stays s cache w here = lapse_by s cache _ w here
 
 -- who isn't among those told stays
-left_stays : (told : List Effect) (ws : List Waiter) (w : Waiter) → IsIn w ws → IsIn w (all_cancelled (who_left told) ws) ⊎ (over w.id told ≡ true)
+pub left_stays : (told : List Effect) (ws : List Waiter) (w : Waiter) → IsIn w ws → IsIn w (all_cancelled (who_left told) ws) ⊎ (over w.id told ≡ true)
 left_stays [] ws w here = inl here
-left_stays (effects.Served k answer ∷ es) ws w here =
+left_stays (effects.Served party k answer ∷ es) ws w here =
     elim (cases_Bool (eqb k w.id)) [
       | inl same ↦ inr (rw same refl)
       | inr other ↦ elim (left_stays es (cancelled k ws) w (cancelled_in k ws w here (unequal_both k w.id other))) [ inl stays ↦ inl stays | inr told ↦ inr (rw other told) ]
     ]
-left_stays (effects.Cancelled k ∷ es) ws w here =
+left_stays (effects.Cancelled party k ∷ es) ws w here =
     elim (cases_Bool (eqb k w.id)) [
       | inl same ↦ inr (rw same refl)
       | inr other ↦ elim (left_stays es (cancelled k ws) w (cancelled_in k ws w here (unequal_both k w.id other))) [ inl stays ↦ inl stays | inr told ↦ inr (rw other told) ]
@@ -120,7 +120,7 @@ deed_stays n s (Weakens share access deny) w good fit here = inl here
 deed_stays n s (Acks cache to) w good fit here = inl here
 deed_stays n s (Cancels id) w good fit here =
     elim (cases_Bool (eqb id w.id)) [
-      | inl same ↦ inr (rw same refl)
+      | inl same ↦ inr (cancelled_over w.id (told_of_one id s.waiters) (subst (λ (k : ℕ). is_cancelled w.id (told_of_one k s.waiters) ≡ true) (equal_from id w.id same) (one_told w s.waiters here)))
       | inr other ↦ inl (cancelled_in id s.waiters w here (unequal_both id w.id other))
     ]
 deed_stays n s (Ends party) w good fit here = party_stays s party w here

@@ -1,10 +1,13 @@
 -- Requests that wait, in the front's lists and in the core.
-use Rattle.std.specs.Prelude.{◌≡◌, ◌↔◌, ℕ, nat_eq, ◌-◌, ◌==◌, ◌<◌, ◌≤◌, Bool, true, false, not, List, [], ◌∷◌, length, Some, is_some}
-use Rattle.std.specs.List.{AllByRecursion, list_any}
+use Rattle.std.specs.Prelude.{◌≡◌, ◌↔◌, ℕ, nat_eq, ◌-◌, ◌==◌, ◌<◌, ◌≤◌, Bool, true, false, not, ◌&&◌, List, [], ◌∷◌, length, Some, is_some}
+use Rattle.std.specs.List.{AllByRecursion, list_any, slice_get}
 use Rattle.xl_base.specs.Lists.{IsIn}
 use Rattle.xl_matrix.specs.Blocks.{is_share}
 use Rattle.xl_matrix.specs.declared.claim.Claim.{Claim}
+use Rattle.xl_base.specs.Stable.{same_protocol}
 use Rattle.xl_base.specs.declared.name.Owner.TheVariants as owners
+use Rattle.xl_base.specs.declared.name.Party.{Party}
+use Rattle.xl_base.specs.declared.name.Protocol.TheVariants.{Smb}
 use Rattle.xl_smb_state.specs.Links.{has_place, most_opens}
 use Rattle.xl_smb_state.specs.State.{Lists, file_for, is_key, open_of, same_lease, waiting_of, makes_open}
 use Rattle.xl_smb_state.specs.declared.row.Holder.TheVariants as holder
@@ -17,9 +20,10 @@ use Rattle.xl_smb_state.specs.declared.row.Waiting.{Waiting}
 use Rattle.xl_wait.specs.declared.waiter.Rooms.{Rooms}
 use Rattle.xl_wait.specs.declared.waiter.Waiter.{Waiter}
 use Rattle.xl_core.specs.Askers.{is_named}
-use Rattle.xl_core.specs.Deeds.{Deed, Asks}
+use Rattle.xl_core.specs.Deeds.{Deed, Asks, Cancels, Closes, Ends, Serves}
 use Rattle.xl_core.specs.Settle.{settle, waits_as}
 use Rattle.xl_core.specs.State.{CoreState}
+use Rattle.xl_core.specs.Told.{party_protocol}
 use Rattle.xl_core.specs.declared.ask.Answer.TheVariants.{Granted}
 use Rattle.xl_core.specs.declared.ask.Effect.{Effect}
 use Rattle.xl_core.specs.declared.ask.Effect.TheVariants as effects
@@ -66,15 +70,21 @@ abbrev pub IsAskerOf : Waiter → ℕ → Request → Type 0
 IsAskerOf w number request.Lock = Unit {0}
 IsAskerOf w number (request.Create made) = AsksToOpen w number made
 
+-- a party of SMB waits, for claims of its own
+pub record IsOfSmb (w : Waiter) : Type 0 where
+  pub party : party_protocol w.party ≡ Smb
+  pub claims : AllByRecursion (λ c. c.party ≡ w.party) w.asked
+
 -- The request of this row waits in the core: a waiter of its number asks for claims of the row's open, and of no other,
 -- which is the share alone if the request makes the open; and the open is under the connection that the request came
--- by, or may stand once it is made.
+-- by, or may stand once it is made. The waiter is SMB's.
 pub record IsAwaited (s : CoreState) (l : Lists) (e : ℕ × Waiting) : Type 0 where
   pub waiter : Waiter
   pub waits : IsIn waiter s.waiters
   pub number : waiter.id ≡ e.0
   pub own : waits_as e.1.opened waiter ≡ true
   pub alone : (k : ℕ) → waits_as k waiter ≡ true → k ≡ e.1.opened
+  pub smb : IsOfSmb waiter
   pub asker : IsAskerOf waiter e.1.opened e.1.request
   pub under : IsUnder l e e.1.request
 
@@ -100,17 +110,31 @@ abbrev pub AreLeft : List ℕ → Lists → Lists → Type 0
 AreLeft numbers old new = (e : ℕ × Waiting) → IsIn e new.waiting ↔ (IsIn e old.waiting × (list_any (nat_eq e.1.opened) numbers ≡ false))
 
 -- A turn, in which there is no more room for opens than those of SMB leave, serves the CREATE of this row, which waits to make this
--- open, and grants it this claim.
-pub record IsGranted (n : ℕ) (left : Rooms) (s t : CoreState) (l : Lists) (id : ℕ) (row : Waiting) (made : Open) (claim : Claim) : Type 0 where
+-- open, and grants its party this claim.
+pub record IsGranted (n : ℕ) (left : Rooms) (s t : CoreState) (l : Lists) (party : Party) (id : ℕ) (row : Waiting) (made : Open) (claim : Claim) : Type 0 where
   pub told : List Effect
   pub turn : settle n left s ≡ Some (told, t)
-  pub served : IsIn (effects.Served id (Granted claim)) told
+  pub served : IsIn (effects.Served party id (Granted claim)) told
   pub waits : waiting_of id l ≡ Some row
   pub makes : row.request ≡ request.Create made
   pub room : left.opens ≤ most_opens - length l.opens
 
 -- the effect tells that this request waits no more
 abbrev pub ends_wait : ℕ → Effect → Bool
-ends_wait id (effects.Served other answer) = other == id
-ends_wait id (effects.Cancelled other) = other == id
+ends_wait id (effects.Served party other answer) = other == id
+ends_wait id (effects.Cancelled party other) = other == id
 ends_wait id effect = false
+
+-- the effect, which SMB's front hears of, tells that this request is served
+abbrev pub serves_request : ℕ → Effect → Bool
+serves_request id (effects.Served party other answer) = same_protocol (party_protocol party) Smb && other == id
+serves_request id effect = false
+
+-- The deed leaves each waiter of SMB's waiting: it cancels none whose claims are a party's of SMB, ends no such party,
+-- closes no open, and is no turn.
+abbrev pub SparesSmb : CoreState → Deed → Type 0
+SparesSmb s (Cancels id) = (w : Waiter) (c : Claim) → IsIn w s.waiters → w.id ≡ id → slice_get w.asked 0 ≡ Some c → party_protocol c.party ≡ Smb → ⊥
+SparesSmb s (Ends party) = party_protocol party ≡ Smb → ⊥
+SparesSmb s (Closes number party) = ⊥
+SparesSmb s (Serves left) = ⊥
+SparesSmb s deed = Unit {0}

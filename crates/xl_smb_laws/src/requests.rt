@@ -17,7 +17,6 @@ ghost use Rattle.xl_smb.specs.declared.lease.Lease.{Lease};
 ghost use Rattle.xl_smb_state.specs.declared.row.Lease.{Lease as LeaseRow};
 ghost use Rattle.xl_core.specs.Places.{CacheOf, RangesOf, ShareOf, held_at};
 ghost use Rattle.xl_core.specs.Settle.{cancel};
-ghost use Rattle.xl_core.specs.declared.ask.Effect.{Effect};
 ghost use Rattle.xl_base.specs.Lists.{IsIn};
 ghost use Rattle.xl_wait.specs.Waiting.{is_waiting};
 ghost use Rattle.xl_smb.specs.Locks.{LockItem, elements_of};
@@ -254,5 +253,5 @@ pub fn unlocked_ranges_are_given_up()
 /// CANCEL of a client takes out one at most who waits by its connection, tells of it, and has no reply of its own; all
 /// else stays (MS-SMB2 3.3.5.16).
 pub fn a_cancel_takes_one()
-    ensures { (n : ℕ) (s : CoreState) (files : List (List ℕ)) (others : ℕ) (l : Lists) (conn : ℕ) (h : SmbHead) (client : List ℕ) → client_of conn l ≡ Some client → (outcome_of n s files others l conn h CallItem.Cancel ≡ (Told.Nothing, [], l, s)) ⊎ ((id : ℕ) × IsIn id (waiting_under (Scope.Connection conn) l) × (is_waiting id s.waiters ≡ true) × (outcome_of n s files others l conn h CallItem.Cancel ≡ (Told.Nothing, Effect.Cancelled id ∷ [], l, (cancel s id).1))) }
+    ensures { (n : ℕ) (s : CoreState) (files : List (List ℕ)) (others : ℕ) (l : Lists) (conn : ℕ) (h : SmbHead) (client : List ℕ) → client_of conn l ≡ Some client → (outcome_of n s files others l conn h CallItem.Cancel ≡ (Told.Nothing, [], l, s)) ⊎ ((id : ℕ) × IsIn id (waiting_under (Scope.Connection conn) l) × (is_waiting id s.waiters ≡ true) × (outcome_of n s files others l conn h CallItem.Cancel ≡ (Told.Nothing, (cancel s id).0, l, (cancel s id).1))) }
 {}

@@ -23,8 +23,9 @@ use Rattle.xl_smb_state.specs.declared.row.Waiting.{Waiting}
 use Rattle.xl_core.specs.State.{CoreState}
 use Rattle.xl_core.specs.declared.ask.Answer.{Answer}
 use Rattle.xl_core.specs.declared.ask.Answer.TheVariants as answers
+use Rattle.xl_core.specs.declared.ask.Effect.{Effect}
 use Rattle.xl_core.specs.declared.ask.Effect.TheVariants as effects
-use Rattle.xl_smb_locks.specs.Finals.{ended_with, failed_reply, final_lock, final_open, final_outs, final_reply, holder_stands, opened_reply, request_ended, lock_refusal, open_refusal, may_stand, stood, opened_outs, locked_outs, served_by, served_with, request_served, told_of, IsFinal}
+use Rattle.xl_smb_locks.specs.Finals.{dismissed, ended_with, failed_reply, final_lock, final_open, final_outs, final_reply, holder_stands, is_cancelled, opened_reply, request_ended, lock_refusal, open_refusal, may_stand, stood, opened_outs, locked_outs, served_by, served_with, request_served, told_of, IsFinal}
 use Rattle.xl_core.specs.Ids.{id_of}
 use Rattle.xl_smb_locks.specs.Levels.{caching, notice_of, lease_notice_of, noticed_by, noticed_to, noticed_under, noticed}
 use Rattle.std.specs.Prelude.{slice_get}
@@ -90,26 +91,31 @@ by_request : (s : CoreState) (id : ℕ) (row : Waiting) (answer : Answer) (r : R
 by_request s id row answer (request.Create made) l = opened_final s id row made (open_refusal answer) l
 by_request s id row answer request.Lock l = locked_final id row (lock_refusal answer) l
 
-pub served_final : (s : CoreState) (l : Lists) (id : ℕ) (answer : Answer) (row : Waiting) → waiting_of id l ≡ Some row → IsFinal id row (final_reply s l id row answer row.request) l (told_of s (effects.Served id answer) l)
+pub served_final : (s : CoreState) (l : Lists) (party : Party) (id : ℕ) (answer : Answer) (row : Waiting) → waiting_of id l ≡ Some row → IsFinal id row (final_reply s l id row answer row.request) l (told_of s (effects.Served party id answer) l)
 unfolding told_of request_served
-served_final s l id answer row at = subst (λ (o : Option Waiting). IsFinal id row (final_reply s l id row answer row.request) l (served_with s id answer o l)) (sym at) (by_request s id row answer row.request l)
+served_final s l party id answer row at = subst (λ (o : Option Waiting). IsFinal id row (final_reply s l id row answer row.request) l (served_with s id answer o l)) (sym at) (by_request s id row answer row.request l)
 
-pub cancelled_final : (s : CoreState) (l : Lists) (id : ℕ) (row : Waiting) → waiting_of id l ≡ Some row → IsFinal id row (failed_reply id row Cancelled) l (told_of s (effects.Cancelled id) l)
-unfolding told_of request_ended
-cancelled_final s l id row at = subst (λ (o : Option Waiting). IsFinal id row (failed_reply id row Cancelled) l (ended_with id Cancelled o l)) (sym at) (refl, refl)
+pub cancelled_final : (told : List Effect) (l : Lists) (id : ℕ) (row : Waiting) → waiting_of id l ≡ Some row → is_cancelled id told ≡ true → IsFinal id row (failed_reply id row Cancelled) l (dismissed told (id ∷ []) l)
+unfolding request_ended
+cancelled_final told l id row at is = rw is (subst (λ (o : Option Waiting). IsFinal id row (failed_reply id row Cancelled) l ((ended_with id Cancelled o l).0 ++ [], (ended_with id Cancelled o l).1)) (sym at) (refl, refl))
+
+-- and nothing for the effect that tells of it
+pub cancelled_once : (s : CoreState) (l : Lists) (party : Party) (id : ℕ) → told_of s (effects.Cancelled party id) l ≡ ([], l)
+unfolding told_of
+cancelled_once s l party id = refl
 
 -- ---- a CREATE that is granted
 
-module _ (s : CoreState) (l : Lists) (id : ℕ) (claim : Claim) (row : Waiting) (made : Open) where
+module _ (s : CoreState) (l : Lists) (party : Party) (id : ℕ) (claim : Claim) (row : Waiting) (made : Open) where
   pub granted_told : waiting_of id l ≡ Some row → row.request ≡ request.Create made → may_stand row.opened made l ≡ true
-      → told_of s (effects.Served id (answers.Granted claim)) l ≡ (final_outs row (opened_reply id row (id_of s row.opened) (caching s row.opened made)), with_open row.opened made (waiting_dropped id l))
+      → told_of s (effects.Served party id (answers.Granted claim)) l ≡ (final_outs row (opened_reply id row (id_of s row.opened) (caching s row.opened made)), with_open row.opened made (waiting_dropped id l))
   unfolding told_of request_served
   granted_told at makes may =
       ap (λ (o : Option Waiting). served_with s id (answers.Granted claim) o l) at
       ∙ ap (λ (r : Request). served_by s id row (answers.Granted claim) r (waiting_dropped id l)) makes
       ∙ ap (λ (b : Bool). stood s id row made b (waiting_dropped id l)) (stand_same row.opened id made l ∙ may)
 
-  pub granted_stands : waiting_of id l ≡ Some row → row.request ≡ request.Create made → may_stand row.opened made l ≡ true → open_of row.opened (told_of s (effects.Served id (answers.Granted claim)) l).1 ≡ Some made
+  pub granted_stands : waiting_of id l ≡ Some row → row.request ≡ request.Create made → may_stand row.opened made l ≡ true → open_of row.opened (told_of s (effects.Served party id (answers.Granted claim)) l).1 ≡ Some made
   granted_stands at makes may =
       ap (λ (r : List Out × Lists). open_of row.opened r.1) (granted_told at makes may)
       ∙ ap (λ (m : Lists). open_of row.opened m) (with_keeps row.opened made (waiting_dropped id l))

@@ -202,8 +202,8 @@ module _ (P : ℕ → Type 0) where
   pub told_on : (s : CoreState) (effect : Effect) (l : Lists) → IsOn P l → IsSentOn P (told_of s effect l)
   unfolding told_of
   told_on s (effects.Begun cache to call) l on = (noticed_on s cache.party cache.what to l on.held, on)
-  told_on s (effects.Served id answer) l on = served_on s id answer l on
-  told_on s (effects.Cancelled id) l on = ended_on id Cancelled l on
+  told_on s (effects.Served party id answer) l on = served_on s id answer l on
+  told_on s (effects.Cancelled party id) l on = (tt, on)
   told_on s (effects.Expired client) l on = (tt, on)
 
   -- ---- requests that a message cancelled

@@ -134,19 +134,19 @@ request_served s id answer l = served_with s id answer (waiting_of id l) l
 -- ---- an effect
 
 -- What is sent for an effect of the core, in the state that is left, and the lists then: the notice of a break to who holds the
--- open, or the lowest open of the lease, or the final reply to the request that was served, or that waits no more
--- (SMB-20, SMB-21).
+-- open, or the lowest open of the lease, or the final reply to the request that was served (SMB-20, SMB-21). One that waits no
+-- more was answered with the message that cancelled it.
 unfoldable pub told_of : CoreState → Effect → Lists → List Out × Lists
 told_of s (effects.Begun cache to call) l = (noticed s cache.party cache.what to l, l)
-told_of s (effects.Served id answer) l = request_served s id answer l
-told_of s (effects.Cancelled id) l = request_ended id Cancelled l
+told_of s (effects.Served party id answer) l = request_served s id answer l
+told_of s (effects.Cancelled party id) l = ([], l)
 told_of s (effects.Expired client) l = ([], l)
 
 -- ---- requests that a message cancelled
 
 -- the core told that this one waits no more
 abbrev pub cancels : ℕ → Effect → Bool
-cancels id (effects.Cancelled other) = other == id
+cancels id (effects.Cancelled party other) = other == id
 cancels id effect = false
 
 abbrev pub is_cancelled : ℕ → List Effect → Bool

@@ -293,8 +293,9 @@ fn serve_request(
 }
 
 /// What is sent for an effect of the core, in the state that it left: the notice of a break to who holds the open, or the lowest
-/// open of the lease (MS-SMB2 3.3.4.6, 3.3.4.7), or the final reply to the request that was served (3.3.4.4), or that waits no more; the request is forgotten
-/// then, and the open that it waited to make stands. It has no frame yet. All else sends nothing.
+/// open of the lease (MS-SMB2 3.3.4.6, 3.3.4.7), or the final reply to the request that was served (3.3.4.4); the request is forgotten
+/// then, and the open that it waited to make stands. It has no frame yet. All else sends nothing: a request that waits no more was
+/// answered with the message that cancelled it.
 #[tactic(auto, unfolding(crate::specs::Finals::told_of))]
 pub fn tell(
     alloc: Global,
@@ -307,9 +308,8 @@ pub fn tell(
 {
     match effect {
         Effect::Begun(cache, to, _) => Ok(noticed(alloc, state, core, cache, *to)?),
-        Effect::Served(id, answer) => Ok(serve_request(alloc, state, core, *id, answer)?),
-        Effect::Cancelled(id) => Ok(end_request(alloc, state, *id, SmbStatus::Cancelled)?),
-        Effect::Expired(_) => Ok(Sequence::new(alloc)),
+        Effect::Served(_, id, answer) => Ok(serve_request(alloc, state, core, *id, answer)?),
+        Effect::Cancelled(_, _) | Effect::Expired(_) => Ok(Sequence::new(alloc)),
     }
 }
 
@@ -318,7 +318,7 @@ fn cancels(id: u32, effect: &Effect) -> bool
     ensures { result ≡ cancels id effect.now }
 {
     match effect {
-        Effect::Cancelled(other) => *other == id,
+        Effect::Cancelled(_, other) => *other == id,
         _ => false,
     }
 }

@@ -1,9 +1,10 @@
 //! Laws of opens: of their ranges, of their oplocks, and of requests that wait. The functions do nothing: their clauses are the
 //! laws.
-ghost use Rattle.std.specs.Prelude.{◌≡◌, ℕ, ◌≤◌, true, List, [], ◌++◌, length, map, Option, Some, None, slice_get};
+ghost use Rattle.std.specs.Prelude.{◌≡◌, ℕ, ◌≤◌, true, List, [], ◌∷◌, ◌++◌, length, map, Option, Some, None, slice_get};
 ghost use Rattle.xl_base.specs.declared.name.Protocol.TheVariants.{Smb};
 ghost use Rattle.xl_names.specs.declared.name.Name.{Name};
 ghost use Rattle.xl_names.specs.declared.name.Name.TheVariants.{SmbLease};
+ghost use Rattle.xl_base.specs.declared.name.Party.{Party};
 ghost use Rattle.xl_base.specs.declared.name.Party.TheVariants as Party;
 ghost use Rattle.xl_exact.specs.Elements.{unlocked};
 ghost use Rattle.xl_exact.specs.declared.element.Element.{Element};
@@ -25,10 +26,11 @@ ghost use Rattle.xl_core.specs.Places.{RangesOf, held_at};
 ghost use Rattle.xl_core.specs.State.{CoreState};
 ghost use Rattle.xl_core.specs.declared.ask.Answer.{Answer};
 ghost use Rattle.xl_core.specs.declared.ask.Answer.TheVariants as Answer;
+ghost use Rattle.xl_core.specs.declared.ask.Effect.{Effect};
 ghost use Rattle.xl_core.specs.declared.ask.Effect.TheVariants as Effect;
 ghost use Rattle.xl_smb_locks.specs.Elements.{extent_of, is_exclusive, lock_fault};
 ghost use Rattle.xl_smb_locks.specs.Exactly.{what_of, element_of};
-ghost use Rattle.xl_smb_locks.specs.Finals.{failed_reply, final_outs, final_reply, may_stand, opened_reply, told_of, IsFinal};
+ghost use Rattle.xl_smb_locks.specs.Finals.{dismissed, failed_reply, final_outs, final_reply, is_cancelled, may_stand, opened_reply, told_of, IsFinal};
 ghost use Rattle.xl_core.specs.Ids.{id_of};
 ghost use Rattle.xl_smb_locks.specs.Levels.{caching, lease_party, notice_of, lease_notice_of, party_of};
 ghost use Rattle.xl_smb_locks.specs.declared.status.SmbStatus.TheVariants as SmbStatus;
@@ -69,15 +71,17 @@ pub fn opens_of_a_lease_share_its_cache()
 /// A request that waited and was served has one final reply, to the connection that it came by, and waits no more
 /// (MS-SMB2 3.3.4.2, 3.3.4.4): STATUS_SUCCESS for a LOCK that is granted, and for a CREATE that is and whose open may
 /// stand, with its id and what it has of caches; LOCK_NOT_GRANTED or SHARING_VIOLATION if something held is against it,
-/// and else INSUFFICIENT_RESOURCES. One that waits no more has CANCELLED.
+/// and else INSUFFICIENT_RESOURCES. One that a message cancels has CANCELLED with that message, and nothing for the
+/// effect that tells of it.
 pub fn requests_have_one_final_reply()
-    ensures served { (s : CoreState) (l : Lists) (id : ℕ) (answer : Answer) (row : Waiting) → waiting_of id l ≡ Some row → IsFinal id row (final_reply s l id row answer row.request) l (told_of s (Effect.Served id answer) l) }
-    ensures cancelled { (s : CoreState) (l : Lists) (id : ℕ) (row : Waiting) → waiting_of id l ≡ Some row → IsFinal id row (failed_reply id row SmbStatus.Cancelled) l (told_of s (Effect.Cancelled id) l) }
+    ensures served { (s : CoreState) (l : Lists) (party : Party) (id : ℕ) (answer : Answer) (row : Waiting) → waiting_of id l ≡ Some row → IsFinal id row (final_reply s l id row answer row.request) l (told_of s (Effect.Served party id answer) l) }
+    ensures cancelled { (told : List Effect) (l : Lists) (id : ℕ) (row : Waiting) → waiting_of id l ≡ Some row → is_cancelled id told ≡ true → IsFinal id row (failed_reply id row SmbStatus.Cancelled) l (dismissed told (id ∷ []) l) }
+    ensures once { (s : CoreState) (l : Lists) (party : Party) (id : ℕ) → told_of s (Effect.Cancelled party id) l ≡ ([], l) }
 {}
 
 /// A CREATE that waited and is granted has its open, if that may stand: the open is under its number, and its final
 /// reply is STATUS_SUCCESS, with what the open has of caches then (MS-SMB2 3.3.4.4, 2.2.14).
 pub fn granted_opens_stand()
-    ensures told { (s : CoreState) (l : Lists) (id : ℕ) (claim : Claim) (row : Waiting) (made : Open) → waiting_of id l ≡ Some row → row.request ≡ Request.Create made → may_stand row.opened made l ≡ true → told_of s (Effect.Served id (Answer.Granted claim)) l ≡ (final_outs row (opened_reply id row (id_of s row.opened) (caching s row.opened made)), with_open row.opened made (waiting_dropped id l)) }
-    ensures stands { (s : CoreState) (l : Lists) (id : ℕ) (claim : Claim) (row : Waiting) (made : Open) → waiting_of id l ≡ Some row → row.request ≡ Request.Create made → may_stand row.opened made l ≡ true → open_of row.opened (told_of s (Effect.Served id (Answer.Granted claim)) l).1 ≡ Some made }
+    ensures told { (s : CoreState) (l : Lists) (party : Party) (id : ℕ) (claim : Claim) (row : Waiting) (made : Open) → waiting_of id l ≡ Some row → row.request ≡ Request.Create made → may_stand row.opened made l ≡ true → told_of s (Effect.Served party id (Answer.Granted claim)) l ≡ (final_outs row (opened_reply id row (id_of s row.opened) (caching s row.opened made)), with_open row.opened made (waiting_dropped id l)) }
+    ensures stands { (s : CoreState) (l : Lists) (party : Party) (id : ℕ) (claim : Claim) (row : Waiting) (made : Open) → waiting_of id l ≡ Some row → row.request ≡ Request.Create made → may_stand row.opened made l ≡ true → open_of row.opened (told_of s (Effect.Served party id (Answer.Granted claim)) l).1 ≡ Some made }
 {}

@@ -2,7 +2,7 @@
 ghost use Rattle.std.specs.Prelude.{◌≡◌};
 ghost use Rattle.xl_wait.specs.Waiting.{no_rows};
 
-use xl_base::Sequence;
+use xl_base::{Party, Sequence};
 use xl_matrix::{CacheKind, Claim};
 
 /// How much room is left in the tables of the fronts, or how many rows of them something takes.
@@ -37,6 +37,8 @@ impl Default for Rooms {
 pub struct Waiter {
     /// Its number.
     pub id: u32,
+    /// Its party.
+    pub party: Party,
     /// The connection that its answer goes to; None if a call of its own carries it.
     pub conn: Option<u64>,
     /// The claims that it asks for, in order.

@@ -118,7 +118,7 @@ fn is_told(
 }
 
 fn is_served(told: &[Effect], wanted: u32) -> bool {
-    matches!(told, [Effect::Served(number, Answer::Granted(_))] if *number == wanted)
+    matches!(told, [Effect::Served(_, number, Answer::Granted(_))] if *number == wanted)
 }
 
 fn is_turn(alloc: Global, core: &mut Core, number: u32) -> Result<bool, AllocError>

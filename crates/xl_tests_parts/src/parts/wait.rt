@@ -5,11 +5,13 @@ use xl_base::{Owner, Party, Protocol, Sequence};
 use xl_matrix::{Claim, Extent, What};
 use xl_wait::{Queue, QueueErr, Rooms, Waiter};
 
+const PARTY: Party = Party::Name(Protocol::Nlm, 2);
+
 fn claim_on(file: u32) -> Claim {
     Claim {
         file,
         owner: Owner::Name(Protocol::Nlm, 1),
-        party: Party::Name(Protocol::Nlm, 2),
+        party: PARTY,
         what: What::Range(Extent::Bytes(0, 9), true),
     }
 }
@@ -18,6 +20,7 @@ fn waiter(alloc: Global, id: u32, conn: Option<u64>, file: u32) -> Result<Waiter
     let asked = Sequence::from_slice(alloc, &[claim_on(file)])?;
     Ok(Waiter {
         id,
+        party: PARTY,
         conn,
         asked,
         wish: Sequence::new(alloc),

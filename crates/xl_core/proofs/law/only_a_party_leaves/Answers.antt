@@ -1,8 +1,11 @@
-use Rattle.xl_core.proofs.SettleLaws.{cancel_is, give_back_is, party_claims, party_waiters, open_claims, open_waiters}
+use Rattle.xl_core.proofs.SettleLaws.{cancel_is, cancel_names, give_back_is, party_claims, party_waiters, open_claims, open_waiters}
 use Rattle.xl_core.proofs.law.only_a_party_leaves.Goals as goal
 
 pub returns-clause-cancelled : goal.returns-clause-cancelled
 returns-clause-cancelled c = cancel_is
+
+pub returns-clause-named : goal.returns-clause-named
+returns-clause-named c = cancel_names
 
 pub returns-clause-given_back : goal.returns-clause-given_back
 returns-clause-given_back c = give_back_is

@@ -2,7 +2,7 @@ use Rattle.xl_smb_laws.proofs.GrantedCreateLaws.{granted_lease, granted_reply, g
 use Rattle.xl_smb_laws.proofs.awaiting.granted_creates_stand.Goals as goal
 
 pub returns-clause-share : goal.returns-clause-share
-returns-clause-share c = λ n left s t f id row made claim. granted_share n left s t s f id row made claim
+returns-clause-share c = λ n left s t f party id row made claim. granted_share n left s t s f party id row made claim
 
 pub returns-clause-stands : goal.returns-clause-stands
 returns-clause-stands c = granted_row

@@ -1,4 +1,5 @@
 use Rattle.xl_smb_laws.proofs.AwaitedRequestLaws.{all_wait, begin_awaited, end_awaited, shown_awaited, start_awaited, step_awaited}
+use Rattle.xl_smb_laws.proofs.SparedLaws.{spared_awaited}
 use Rattle.xl_smb_laws.proofs.StillWaitingLaws.{told_awaited}
 use Rattle.xl_smb_laws.proofs.RoomLaws.{queued_kept}
 use Rattle.xl_smb_laws.proofs.awaiting.waiting_requests_are_awaited.Goals as goal
@@ -26,3 +27,6 @@ returns-clause-begins c = begin_awaited
 
 pub returns-clause-deeds : goal.returns-clause-deeds
 returns-clause-deeds c = told_awaited
+
+pub returns-clause-spared : goal.returns-clause-spared
+returns-clause-spared c = spared_awaited
