@@ -24,13 +24,14 @@ use Rattle.xl_core.specs.State.{CoreState}
 use Rattle.xl_core.specs.declared.ask.Effect.{Effect}
 use Rattle.xl_core.specs.Ids.{id_of}
 use Rattle.xl_smb_locks.specs.Levels.{cache_of, oplock_of}
-use Rattle.xl_front_smb.specs.Files.{is_read, leaves_less, is_refused, left_at, may_keep, ack_by, ack_lease_by, ack_of, ack_open, lease_left, refused_ack, taken_ack}
-use Rattle.xl_front_smb.specs.Plans.{Does, Fails, carried, Outcome}
+use Rattle.xl_front_smb.specs.Checks.{refused, found}
+use Rattle.xl_front_smb.specs.Files.{is_read, leaves_less, is_refused, left_at, may_keep, running_of, ack_by, ack_cache, ack_of, ack_oplock, lease_left, lease_level}
+use Rattle.xl_front_smb.specs.Plans.{Plan, Does, Fails, carried, Outcome}
 use Rattle.xl_front_smb.specs.declared.told.Told.{Told}
 use Rattle.xl_cache.specs.Levels.{kind_of_state, level_of}
-use Rattle.xl_front_smb.specs.declared.told.Told.TheVariants.{Acknowledged, Answered}
+use Rattle.xl_front_smb.specs.declared.told.Told.TheVariants.{Failed, Acknowledged, Answered}
 use Rattle.xl_smb.specs.declared.lease.Lease.{Lease}
-use Rattle.xl_smb_locks.specs.declared.status.SmbStatus.TheVariants.{RequestNotAccepted}
+use Rattle.xl_smb_locks.specs.declared.status.SmbStatus.TheVariants.{InvalidParameter, InvalidOplockProtocol, InvalidDeviceState, FileClosed, Unsuccessful, RequestNotAccepted}
 use Rattle.xl_smb_state.specs.declared.row.Open.{Open}
 
 -- ---- what may be left
@@ -44,7 +45,7 @@ two_parts true y z h = absurd (true≢false h)
 two_parts false true z h = absurd (true≢false h)
 two_parts false false z h = h
 
-not_false : (b : Bool) → not b ≡ false → b ≡ true
+pub not_false : (b : Bool) → not b ≡ false → b ≡ true
 not_false true h = refl
 not_false false h = absurd (true≢false h)
 
@@ -75,10 +76,11 @@ kept_within state running may = (and_parts (state == 0 || (state == 1 || state =
 
 -- a break of a lease's cache that runs is answered so
 pub kept_done : (n : ℕ) (s : CoreState) (l : Lists) (lease : Lease) (cache : Claim) (kind : CacheKind) (running : Break) (x : Outcome) (left : Option CacheKind) (given : Lease) → cache.what ≡ whats.Cache kind (Some running) → may_keep lease.state running ≡ true → left ≡ kind_of_state lease.state → given ≡ lease_left lease
-    → carried n s l (Does (Acks cache left ∷ []) l (Answered given)) ≡ x → carried n s l (ack_lease_by l lease cache cache.what) ≡ x
+    → carried n s l (Does (Acks cache left ∷ []) l (Answered given)) ≡ x → carried n s l (ack_cache l lease cache) ≡ x
 kept_done n s l lease cache kind running x left given is may own told done =
-    ap (λ (w : What). carried n s l (ack_lease_by l lease cache w)) is
-    ∙ ap (λ (b : Bool). carried n s l (if b then Does (Acks cache (kind_of_state lease.state) ∷ []) l (Answered (lease_left lease)) else Fails RequestNotAccepted)) may
+    let answers = Does (Acks cache (kind_of_state lease.state) ∷ []) l (Answered (lease_left lease)) in
+    ap (λ (w : What). carried n s l (found (running_of w) Unsuccessful (λ r. refused ((not (may_keep lease.state r), RequestNotAccepted) ∷ []) answers))) is
+    ∙ ap (λ (b : Bool). carried n s l (refused ((not b, RequestNotAccepted) ∷ []) answers)) may
     ∙ sym (λ i. carried n s l (Does (Acks cache (own i) ∷ []) l (Answered (told i))))
     ∙ done
 
@@ -107,20 +109,34 @@ acks n s new l cache to told effects is =
 
 -- ---- what it comes to, by what the open has
 
-pub ran_refused : (n : ℕ) (s : CoreState) (l : Lists) (id level : ℕ) (cache : Claim) (kind : CacheKind) (running : Break) (x : Outcome) → is_refused level kind (Some running) ≡ true → carried n s l (refused_ack l cache (Some running)) ≡ x → carried n s l (ack_by l id level cache (whats.Cache kind (Some running))) ≡ x
-ran_refused n s l id level cache kind running x refused done = ap (λ (b : Bool). carried n s l (if b then refused_ack l cache (Some running) else taken_ack l id level cache (Some running))) refused ∙ done
+-- the plan of one that is refused, or taken
+abbrev ran : Lists → ℕ → ℕ → Claim → Bool → Plan
+ran l id level cache unfit = if unfit then Does (Acks cache None ∷ []) l (Failed InvalidOplockProtocol) else Does (Acks cache (left_at level) ∷ []) l (Acknowledged id (level_of (left_at level)))
+
+pub ran_refused : (n : ℕ) (s : CoreState) (l : Lists) (id level : ℕ) (cache : Claim) (kind : CacheKind) (running : Break) (x : Outcome) → is_refused level kind (Some running) ≡ true → carried n s l (Does (Acks cache None ∷ []) l (Failed InvalidOplockProtocol)) ≡ x
+    → carried n s l (ack_by l id level cache (whats.Cache kind (Some running))) ≡ x
+ran_refused n s l id level cache kind running x unfit done = ap (λ (b : Bool). carried n s l (ran l id level cache b)) unfit ∙ done
 
 pub ran_taken : (n : ℕ) (s : CoreState) (l : Lists) (id level : ℕ) (cache : Claim) (kind : CacheKind) (running : Break) (left : Option CacheKind) (held : ℕ) (x : Outcome) → is_refused level kind (Some running) ≡ false → left ≡ left_at level → held ≡ level_of left → carried n s l (Does (Acks cache left ∷ []) l (Acknowledged id held)) ≡ x
     → carried n s l (ack_by l id level cache (whats.Cache kind (Some running))) ≡ x
-ran_taken n s l id level cache kind running left held x refused to at done =
-    ap (λ (b : Bool). carried n s l (if b then refused_ack l cache (Some running) else taken_ack l id level cache (Some running))) refused
+ran_taken n s l id level cache kind running left held x fit to at done =
+    ap (λ (b : Bool). carried n s l (ran l id level cache b)) fit
     ∙ ap (λ (k : Option CacheKind). carried n s l (Does (Acks cache k ∷ []) l (Acknowledged id (level_of k)))) (sym to)
     ∙ ap (λ (k : ℕ). carried n s l (Does (Acks cache left ∷ []) l (Acknowledged id k))) (sym at)
     ∙ done
 
+-- where no break runs
+pub rests : (n : ℕ) (s : CoreState) (l : Lists) (above given : Bool) (x : Outcome) → given ≡ above → carried n s l (refused ((given, InvalidOplockProtocol) ∷ []) (Fails InvalidDeviceState)) ≡ x → carried n s l (refused ((above, InvalidOplockProtocol) ∷ []) (Fails InvalidDeviceState)) ≡ x
+rests n s l above given x is done = ap (λ (b : Bool). carried n s l (refused ((b, InvalidOplockProtocol) ∷ []) (Fails InvalidDeviceState))) (sym is) ∙ done
+
 pub by_what : (n : ℕ) (s : CoreState) (l : Lists) (id level : ℕ) (cache : Claim) (what : What) (x : Outcome) → cache.what ≡ what → carried n s l (ack_by l id level cache what) ≡ x → carried n s l (ack_by l id level cache cache.what) ≡ x
 by_what n s l id level cache what x is done = ap (λ (w : What). carried n s l (ack_by l id level cache w)) is ∙ done
 
-pub by_oplock : (n : ℕ) (s : CoreState) (l : Lists) (level number : ℕ) (row : Open) (x : Outcome) → open_of number l ≡ Some row → oplock_of row.file number s.claims ≡ None → carried n s l (ack_of l (id_of s number) level None) ≡ x
-    → carried n s l (ack_open s l level number (open_of number l)) ≡ x
-by_oplock n s l level number row x at none done = ap (λ (o : Option Open). carried n s l (ack_open s l level number o)) at ∙ ap (λ (o : Option Claim). carried n s l (ack_of l (id_of s number) level o)) none ∙ done
+pub by_oplock : (n : ℕ) (s : CoreState) (l : Lists) (level number : ℕ) (row : Open) (x : Outcome) → (level == lease_level) ≡ false → open_of number l ≡ Some row → oplock_of row.file number s.claims ≡ None → carried n s l (ack_of l (id_of s number) level None) ≡ x
+    → carried n s l (ack_oplock s l level number) ≡ x
+by_oplock n s l level number row x apart at none done =
+    let of = λ (o : Option Open). found o FileClosed (λ (r : Open). ack_of l (id_of s number) level (oplock_of r.file number s.claims)) in
+    ap (λ (b : Bool). carried n s l (refused ((b, InvalidParameter) ∷ []) (of (open_of number l)))) apart
+    ∙ ap (λ (o : Option Open). carried n s l (of o)) at
+    ∙ ap (λ (o : Option Claim). carried n s l (ack_of l (id_of s number) level o)) none
+    ∙ done

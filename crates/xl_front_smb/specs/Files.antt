@@ -19,7 +19,6 @@ use Rattle.xl_smb.specs.declared.head.SmbHead.{SmbHead}
 use Rattle.xl_smb.specs.declared.lease.Lease.{Lease}
 use Rattle.xl_smb_state.specs.State.{Lists, open_of, lease_of as lease_row, key_file, closed}
 use Rattle.xl_smb_state.specs.declared.row.Holder.TheVariants as holder
-use Rattle.xl_smb_state.specs.declared.row.Lease.{Lease as LeaseRow}
 use Rattle.xl_smb_state.specs.declared.row.LeaseKey.{LeaseKey}
 use Rattle.xl_smb_state.specs.declared.row.Open.{Open}
 use Rattle.xl_smb_state.specs.declared.row.Place.{Place}
@@ -32,7 +31,7 @@ use Rattle.xl_core.specs.State.{CoreState}
 use Rattle.xl_core.specs.declared.ask.Act.TheVariants.{Share}
 use Rattle.xl_core.specs.declared.ask.Ask.{Ask}
 use Rattle.xl_core.specs.declared.ask.Who.TheVariants as who
-use Rattle.xl_front_smb.specs.Checks.{id_of, session_named, tree_named, open_named, in_session, on_tree, on_open}
+use Rattle.xl_front_smb.specs.Checks.{id_of, session_named, tree_named, open_named, refused, found, in_session, on_tree, on_open}
 use Rattle.xl_front_smb.specs.Ending.{party_going}
 use Rattle.xl_front_smb.specs.Locks.{waiting_row}
 use Rattle.xl_front_smb.specs.Plans.{Plan, Fails, Does, Opens}
@@ -78,9 +77,13 @@ deny_of access share =
 
 -- ---- CREATE
 
--- the lease that is asked for, by the level 0xFF and a context that carries it (3.3.5.9.8) (SMB-19)
+-- SMB2_OPLOCK_LEVEL_LEASE (2.2.13)
+abbrev pub lease_level : ℕ
+lease_level = 0xFF
+
+-- the lease that is asked for, by this level and a context that carries it (3.3.5.9.8) (SMB-19)
 abbrev pub lease_asked : CreateCallItem → Option Lease
-lease_asked c = if c.oplock_level == 0xFF then lease_of c.contexts else None
+lease_asked c = if c.oplock_level == lease_level then lease_of c.contexts else None
 
 abbrev pub key_asked : CreateCallItem → Option (List ℕ)
 key_asked c = option_map (λ lease. lease.key) (lease_asked c)
@@ -132,9 +135,6 @@ open_as s others l h client place c file number =
 abbrev pub has_room_for_open : ℕ → Lists → ℕ → Bool
 has_room_for_open others l number = nat_lt (all_opens others l) most_opens && not (is_some (open_of number l))
 
-abbrev pub open_file : CoreState → ℕ → Lists → SmbHead → List ℕ → Place → CreateCallItem → ℕ → Plan
-open_file s others l h client place c file = if has_room_for_open others l (s.counter + 1) then open_as s others l h client place c file (s.counter + 1) else Fails InsufficientResources
-
 -- the lease's key is in use on another file, also if only a CREATE that waits has it (SMB-19)
 abbrev pub is_other : ℕ → Option ℕ → Bool
 is_other file None = false
@@ -147,23 +147,34 @@ is_key_elsewhere file (Some key) l = is_other file (key_file key l)
 abbrev pub lease_key : List ℕ → Option (List ℕ) → Option LeaseKey
 lease_key client asked = option_map (λ key. record { client = client; key = key }) asked
 
-abbrev pub open_keyed : CoreState → ℕ → Lists → SmbHead → List ℕ → Place → CreateCallItem → ℕ → Plan
-open_keyed s others l h client place c file = if is_key_elsewhere file (lease_key client (key_asked c)) l then Fails InvalidParameter else open_file s others l h client place c file
+-- CreateDisposition (2.2.13)
+abbrev pub file_supersede : ℕ
+file_supersede = 0
 
--- files are only opened: FILE_CREATE, 2, meets the one that is there (SMB-16)
-abbrev pub open_found : CoreState → ℕ → Lists → SmbHead → List ℕ → Place → CreateCallItem → Option ℕ → Plan
-open_found s others l h client place c None = Fails ObjectNameNotFound
-open_found s others l h client place c (Some file) = if c.disposition == 2 then Fails ObjectNameCollision else open_keyed s others l h client place c file
+abbrev pub file_create : ℕ
+file_create = 2
 
--- FILE_SUPERSEDE, FILE_OVERWRITE and FILE_OVERWRITE_IF change what the file holds (SMB-16)
+abbrev pub file_overwrite : ℕ
+file_overwrite = 4
+
+abbrev pub file_overwrite_if : ℕ
+file_overwrite_if = 5
+
+-- it would change what the file holds (SMB-16)
 abbrev pub overwrites : ℕ → Bool
-overwrites disposition = disposition == 0 || (disposition == 4 || disposition == 5)
+overwrites disposition = disposition == file_supersede || (disposition == file_overwrite || disposition == file_overwrite_if)
 
+-- files are only opened: FILE_CREATE meets the one that is there (SMB-16)
 abbrev pub create_on : CoreState → List (List ℕ) → ℕ → Lists → SmbHead → List ℕ → CreateCallItem → Place → Plan
 create_on s files others l h client c place =
-    if nat_lt 5 c.disposition then Fails InvalidParameter
-    else if overwrites c.disposition then Fails NotSupported
-    else open_found s others l h client place c (file_spelled files c.name)
+    refused ((nat_lt file_overwrite_if c.disposition, InvalidParameter) ∷ (overwrites c.disposition, NotSupported) ∷ [])
+    (found (file_spelled files c.name) ObjectNameNotFound (λ file.
+    refused (
+    (c.disposition == file_create, ObjectNameCollision)
+    ∷ (is_key_elsewhere file (lease_key client (key_asked c)) l, InvalidParameter)
+    ∷ (not (has_room_for_open others l (s.counter + 1)), InsufficientResources)
+    ∷ [])
+    (open_as s others l h client place c file (s.counter + 1))))
 
 -- CREATE: in a session, on a tree connect of it
 unfoldable pub create : CoreState → List (List ℕ) → ℕ → Lists → ℕ → List ℕ → SmbHead → CreateCallItem → Plan
@@ -200,32 +211,25 @@ is_refused level kind running = nat_lt 1 level || ((level == 1) && (is_read kind
 abbrev pub left_at : ℕ → Option CacheKind
 left_at level = if level == 0 then None else Some R
 
--- if a break runs it is answered, so that nothing is left (SMB-20)
-abbrev pub refused_ack : Lists → Claim → Option Break → Plan
-refused_ack l cache None = Fails InvalidOplockProtocol
-refused_ack l cache (Some running) = Does (Acks cache None ∷ []) l (Failed InvalidOplockProtocol)
-
--- if a break runs it is answered, so that this level is left
-abbrev pub taken_ack : Lists → ℕ → ℕ → Claim → Option Break → Plan
-taken_ack l id level cache None = Fails InvalidDeviceState
-taken_ack l id level cache (Some running) = Does (Acks cache (left_at level) ∷ []) l (Acknowledged id (level_of (left_at level)))
-
+-- by the oplock that the open has: if its break runs that is answered, so that nothing is left of it if the level is refused,
+-- and else this level (SMB-20)
 abbrev pub ack_by : Lists → ℕ → ℕ → Claim → What → Plan
-ack_by l id level cache (whats.Cache kind running) = if is_refused level kind running then refused_ack l cache running else taken_ack l id level cache running
+ack_by l id level cache (whats.Cache kind None) = refused ((is_refused level kind None, InvalidOplockProtocol) ∷ []) (Fails InvalidDeviceState)
+ack_by l id level cache (whats.Cache kind (Some running)) =
+    if is_refused level kind (Some running) then Does (Acks cache None ∷ []) l (Failed InvalidOplockProtocol)
+    else Does (Acks cache (left_at level) ∷ []) l (Acknowledged id (level_of (left_at level)))
 ack_by l id level cache what = Fails InvalidDeviceState
 
 -- the oplock that the open has, if it has one
 abbrev pub ack_of : Lists → ℕ → ℕ → Option Claim → Plan
-ack_of l id level None = if nat_lt 1 level then Fails InvalidOplockProtocol else Fails InvalidDeviceState
+ack_of l id level None = refused ((nat_lt 1 level, InvalidOplockProtocol) ∷ []) (Fails InvalidDeviceState)
 ack_of l id level (Some cache) = ack_by l id level cache cache.what
 
-abbrev pub ack_open : CoreState → Lists → ℕ → ℕ → Option Open → Plan
-ack_open s l level number None = Fails FileClosed
-ack_open s l level number (Some row) = ack_of l (id_of s number) level (oplock_of row.file number s.claims)
-
--- a lease, 0xFF, is acknowledged in a form of its own
-abbrev pub ack_level : CoreState → Lists → ℕ → ℕ → Plan
-ack_level s l level number = if level == 0xFF then Fails InvalidParameter else ack_open s l level number (open_of number l)
+-- of an open (3.3.5.22.1); a lease is acknowledged in a form of its own
+abbrev pub ack_oplock : CoreState → Lists → ℕ → ℕ → Plan
+ack_oplock s l level number =
+    refused ((level == lease_level, InvalidParameter) ∷ [])
+    (found (open_of number l) FileClosed (λ row. ack_of l (id_of s number) level (oplock_of row.file number s.claims)))
 
 -- none, 0, reading, 1, or reading and the handle, 3, if the break leaves as much (SMB-21)
 abbrev pub may_keep : ℕ → Break → Bool
@@ -235,26 +239,28 @@ may_keep state running = (state == 0 || (state == 1 || state == 3)) && rest_lies
 abbrev pub lease_left : Lease → Lease
 lease_left lease = record { key = lease.key; state = lease.state; flags = 0; duration = 0 }
 
--- a break that runs is answered, so that this state is left
-abbrev pub ack_lease_by : Lists → Lease → Claim → What → Plan
-ack_lease_by l lease cache (whats.Cache kind (Some running)) =
-    if may_keep lease.state running then Does (Acks cache (kind_of_state lease.state) ∷ []) l (Answered (lease_left lease)) else Fails RequestNotAccepted
-ack_lease_by l lease cache what = Fails Unsuccessful
+-- the break that runs of a cache, if one does
+abbrev pub running_of : What → Option Break
+running_of (whats.Cache kind running) = running
+running_of what = None
 
--- the cache that the lease has, if it has one
-abbrev pub ack_cache : Lists → Lease → Option Claim → Plan
-ack_cache l lease None = Fails Unsuccessful
-ack_cache l lease (Some cache) = ack_lease_by l lease cache cache.what
+-- if a break of its cache runs that is answered, so that this state is left
+abbrev pub ack_cache : Lists → Lease → Claim → Plan
+ack_cache l lease cache =
+    found (running_of cache.what) Unsuccessful (λ running.
+    refused ((not (may_keep lease.state running), RequestNotAccepted) ∷ [])
+    (Does (Acks cache (kind_of_state lease.state) ∷ []) l (Answered (lease_left lease))))
 
--- the lease is there; a key that only a CREATE has that waits is of none (SMB-21)
-abbrev pub ack_lease : CoreState → Lists → List ℕ → Lease → Option LeaseRow → Plan
-ack_lease s l client lease None = Fails ObjectNameNotFound
-ack_lease s l client lease (Some row) = ack_cache l lease (cache_of row.file (lease_party s.names client lease.key) s.claims)
+-- of a lease (3.3.5.22.2); a key that only a CREATE has that waits is of none (SMB-21)
+abbrev pub ack_lease : CoreState → Lists → List ℕ → Lease → Plan
+ack_lease s l client lease =
+    found (lease_row (record { client = client; key = lease.key }) l) ObjectNameNotFound (λ row.
+    found (cache_of row.file (lease_party s.names client lease.key) s.claims) Unsuccessful (ack_cache l lease))
 
 -- OPLOCK_BREAK: in a session, of an open under the connection, or of a lease of the client
 abbrev pub break_by : CoreState → Lists → ℕ → List ℕ → Acknowledgement → Plan
-break_by s l conn client (held.Oplock level id) = on_open (ack_level s l level) (open_named s l conn id)
-break_by s l conn client (held.Lease lease) = ack_lease s l client lease (lease_row (record { client = client; key = lease.key }) l)
+break_by s l conn client (held.Oplock level id) = on_open (ack_oplock s l level) (open_named s l conn id)
+break_by s l conn client (held.Lease lease) = ack_lease s l client lease
 
 unfoldable pub acknowledge : CoreState → Lists → ℕ → List ℕ → SmbHead → Acknowledgement → Plan
 acknowledge s l conn client h b = in_session (λ session. break_by s l conn client b) (session_named s l conn h.session_id)

@@ -22,7 +22,7 @@ use Rattle.xl_smb_locks.specs.Locks.{lock_ask, unlocks}
 use Rattle.xl_smb_locks.specs.declared.locking.Locking.{Locking}
 use Rattle.xl_smb_locks.specs.declared.status.SmbStatus.{SmbStatus}
 use Rattle.xl_smb_locks.specs.declared.status.SmbStatus.TheVariants.{InvalidParameter, FileClosed}
-use Rattle.xl_front_smb.specs.Checks.{session_named, tree_named, open_named, in_session, on_tree, on_open}
+use Rattle.xl_front_smb.specs.Checks.{session_named, tree_named, open_named, refused, found, in_session, on_tree, on_open}
 use Rattle.xl_front_smb.specs.Plans.{Plan, Fails, Does, Locks, told_as}
 use Rattle.xl_front_smb.specs.Replies.{tree_id}
 use Rattle.xl_front_smb.specs.declared.told.Told.TheVariants.{Nothing}
@@ -54,13 +54,12 @@ lock_by conn kept number row es None = Locks (lock_ask conn number row es) kept
 -- 1 to 64 ranges: all are unlocked, or all are locked (SMB-22)
 abbrev pub lock_on : CoreState → Lists → ℕ → SmbHead → ℕ → Place → List LockElement → Open → Plan
 lock_on s l conn h number place es row =
-    if not (is_count (length es)) then Fails InvalidParameter
-    else if unlocks_first es then unlock_by l (unlocks s number row es)
-    else lock_by conn (waiting_row h (place_of row.holder place) number request.Lock) number row es (lock_fault es)
+    refused ((not (is_count (length es)), InvalidParameter) ∷ [])
+    (if unlocks_first es then unlock_by l (unlocks s number row es)
+    else lock_by conn (waiting_row h (place_of row.holder place) number request.Lock) number row es (lock_fault es))
 
 abbrev pub lock_found : CoreState → Lists → ℕ → SmbHead → ℕ → Place → List LockElement → Option Open → Plan
-lock_found s l conn h number place es None = Fails FileClosed
-lock_found s l conn h number place es (Some row) = lock_on s l conn h number place es row
+lock_found s l conn h number place es row = found row FileClosed (lock_on s l conn h number place es)
 
 -- LOCK: in a session, on a tree connect of it, of an open under the connection
 unfoldable pub lock : CoreState → Lists → ℕ → List ℕ → SmbHead → LockItem → Plan

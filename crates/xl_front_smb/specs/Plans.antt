@@ -1,13 +1,13 @@
 -- What becomes of a request.
-use Rattle.std.specs.Prelude.{ℕ, nat_lt, Bool, not, ◌&&◌, if◌then◌else◌, List, [], ◌∷◌, length, Option, Some, None, is_some}
+use Rattle.std.specs.Prelude.{ℕ, nat_lt, Bool, not, ◌&&◌, if◌then◌else◌, List, [], ◌∷◌, length, is_some}
 use Rattle.xl_smb_state.specs.Links.{most_waiting}
 use Rattle.xl_smb_state.specs.State.{Lists, with_open, waiting_of, waiting_added}
 use Rattle.xl_smb_state.specs.declared.row.Open.{Open}
 use Rattle.xl_smb_state.specs.declared.row.Waiting.{Waiting}
 use Rattle.xl_wait.specs.Waiting.{no_rows}
-use Rattle.xl_smb_locks.specs.Finals.{open_refusal}
 use Rattle.xl_smb_locks.specs.Levels.{caching}
 use Rattle.xl_smb_locks.specs.Locks.{lock_told}
+use Rattle.xl_smb_locks.specs.Statuses.{comes_to}
 use Rattle.xl_smb_locks.specs.declared.levels.Caching.{Caching}
 use Rattle.xl_smb_locks.specs.declared.locking.Locking.{Locking}
 use Rattle.xl_smb_locks.specs.declared.locking.Locking.TheVariants as locking
@@ -15,11 +15,11 @@ use Rattle.xl_wait.specs.declared.waiter.Rooms.{Rooms}
 use Rattle.xl_core.specs.Deeds.{Deed, Draws}
 use Rattle.xl_core.specs.State.{CoreState}
 use Rattle.xl_core.specs.declared.ask.Answer.{Answer}
-use Rattle.xl_core.specs.declared.ask.Answer.TheVariants.{Granted, Queued}
 use Rattle.xl_core.specs.declared.ask.Ask.{Ask}
 use Rattle.xl_plan.specs.Answers.{by_answers}
 use Rattle.xl_plan.specs.Plans as plans
 use Rattle.xl_smb_locks.specs.declared.status.SmbStatus.{SmbStatus}
+use Rattle.xl_smb_locks.specs.declared.status.SmbStatus.TheVariants.{SharingViolation}
 use Rattle.xl_front_smb.specs.declared.told.Told.{Told}
 use Rattle.xl_front_smb.specs.declared.told.Told.TheVariants.{Nothing, Failed, Opened, Locked, Pending}
 
@@ -44,31 +44,31 @@ has_room_to_wait l id = nat_lt (length l.waiting) most_waiting && not (is_some (
 abbrev pub with_waiting : ℕ → Waiting → Lists → Lists
 with_waiting id row l = if has_room_to_wait l id then waiting_added id row l else l
 
-abbrev pub failed_by : Option SmbStatus → Told
-failed_by None = Nothing
-failed_by (Some status) = Failed status
+-- what it is answered, if this is the answer once it is done
+abbrev pub told_by : Told → Locking → Told
+told_by done locking.Done = done
+told_by done (locking.Failed status) = Failed status
+told_by done (locking.Waits id) = Pending id
 
--- what an open is answered, which then has an oplock of this level
+-- the lists then, if they are these once it is done; of one that waits this row is kept
+abbrev pub lists_by : Lists → Waiting → Lists → Locking → Lists
+lists_by done row l locking.Done = done
+lists_by done row l (locking.Failed status) = l
+lists_by done row l (locking.Waits id) = with_waiting id row l
+
+-- what an open is answered, which then has this cache
 abbrev pub opened_told : ℕ → Caching → Answer → Told
-opened_told id cache (Granted claim) = Opened id cache
-opened_told id cache (Queued number) = Pending number
-opened_told id cache answer = failed_by (open_refusal answer)
+opened_told id cache answer = told_by (Opened id cache) (comes_to SharingViolation answer)
 
 abbrev pub opened_lists : Lists → ℕ → Open → Waiting → Answer → Lists
-opened_lists l number row waiting (Granted claim) = with_open number row l
-opened_lists l number row waiting (Queued id) = with_waiting id waiting l
-opened_lists l number row waiting answer = l
+opened_lists l number row waiting answer = lists_by (with_open number row l) waiting l (comes_to SharingViolation answer)
 
 -- what locks and unlocks are answered
 abbrev pub told_as : Locking → Told
-told_as locking.Done = Locked
-told_as (locking.Failed status) = Failed status
-told_as (locking.Waits id) = Pending id
+told_as r = told_by Locked r
 
 abbrev pub lists_as : Waiting → Lists → Locking → Lists
-lists_as row l locking.Done = l
-lists_as row l (locking.Failed status) = l
-lists_as row l (locking.Waits id) = with_waiting id row l
+lists_as row l r = lists_by l row l r
 
 -- ---- what it comes to
 

@@ -1,5 +1,6 @@
 -- How what a request is answered is spelled (MS-SMB2 2.2, 3.3.4.1).
 use Rattle.std.specs.Prelude.{◌≡◌, ℕ, min, max, ◌==◌, if◌then◌else◌, List, [], Option, Some, None}
+use Rattle.xl_smb.specs.Heads.{number_of}
 use Rattle.xl_smb.specs.Messages.{Reply, spelling}
 use Rattle.xl_smb.specs.Places.{zeros}
 use Rattle.xl_smb.specs.Replies.{ReplyItem, Negotiate, SessionSetup, Logoff, TreeConnect, TreeDisconnect, Create, Close, Lock, Echo, OplockBreak, Error}
@@ -13,7 +14,7 @@ use Rattle.xl_smb.specs.declared.head.SmbHead.{SmbHead}
 use Rattle.xl_smb.specs.declared.lock.CloseReply.{CloseReply}
 use Rattle.xl_smb.specs.declared.session.TreeConnectReply.{TreeConnectReply}
 use Rattle.xl_smb_locks.specs.Levels.{contexts_told, file_id, file_of, opened}
-use Rattle.xl_smb_locks.specs.Statuses.{status_number}
+use Rattle.xl_smb_locks.specs.Statuses.{status_number, status_pending, status_success}
 use Rattle.xl_front_smb.specs.declared.told.Told.{Told}
 use Rattle.xl_front_smb.specs.declared.told.Told.TheVariants as told
 
@@ -48,7 +49,7 @@ reply_head h status tree session = record {
 unfoldable pub pending_head : SmbHead → ℕ → SmbHead
 pending_head h id = record {
   credit_charge = h.credit_charge;
-  status = 0x103;
+  status = status_pending;
   command = h.command;
   credits = credits_for h.credits;
   flags = 3;
@@ -61,10 +62,10 @@ pending_head h id = record {
 
 abbrev pub head_by : SmbHead → Told → SmbHead
 head_by h (told.Failed status) = reply_head h (status_number status) (tree_id h.route) h.session_id
-head_by h (told.SetUp session) = reply_head h 0 (tree_id h.route) session
-head_by h (told.Connected tree) = reply_head h 0 tree h.session_id
+head_by h (told.SetUp session) = reply_head h status_success (tree_id h.route) session
+head_by h (told.Connected tree) = reply_head h status_success tree h.session_id
 head_by h (told.Pending id) = pending_head h id
-head_by h _ = reply_head h 0 (tree_id h.route) h.session_id
+head_by h _ = reply_head h status_success (tree_id h.route) h.session_id
 
 -- ---- the body
 
@@ -112,7 +113,7 @@ spelled h (Some body) = Some (spelling (Reply h body))
 
 -- a CANCEL gets no reply, whatever becomes of it (3.3.5.16) (SMB-9)
 unfoldable pub reply_of : SmbHead → Told → Option (List ℕ)
-reply_of h t = if h.command == 12 then None else spelled (head_by h t) (body_of t)
+reply_of h t = if h.command == number_of command.Cancel then None else spelled (head_by h t) (body_of t)
 
 -- whether a request of this command is answered so if it succeeds
 abbrev pub IsAnswer : Option Command → Told → Type 0

@@ -1,13 +1,14 @@
 -- A request: what becomes of it, by its command (MS-SMB2 3.3.5).
-use Rattle.std.specs.Prelude.{ℕ, not, ◌==◌, nat_lt, if◌then◌else◌, List, [], Result, Ok, is_some}
+use Rattle.std.specs.Prelude.{ℕ, not, ◌==◌, nat_lt, List, [], ◌∷◌, Result, Ok, is_some}
 use Rattle.xl_smb.specs.Calls.{CallItem, Negotiate, SessionSetup, Logoff, TreeConnect, TreeDisconnect, Create, Close, Lock, Cancel, Echo, OplockBreak, Other}
-use Rattle.xl_smb.specs.Heads.{command_of}
+use Rattle.xl_smb.specs.Heads.{command_of, number_of}
 use Rattle.xl_smb.specs.Messages.{MessageItem, Call, message_at}
+use Rattle.xl_smb.specs.declared.command.Command.TheVariants as command
 use Rattle.xl_smb.specs.declared.fault.SmbBad.{SmbBad}
 use Rattle.xl_smb.specs.declared.head.SmbHead.{SmbHead}
 use Rattle.xl_smb_state.specs.State.{Lists, client_of}
 use Rattle.xl_core.specs.State.{CoreState}
-use Rattle.xl_front_smb.specs.Checks.{negotiated_by}
+use Rattle.xl_front_smb.specs.Checks.{negotiated_by, refused}
 use Rattle.xl_front_smb.specs.Files.{create, close, acknowledge}
 use Rattle.xl_front_smb.specs.Locks.{lock, cancel}
 use Rattle.xl_front_smb.specs.Plans.{Plan, Fails, Does}
@@ -43,7 +44,9 @@ read_as s files others l conn _ = Fails InvalidParameter
 -- A request of this header: it is alone in its frame, its command has a number up to 18, and is served (SMB-10).
 unfoldable pub requested : CoreState → List (List ℕ) → ℕ → Lists → ℕ → List ℕ → SmbHead → Plan
 requested s files others l conn bytes h =
-    if not (h.next_command == 0) then Fails InvalidParameter
-    else if nat_lt 18 h.command then Fails InvalidParameter
-    else if not (is_some (command_of h.command)) then Fails NotSupported
-    else read_as s files others l conn (message_at bytes)
+    refused (
+    (not (h.next_command == 0), InvalidParameter)
+    ∷ (nat_lt (number_of command.OplockBreak) h.command, InvalidParameter)
+    ∷ (not (is_some (command_of h.command)), NotSupported)
+    ∷ [])
+    (read_as s files others l conn (message_at bytes))

@@ -9,7 +9,7 @@ use Rattle.xl_smb_state.specs.declared.row.Place.{Place}
 use Rattle.xl_smb_state.specs.declared.row.Scope.TheVariants as scope
 use Rattle.xl_core.specs.Deeds.{Draws}
 use Rattle.xl_core.specs.State.{CoreState}
-use Rattle.xl_front_smb.specs.Checks.{id_of, session_named, tree_named, is_fresh, in_session, on_tree}
+use Rattle.xl_front_smb.specs.Checks.{id_of, session_named, tree_named, is_fresh, refused, in_session, on_tree}
 use Rattle.xl_front_smb.specs.Ending.{leavers_under, ends, all_closed, session_gone}
 use Rattle.xl_front_smb.specs.Plans.{Plan, Fails, Does}
 use Rattle.xl_front_smb.specs.Texts.{is_share}
@@ -23,10 +23,12 @@ offers dialects = list_any (λ dialect. dialect == 0x0210) (dialects_of dialects
 -- NEGOTIATE: the first time, with a dialect, of which one is SMB 2.1
 unfoldable pub negotiate : Lists → ℕ → NegotiateCallItem → Plan
 negotiate l conn c =
-    if not (is_fresh (connection_of conn l)) then Fails InvalidParameter
-    else if length (dialects_of c.dialects) == 0 then Fails InvalidParameter
-    else if not (offers c.dialects) then Fails NotSupported
-    else Does [] (connection_changed conn (record { client = Some c.client_guid }) l) Negotiated
+    refused (
+    (not (is_fresh (connection_of conn l)), InvalidParameter)
+    ∷ (length (dialects_of c.dialects) == 0, InvalidParameter)
+    ∷ (not (offers c.dialects), NotSupported)
+    ∷ [])
+    (Does [] (connection_changed conn (record { client = Some c.client_guid }) l) Negotiated)
 
 -- the session of this number, which is the next, begins
 abbrev pub set_up_as : CoreState → Lists → ℕ → ℕ → Plan
@@ -60,9 +62,8 @@ has_room_for_tree l conn number = nat_lt (length (trees_on conn l)) most_trees &
 
 abbrev pub connect : CoreState → Lists → ℕ → List ℕ → ℕ → Plan
 connect s l conn path session =
-    if not (has_room_for_tree l conn (s.counter + 1)) then Fails InsufficientResources
-    else if not (is_share path) then Fails BadNetworkName
-    else connect_as l conn session (s.counter + 1)
+    refused ((not (has_room_for_tree l conn (s.counter + 1)), InsufficientResources) ∷ (not (is_share path), BadNetworkName) ∷ [])
+    (connect_as l conn session (s.counter + 1))
 
 -- TREE_CONNECT: in a session, to the one share (SMB-14)
 unfoldable pub tree_connect : CoreState → Lists → ℕ → SmbHead → List ℕ → Plan

@@ -4,15 +4,17 @@ ghost use Rattle.xl_base.specs.Outside.{HandedOn};
 ghost use Rattle.xl_smb.specs.Creates.{shown_create_call};
 ghost use Rattle.xl_smb.specs.declared.command.Command.TheVariants as command;
 ghost use Rattle.xl_smb_state.specs.Links.{most_opens, IsHolderLinked, IsOpenLinked};
-ghost use Rattle.xl_smb_state.specs.State.{open_of};
+ghost use Rattle.xl_smb_state.specs.State.{open_of, with_open};
 ghost use Rattle.xl_smb_state.specs.declared.row.Holder.TheVariants as holder;
 ghost use Rattle.xl_core.specs.State.{MayBe};
 ghost use Rattle.xl_smb_locks.specs.Levels.{caching};
-ghost use Rattle.xl_front_smb.specs.Files.{access_of, deny_of, lease_asked, key_asked, choices_by, open_ask, open_row, all_opens, has_room_for_open, rooms_left, open_as, open_file, is_key_elsewhere, lease_key, open_keyed, overwrites, create_on, create};
-ghost use Rattle.xl_front_smb.specs.Plans.{opened_told, opened_lists, carried};
+ghost use Rattle.xl_front_smb.specs.Files.{access_of, deny_of, lease_asked, key_asked, choices_by, open_ask, open_row, all_opens, has_room_for_open, rooms_left, open_as, is_key_elsewhere, lease_key, overwrites, create_on, create};
+ghost use Rattle.xl_front_smb.specs.Checks.{checked};
+ghost use Rattle.xl_front_smb.specs.Plans.{told_by, lists_by, carried};
 ghost use Rattle.xl_front_smb.specs.Replies.{IsAnswer};
 ghost use Rattle.xl_front_smb.specs.Short.{IsOpenAsk, IsReady, Leaves};
 
+use crate::arrival::{Arrival, Target};
 use crate::checks::{session_named, tree_named};
 use crate::locks::{keep_waiting, waiting_row};
 use crate::numbers::drawn;
@@ -22,10 +24,10 @@ use crate::told::Told;
 use std::alloc::{AllocError, Global};
 use xl_base::{Keeper, Sequence};
 use xl_cache::{CacheKind, wish_of_lease, wish_of_oplock};
-use xl_core::{Act, Answer, Ask, Core, Who, id_of};
+use xl_core::{Act, Ask, Core, Who, id_of};
 use xl_matrix::Rwd;
-use xl_smb::{CreateCall, Lease, SmbHead};
-use xl_smb_locks::{SmbStatus, asked, caching_of, party_for};
+use xl_smb::{CreateCall, Lease};
+use xl_smb_locks::{Locking, SmbStatus, asked, caching_of, comes_to, party_for};
 use xl_smb_state::{Holder, LeaseKey, OPENS, Open, Place, Request, SmbState, Waiting};
 use xl_wait::Rooms;
 
@@ -38,8 +40,17 @@ const WRITE: u32 = 0x2 + 0x4 + 0x4000_0000 + ALL;
 /// DELETE is for deletion.
 const DELETE: u32 = 0x1_0000 + ALL;
 
-/// The level by which a lease is asked for.
-const LEASE: u8 = 0xFF;
+/// SMB2_OPLOCK_LEVEL_LEASE, by which a lease is asked for (MS-SMB2 2.2.13).
+pub(crate) const LEASE_LEVEL: u8 = 0xFF;
+
+/// CreateDisposition (MS-SMB2 2.2.13).
+const FILE_SUPERSEDE: u32 = 0;
+
+const FILE_CREATE: u32 = 2;
+
+const FILE_OVERWRITE: u32 = 4;
+
+const FILE_OVERWRITE_IF: u32 = 5;
 
 /// What an open is for, by the access that is asked for.
 fn access_of(desired: u32) -> Rwd
@@ -75,7 +86,7 @@ fn deny_of(access: Rwd, share: u32) -> Rwd
 fn lease_asked(call: &CreateCall) -> Option<Lease>
     ensures { result ≡ lease_asked (shown_create_call call.now) }
 {
-    if call.oplock_level == LEASE {
+    if call.oplock_level == LEASE_LEVEL {
         call.contexts.lease()
     } else {
         None
@@ -174,43 +185,52 @@ fn rooms_left(state: &SmbState, others: u32) -> Rooms
     }
 }
 
-/// What comes of an open whose ask is answered so; if it is granted it is under its number, and if it waits the request
-/// is kept.
-fn opened(
+/// What an open is answered whose ask comes to this, with what it has of caches once it is done.
+fn opened_told(
     alloc: Global,
-    state: &mut SmbState,
     core: &Core,
     number: u32,
-    row: Open,
+    row: &Open,
     id: u64,
-    waiting: Waiting,
-    answer: &Answer,
+    locking: Locking,
 ) -> Result<Told, AllocError>
+    ensures told { IfOk result (λ told. told ≡ told_by (Told.Opened id (caching core.now number row.now)) locking) }
+    ensures answer { IfOk result (λ told. IsAnswer (Some command.Create) told) }
+{
+    match locking {
+        Locking::Done => {
+            let cache = caching_of(alloc, core, number, row)?;
+            Ok(Told::Opened(id, cache))
+        }
+        Locking::Failed(status) => Ok(Told::Failed(status)),
+        Locking::Waits(waiter) => Ok(Told::Pending(waiter)),
+    }
+}
+
+/// An open whose ask comes to this: once it is done it is under its number, and if it waits the request is kept.
+fn keep_open(
+    alloc: Global,
+    state: &mut SmbState,
+    number: u32,
+    row: Open,
+    waiting: Waiting,
+    locking: Locking,
+) -> Result<(), AllocError>
     requires room { length state.old.opens < most_opens }
     requires new { open_of number state.old ≡ None }
     requires linked { IsOpenLinked state.old row }
-    ensures told { IfOk result (λ told. told ≡ opened_told id (caching core.now number row) answer.now) }
-    ensures lists { OnOk result (state.new ≡ opened_lists state.old number row waiting answer.now) }
-    ensures answer { IfOk result (λ told. IsAnswer (Some command.Create) told) }
+    ensures { OnOk result (state.new ≡ lists_by (with_open number row state.old) waiting state.old locking) }
 {
-    match answer {
-        Answer::Granted(_) => {
-            let cache = caching_of(alloc, core, number, &row)?;
+    match locking {
+        Locking::Done => {
             state.open(alloc, number, row)?;
-            Ok(Told::Opened(id, cache))
+            Ok(())
         }
-        Answer::Queued(waiter) => {
-            keep_waiting(state, *waiter, waiting)?;
-            Ok(Told::Pending(*waiter))
+        Locking::Failed(_) => Ok(()),
+        Locking::Waits(waiter) => {
+            keep_waiting(state, waiter, waiting)?;
+            Ok(())
         }
-        Answer::Conflict(_) => Ok(Told::Failed(SmbStatus::SharingViolation)),
-        Answer::Recall(_)
-        | Answer::Grace(_)
-        | Answer::NoGrace(_)
-        | Answer::NotRecorded
-        | Answer::Full(_)
-        | Answer::NotHeld
-        | Answer::StoreFailed => Ok(Told::Failed(SmbStatus::InsufficientResources)),
     }
 }
 
@@ -221,29 +241,34 @@ fn open_as<K: Keeper>(
     state: &mut SmbState,
     core: &mut Core,
     keeper: &mut K,
-    others: u32,
-    head: &SmbHead,
-    client: &[u8; 16],
-    place: &Place,
+    arrival: &Arrival<'_>,
+    target: &Target,
     call: &CreateCall,
-    file: u32,
 ) -> Result<Done, AllocError>
     requires ready { IsReady 3 core.old }
-    requires room { has_room_for_open others state.old (core.old.counter + 1) ≡ true }
-    requires linked { IsHolderLinked state.old client.now (holder.Tree place.now) }
-    ensures done { (n : ℕ) → IfOk result (λ r. MayBe n core.new → carried n core.old state.old (open_as core.old others state.old head.now client.now place.now (shown_create_call call.now) file (core.old.counter + 1)) ≡ (r.0, r.1, state.new, core.new)) }
+    requires room { has_room_for_open arrival.now.others state.old (core.old.counter + 1) ≡ true }
+    requires linked { IsHolderLinked state.old target.now.client (holder.Tree target.now.place) }
+    ensures done { (n : ℕ) → IfOk result (λ r. MayBe n core.new → carried n core.old state.old (open_as core.old arrival.now.others state.old arrival.now.head.now target.now.client target.now.place (shown_create_call call.now) target.now.file (core.old.counter + 1)) ≡ (r.0, r.1, state.new, core.new)) }
     ensures leaves { OnOk result (Leaves 3 core.old core.new) }
     ensures answer { IfOk result (λ r. IsAnswer (Some command.Create) r.0) }
     ensures keeper { HandedOn keeper.old keeper.new }
 {
-    let left = rooms_left(state, others);
+    let left = rooms_left(state, arrival.others);
     let number = drawn(core);
     let id = id_of(core, number);
-    let row = open_row(file, client, place, call);
-    let ask = open_ask(alloc, place.connection, number, &row, call)?;
+    let row = open_row(target.file, &target.client, &target.place, call);
+    let ask = open_ask(alloc, target.place.connection, number, &row, call)?;
     let (answer, effects) = asked(alloc, core, keeper, &left, ask)?;
-    let waiting = waiting_row(alloc, head, *place, number, Request::Create(row));
-    let told = opened(alloc, state, core, number, row, id, waiting, &answer)?;
+    let locking = comes_to(SmbStatus::SharingViolation, &answer);
+    let told = opened_told(alloc, core, number, &row, id, locking)?;
+    let waiting = waiting_row(
+        alloc,
+        arrival.head,
+        target.place,
+        number,
+        Request::Create(row),
+    );
+    keep_open(alloc, state, number, row, waiting, locking)?;
     Ok((told, effects))
 }
 
@@ -252,36 +277,6 @@ fn has_room(state: &SmbState, others: u32, number: u32) -> bool
     ensures { result ≡ has_room_for_open others state.now number }
 {
     all_opens(state, others) < OPENS as u64 && state.find_open(number).is_none()
-}
-
-/// Opens a file, if there is room.
-#[tactic(auto, using(xl_plan::proofs::BudgetLaws::leaves_self))]
-fn open_file<K: Keeper>(
-    alloc: Global,
-    state: &mut SmbState,
-    core: &mut Core,
-    keeper: &mut K,
-    others: u32,
-    head: &SmbHead,
-    client: &[u8; 16],
-    place: &Place,
-    call: &CreateCall,
-    file: u32,
-) -> Result<Done, AllocError>
-    requires ready { IsReady 3 core.old }
-    requires linked { IsHolderLinked state.old client.now (holder.Tree place.now) }
-    ensures done { (n : ℕ) → IfOk result (λ r. MayBe n core.new → carried n core.old state.old (open_file core.old others state.old head.now client.now place.now (shown_create_call call.now) file) ≡ (r.0, r.1, state.new, core.new)) }
-    ensures leaves { OnOk result (Leaves 3 core.old core.new) }
-    ensures answer { IfOk result (λ r. IsAnswer (Some command.Create) r.0) }
-    ensures keeper { HandedOn keeper.old keeper.new }
-{
-    if !has_room(state, others, core.counter() + 1) {
-        return Ok(failed(alloc, SmbStatus::InsufficientResources));
-    }
-    let done = open_as(
-        alloc, state, core, keeper, others, head, client, place, call, file,
-    )?;
-    Ok(done)
 }
 
 /// The key of the lease that a client asks for, if it does.
@@ -310,111 +305,97 @@ fn is_key_elsewhere(state: &SmbState, file: u32, key: Option<LeaseKey>) -> bool
     }
 }
 
-/// Opens a file, if the key of the lease that is asked for isn't in use on another.
-#[tactic(auto, using(xl_plan::proofs::BudgetLaws::leaves_self))]
-fn open_keyed<K: Keeper>(
-    alloc: Global,
-    state: &mut SmbState,
-    core: &mut Core,
-    keeper: &mut K,
-    others: u32,
-    head: &SmbHead,
-    client: &[u8; 16],
-    place: &Place,
-    call: &CreateCall,
-    file: u32,
-) -> Result<Done, AllocError>
-    requires ready { IsReady 3 core.old }
-    requires linked { IsHolderLinked state.old client.now (holder.Tree place.now) }
-    ensures done { (n : ℕ) → IfOk result (λ r. MayBe n core.new → carried n core.old state.old (open_keyed core.old others state.old head.now client.now place.now (shown_create_call call.now) file) ≡ (r.0, r.1, state.new, core.new)) }
-    ensures leaves { OnOk result (Leaves 3 core.old core.new) }
-    ensures answer { IfOk result (λ r. IsAnswer (Some command.Create) r.0) }
-    ensures keeper { HandedOn keeper.old keeper.new }
-{
-    let key = lease_key(client, key_asked(call));
-    if is_key_elsewhere(state, file, key) {
-        return Ok(failed(alloc, SmbStatus::InvalidParameter));
-    }
-    let done = open_file(
-        alloc, state, core, keeper, others, head, client, place, call, file,
-    )?;
-    Ok(done)
-}
-
 /// Whether a disposition would change what the file holds.
 fn overwrites(disposition: u32) -> bool
     ensures { result ≡ overwrites disposition }
 {
-    disposition == 0 || disposition == 4 || disposition == 5
+    disposition == FILE_SUPERSEDE
+        || disposition == FILE_OVERWRITE
+        || disposition == FILE_OVERWRITE_IF
 }
 
-/// Opens a file on a tree connect, if there is one of this name and it is only to be opened.
-#[tactic(auto, using(xl_plan::proofs::BudgetLaws::leaves_self))]
-fn create_on<K: Keeper>(
-    alloc: Global,
-    files: &[Sequence<u8>],
-    state: &mut SmbState,
-    core: &mut Core,
-    keeper: &mut K,
-    others: u32,
-    head: &SmbHead,
+/// The file that a CREATE opens, or why it is refused (MS-SMB2 3.3.5.9).
+fn file_named(
+    core: &Core,
+    state: &SmbState,
+    arrival: &Arrival<'_>,
     client: &[u8; 16],
-    place: &Place,
     call: &CreateCall,
-) -> Result<Done, AllocError>
-    requires ready { IsReady 3 core.old }
-    requires linked { IsHolderLinked state.old client.now (holder.Tree place.now) }
-    ensures done { (n : ℕ) → IfOk result (λ r. MayBe n core.new → carried n core.old state.old (create_on core.old files.now others state.old head.now client.now (shown_create_call call.now) place.now) ≡ (r.0, r.1, state.new, core.new)) }
-    ensures leaves { OnOk result (Leaves 3 core.old core.new) }
-    ensures answer { IfOk result (λ r. IsAnswer (Some command.Create) r.0) }
-    ensures keeper { HandedOn keeper.old keeper.new }
+) -> Result<u32, SmbStatus>
+    requires ready { IsReady 3 core.now }
+    ensures checked { (place : Place) → create_on core.now arrival.now.files.now arrival.now.others state.now arrival.now.head.now client.now (shown_create_call call.now) place ≡ checked result (λ file. open_as core.now arrival.now.others state.now arrival.now.head.now client.now place (shown_create_call call.now) file (core.now.counter + 1)) }
+    ensures room { IfOk result (λ file. has_room_for_open arrival.now.others state.now (core.now.counter + 1) ≡ true) }
 {
-    if call.disposition > 5 {
-        return Ok(failed(alloc, SmbStatus::InvalidParameter));
+    if call.disposition > FILE_OVERWRITE_IF {
+        return Err(SmbStatus::InvalidParameter);
     }
     if overwrites(call.disposition) {
-        return Ok(failed(alloc, SmbStatus::NotSupported));
+        return Err(SmbStatus::NotSupported);
     }
-    let Some(file) = file_spelled(files, call.name) else {
-        return Ok(failed(alloc, SmbStatus::ObjectNameNotFound));
+    let Some(file) = file_spelled(arrival.files, call.name) else {
+        return Err(SmbStatus::ObjectNameNotFound);
     };
-    if call.disposition == 2 {
-        return Ok(failed(alloc, SmbStatus::ObjectNameCollision));
+    if call.disposition == FILE_CREATE {
+        return Err(SmbStatus::ObjectNameCollision);
     }
-    let done = open_keyed(
-        alloc, state, core, keeper, others, head, client, place, call, file,
-    )?;
-    Ok(done)
+    if is_key_elsewhere(state, file, lease_key(client, key_asked(call))) {
+        return Err(SmbStatus::InvalidParameter);
+    }
+    if !has_room(state, arrival.others, core.counter() + 1) {
+        return Err(SmbStatus::InsufficientResources);
+    }
+    Ok(file)
 }
 
-/// CREATE: in a session, on a tree connect of it.
-#[tactic(auto, unfolding(crate::specs::Files::create), using(xl_plan::proofs::BudgetLaws::leaves_self))]
+/// What a CREATE opens, in a session and on a tree connect of it, or why it is refused.
+#[tactic(auto, unfolding(crate::specs::Files::create))]
+fn target_of(
+    core: &Core,
+    state: &SmbState,
+    arrival: &Arrival<'_>,
+    client: &[u8; 16],
+    call: &CreateCall,
+) -> Result<Target, SmbStatus>
+    requires ready { IsReady 3 core.now }
+    ensures checked { create core.now arrival.now.files.now arrival.now.others state.now arrival.now.conn client.now arrival.now.head.now (shown_create_call call.now) ≡ checked result (λ t. open_as core.now arrival.now.others state.now arrival.now.head.now t.client t.place (shown_create_call call.now) t.file (core.now.counter + 1)) }
+    ensures linked { IfOk result (λ t. IsHolderLinked state.now t.client (holder.Tree t.place)) }
+    ensures room { IfOk result (λ t. has_room_for_open arrival.now.others state.now (core.now.counter + 1) ≡ true) }
+{
+    let Some(session) = session_named(core, state, arrival.conn, arrival.head.session_id) else {
+        return Err(SmbStatus::UserSessionDeleted);
+    };
+    let Some(place) = tree_named(state, arrival.conn, client, arrival.head, session) else {
+        return Err(SmbStatus::NetworkNameDeleted);
+    };
+    match file_named(core, state, arrival, client, call) {
+        Ok(file) => Ok(Target {
+            client: *client,
+            place,
+            file,
+        }),
+        Err(status) => Err(status),
+    }
+}
+
+/// CREATE (MS-SMB2 3.3.5.9).
+#[tactic(auto, using(xl_plan::proofs::BudgetLaws::leaves_self))]
 pub(crate) fn create<K: Keeper>(
     alloc: Global,
-    files: &[Sequence<u8>],
     state: &mut SmbState,
     core: &mut Core,
     keeper: &mut K,
-    others: u32,
-    conn: u64,
+    arrival: &Arrival<'_>,
     client: &[u8; 16],
-    head: &SmbHead,
     call: &CreateCall,
 ) -> Result<Done, AllocError>
     requires ready { IsReady 3 core.old }
-    ensures done { (n : ℕ) → IfOk result (λ r. MayBe n core.new → carried n core.old state.old (create core.old files.now others state.old conn client.now head.now (shown_create_call call.now)) ≡ (r.0, r.1, state.new, core.new)) }
+    ensures done { (n : ℕ) → IfOk result (λ r. MayBe n core.new → carried n core.old state.old (create core.old arrival.now.files.now arrival.now.others state.old arrival.now.conn client.now arrival.now.head.now (shown_create_call call.now)) ≡ (r.0, r.1, state.new, core.new)) }
     ensures leaves { OnOk result (Leaves 3 core.old core.new) }
     ensures answer { IfOk result (λ r. IsAnswer (Some command.Create) r.0) }
     ensures keeper { HandedOn keeper.old keeper.new }
 {
-    let Some(session) = session_named(core, state, conn, head.session_id) else {
-        return Ok(failed(alloc, SmbStatus::UserSessionDeleted));
-    };
-    let Some(place) = tree_named(state, conn, client, head, session) else {
-        return Ok(failed(alloc, SmbStatus::NetworkNameDeleted));
-    };
-    let done = create_on(
-        alloc, files, state, core, keeper, others, head, client, &place, call,
-    )?;
-    Ok(done)
+    match target_of(core, state, arrival, client, call) {
+        Ok(target) => Ok(open_as(alloc, state, core, keeper, arrival, &target, call)?),
+        Err(status) => Ok(failed(alloc, status)),
+    }
 }

@@ -7,18 +7,19 @@ ghost use Rattle.xl_smb_state.specs.State.{Lists, open_of, lease_of};
 ghost use Rattle.xl_core.specs.BreakAnswers.{may_be_left};
 ghost use Rattle.xl_core.specs.Deeds.{Acks};
 ghost use Rattle.xl_core.specs.State.{CoreState};
-ghost use Rattle.xl_front_smb.specs.Files.{close_open, close, is_read, leaves_less, is_refused, left_at, ack_by, ack_of, ack_open, may_keep, lease_left, ack_lease_by, ack_lease, break_by, acknowledge};
-ghost use Rattle.xl_front_smb.specs.Plans.{Does, carried};
+ghost use Rattle.xl_front_smb.specs.Files.{close_open, close, is_read, leaves_less, is_refused, left_at, ack_by, ack_oplock, may_keep, lease_left, ack_cache, ack_lease, break_by, acknowledge};
+ghost use Rattle.xl_front_smb.specs.Checks.{refused};
+ghost use Rattle.xl_front_smb.specs.Plans.{Does, Fails, carried};
 ghost use Rattle.xl_front_smb.specs.Replies.{IsAnswer};
 ghost use Rattle.xl_front_smb.specs.Short.{IsReady, Leaves};
 
 use crate::checks::{open_named, session_named, tree_named};
+use crate::creates::LEASE_LEVEL;
 use crate::ending::party_going;
 use crate::locks::open_row;
 use crate::outcome::{Done, failed};
 use crate::told::Told;
 use std::alloc::{AllocError, Global};
-use xl_base::Sequence;
 use xl_cache::{kind_in_lease, oplock_level, rest_within};
 use xl_core::{Core, id_of};
 use xl_matrix::{CacheKind, Claim, What};
@@ -153,12 +154,12 @@ fn ack_running(
     answer_break(alloc, core, cache, left, told)
 }
 
-/// Why an acknowledgement of this level is refused, if no break of this oplock runs.
-fn ack_resting(alloc: Global, level: u8, kind: CacheKind) -> Done
-    ensures done { (n : ℕ) (s : CoreState) (l : Lists) (id : ℕ) (cache : Claim) → carried n s l (ack_by l id level cache (Cache kind None)) ≡ (result.0, result.1, l, s) }
+/// Why an acknowledgement is refused if no break runs: for its level, if that isn't one to go down to.
+fn ack_resting(alloc: Global, above: bool) -> Done
+    ensures done { (n : ℕ) (s : CoreState) (l : Lists) → carried n s l (refused ((above, SmbStatus.InvalidOplockProtocol) ∷ []) (Fails SmbStatus.InvalidDeviceState)) ≡ (result.0, result.1, l, s) }
     ensures answer { IsAnswer (Some command.OplockBreak) result.0 }
 {
-    if is_refused(level, kind, None) {
+    if above {
         return failed(alloc, SmbStatus::InvalidOplockProtocol);
     }
     failed(alloc, SmbStatus::InvalidDeviceState)
@@ -177,25 +178,14 @@ fn ack_by(alloc: Global, core: &mut Core, id: u64, level: u8, cache: &Claim) -> 
         What::Cache(kind, Some(running)) => {
             ack_running(alloc, core, id, level, cache, kind, running)
         }
-        What::Cache(kind, None) => ack_resting(alloc, level, kind),
+        What::Cache(kind, None) => ack_resting(alloc, is_refused(level, kind, None)),
         What::Share(_, _) | What::Range(_, _) => failed(alloc, SmbStatus::InvalidDeviceState),
     }
 }
 
-/// Why an acknowledgement of this level is refused, of an open without an oplock.
-fn ack_none(alloc: Global, level: u8) -> Done
-    ensures done { (n : ℕ) (s : CoreState) (l : Lists) (id : ℕ) → carried n s l (ack_of l id level None) ≡ (result.0, result.1, l, s) }
-    ensures answer { IsAnswer (Some command.OplockBreak) result.0 }
-{
-    if level > 1 {
-        return failed(alloc, SmbStatus::InvalidOplockProtocol);
-    }
-    failed(alloc, SmbStatus::InvalidDeviceState)
-}
-
-/// What an acknowledgement of this level comes to, of an open.
+/// What an acknowledgement of this level comes to, of an open (MS-SMB2 3.3.5.22.1).
 #[tactic(auto, using(xl_plan::proofs::BudgetLaws::leaves_self))]
-fn ack_open(
+fn ack_oplock(
     alloc: Global,
     state: &SmbState,
     core: &mut Core,
@@ -203,16 +193,19 @@ fn ack_open(
     number: u32,
 ) -> Result<Done, AllocError>
     requires ready { IsReady 0 core.old }
-    ensures done { (n : ℕ) → IfOk result (λ r. carried n core.old state.now (ack_open core.old state.now level number (open_of number state.now)) ≡ (r.0, r.1, state.now, core.new)) }
+    ensures done { (n : ℕ) → IfOk result (λ r. carried n core.old state.now (ack_oplock core.old state.now level number) ≡ (r.0, r.1, state.now, core.new)) }
     ensures leaves { OnOk result (Leaves 0 core.old core.new) }
     ensures answer { IfOk result (λ r. IsAnswer (Some command.OplockBreak) r.0) }
 {
+    if level == LEASE_LEVEL {
+        return Ok(failed(alloc, SmbStatus::InvalidParameter));
+    }
     let Some(row) = open_row(state, number) else {
         return Ok(failed(alloc, SmbStatus::FileClosed));
     };
     let id = id_of(core, number);
     let Some(cache) = oplock_of(alloc, core, row.file, number)? else {
-        return Ok(ack_none(alloc, level));
+        return Ok(ack_resting(alloc, level > 1));
     };
     Ok(ack_by(alloc, core, id, level, &cache))
 }
@@ -238,10 +231,10 @@ fn lease_left(lease: &Lease) -> Lease
 
 /// What an acknowledgement of this state comes to, if this is the lease's cache.
 #[tactic(auto, using(xl_plan::proofs::BudgetLaws::leaves_self, crate::proofs::AckLaws::kept_within))]
-fn ack_lease_by(alloc: Global, core: &mut Core, lease: &Lease, cache: &Claim) -> Done
+fn ack_cache(alloc: Global, core: &mut Core, lease: &Lease, cache: &Claim) -> Done
     requires ready { IsReady 0 core.old }
     requires held { IsIn cache.now core.old.claims }
-    ensures done { (n : ℕ) (l : Lists) → carried n core.old l (ack_lease_by l lease.now cache.now cache.now.what) ≡ (result.0, result.1, l, core.new) }
+    ensures done { (n : ℕ) (l : Lists) → carried n core.old l (ack_cache l lease.now cache.now) ≡ (result.0, result.1, l, core.new) }
     ensures leaves { Leaves 0 core.old core.new }
     ensures answer { IsAnswer (Some command.OplockBreak) result.0 }
 {
@@ -266,7 +259,7 @@ fn file_leased(state: &SmbState, client: &[u8; 16], key: &[u8; 16]) -> Option<u3
     Some(found.file)
 }
 
-/// What an acknowledgement comes to, of a lease of a client.
+/// What an acknowledgement comes to, of a lease of a client (MS-SMB2 3.3.5.22.2).
 #[tactic(auto, using(xl_plan::proofs::BudgetLaws::leaves_self))]
 fn ack_lease(
     alloc: Global,
@@ -276,7 +269,7 @@ fn ack_lease(
     lease: &Lease,
 ) -> Result<Done, AllocError>
     requires ready { IsReady 0 core.old }
-    ensures done { (n : ℕ) → IfOk result (λ r. carried n core.old state.now (ack_lease core.old state.now client.now lease.now (lease_of (record { client = client.now; key = lease.now.key }) state.now)) ≡ (r.0, r.1, state.now, core.new)) }
+    ensures done { (n : ℕ) → IfOk result (λ r. carried n core.old state.now (ack_lease core.old state.now client.now lease.now) ≡ (r.0, r.1, state.now, core.new)) }
     ensures leaves { OnOk result (Leaves 0 core.old core.new) }
     ensures answer { IfOk result (λ r. IsAnswer (Some command.OplockBreak) r.0) }
 {
@@ -287,7 +280,7 @@ fn ack_lease(
     let Some(cache) = cache_of(alloc, core, file, party)? else {
         return Ok(failed(alloc, SmbStatus::Unsuccessful));
     };
-    Ok(ack_lease_by(alloc, core, lease, &cache))
+    Ok(ack_cache(alloc, core, lease, &cache))
 }
 
 /// What an acknowledgement comes to, of an open under the connection or of a lease.
@@ -310,10 +303,7 @@ fn break_by(
             let Some(number) = open_named(core, state, conn, id) else {
                 return Ok(failed(alloc, SmbStatus::FileClosed));
             };
-            if level == 0xFF {
-                return Ok(failed(alloc, SmbStatus::InvalidParameter));
-            }
-            let done = ack_open(alloc, state, core, level, number)?;
+            let done = ack_oplock(alloc, state, core, level, number)?;
             Ok(done)
         }
         Break::Lease(lease) => Ok(ack_lease(alloc, state, core, client, &lease)?),

@@ -1,6 +1,7 @@
 //! The SMB front: what the messages of SMB 2.1 connections are answered (MS-SMB2 3.3.5, dialect 0x0210), over the core.
 #![tactic(auto)]
 
+mod arrival;
 mod checks;
 mod creates;
 mod ending;
@@ -16,6 +17,7 @@ mod step;
 mod texts;
 mod told;
 
+pub use arrival::Packet;
 pub use ending::smb_end;
 pub use front::{SmbFront, smb_begin};
 pub use step::{smb_shown, smb_step};

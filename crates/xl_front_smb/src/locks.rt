@@ -8,12 +8,14 @@ ghost use Rattle.xl_smb_state.specs.State.{open_of};
 ghost use Rattle.xl_wait.specs.Waiting.{is_waiting};
 ghost use Rattle.xl_core.specs.State.{MayBe};
 ghost use Rattle.xl_smb_locks.specs.Elements.{is_count, unlocks_first, lock_fault};
-ghost use Rattle.xl_smb_locks.specs.Locks.{lock_ask, unlocks};
-ghost use Rattle.xl_front_smb.specs.Locks.{header_of, place_of, waiting_row, unlock_by, lock_by, lock_on, lock_found, lock, came_by, request_named, cancel_named, cancel};
-ghost use Rattle.xl_front_smb.specs.Plans.{Locks, has_room_to_wait, with_waiting, lists_as, told_as, carried};
+ghost use Rattle.xl_smb_locks.specs.Locks.{unlocks};
+ghost use Rattle.xl_front_smb.specs.Checks.{checked};
+ghost use Rattle.xl_front_smb.specs.Locks.{header_of, place_of, waiting_row, unlock_by, lock_by, lock_on, lock, came_by, request_named, cancel_named, cancel};
+ghost use Rattle.xl_front_smb.specs.Plans.{has_room_to_wait, with_waiting, lists_as, told_as, carried};
 ghost use Rattle.xl_front_smb.specs.Replies.{IsAnswer};
 ghost use Rattle.xl_front_smb.specs.Short.{IsReady, Leaves};
 
+use crate::arrival::{Arrival, Held};
 use crate::checks::{open_named, session_named, tree_named};
 use crate::outcome::{Done, failed, told};
 use crate::replies::tree_id;
@@ -114,21 +116,29 @@ fn lock_all<K: Keeper>(
     state: &mut SmbState,
     core: &mut Core,
     keeper: &mut K,
-    conn: u64,
-    kept: Waiting,
-    number: u32,
-    row: &Open,
+    arrival: &Arrival<'_>,
+    held: &Held,
     elements: &[LockElement],
 ) -> Result<Done, AllocError>
     requires ready { IsReady 2 core.old }
     requires sound { lock_fault elements.now ≡ None }
     requires some { 1 ≤ length elements.now }
-    ensures done { (n : ℕ) → IfOk result (λ r. MayBe n core.new → carried n core.old state.old (Locks (lock_ask conn number row.now elements.now) kept) ≡ (r.0, r.1, state.new, core.new)) }
+    ensures done { (n : ℕ) → IfOk result (λ r. MayBe n core.new → carried n core.old state.old (lock_by arrival.now.conn (waiting_row arrival.now.head.now (place_of held.now.row.holder held.now.place) held.now.number Request.Lock) held.now.number held.now.row elements.now None) ≡ (r.0, r.1, state.new, core.new)) }
     ensures leaves { OnOk result (Leaves 2 core.old core.new) }
     ensures answer { IfOk result (λ r. IsAnswer (Some command.Lock) r.0) }
     ensures keeper { HandedOn keeper.old keeper.new }
 {
-    let (locking, effects) = xl_smb_locks::lock(alloc, core, keeper, conn, number, row, elements)?;
+    let (locking, effects) = xl_smb_locks::lock(
+        alloc,
+        core,
+        keeper,
+        arrival.conn,
+        held.number,
+        &held.row,
+        elements,
+    )?;
+    let place = place_of(held.row.holder, &held.place);
+    let kept = waiting_row(alloc, arrival.head, place, held.number, Request::Lock);
     keep(state, kept, locking)?;
     Ok((told_as(locking), effects))
 }
@@ -160,15 +170,12 @@ fn lock_on<K: Keeper>(
     state: &mut SmbState,
     core: &mut Core,
     keeper: &mut K,
-    conn: u64,
-    head: &SmbHead,
-    number: u32,
-    place: &Place,
+    arrival: &Arrival<'_>,
+    held: &Held,
     elements: &[LockElement],
-    row: &Open,
 ) -> Result<Done, AllocError>
     requires ready { IsReady 2 core.old }
-    ensures done { (n : ℕ) → IfOk result (λ r. MayBe n core.new → carried n core.old state.old (lock_on core.old state.old conn head.now number place.now elements.now row.now) ≡ (r.0, r.1, state.new, core.new)) }
+    ensures done { (n : ℕ) → IfOk result (λ r. MayBe n core.new → carried n core.old state.old (lock_on core.old state.old arrival.now.conn arrival.now.head.now held.now.number held.now.place elements.now held.now.row) ≡ (r.0, r.1, state.new, core.new)) }
     ensures leaves { OnOk result (Leaves 2 core.old core.new) }
     ensures answer { IfOk result (λ r. IsAnswer (Some command.Lock) r.0) }
     ensures keeper { HandedOn keeper.old keeper.new }
@@ -177,21 +184,13 @@ fn lock_on<K: Keeper>(
         return Ok(failed(alloc, SmbStatus::InvalidParameter));
     }
     if unlocks_first(elements) {
-        return Ok(unlock_all(alloc, state, core, keeper, number, row, elements)?);
+        let done = unlock_all(alloc, state, core, keeper, held.number, &held.row, elements)?;
+        return Ok(done);
     }
     if let Some(status) = lock_fault(elements) {
         return Ok(failed(alloc, status));
     }
-    let waiting = waiting_row(
-        alloc,
-        head,
-        place_of(row.holder, place),
-        number,
-        Request::Lock,
-    );
-    let done = lock_all(
-        alloc, state, core, keeper, conn, waiting, number, row, elements,
-    )?;
+    let done = lock_all(alloc, state, core, keeper, arrival, held, elements)?;
     Ok(done)
 }
 
@@ -205,64 +204,57 @@ pub(crate) fn open_row(state: &SmbState, number: u32) -> Option<Open>
     }
 }
 
-/// Locks or unlocks ranges of an open that is found.
-#[tactic(auto, using(xl_plan::proofs::BudgetLaws::leaves_self))]
-fn lock_found<K: Keeper>(
-    alloc: Global,
-    state: &mut SmbState,
-    core: &mut Core,
-    keeper: &mut K,
-    conn: u64,
-    head: &SmbHead,
-    number: u32,
-    place: &Place,
+/// The open that a LOCK names, in a session, on a tree connect of it and under the connection, or why it is refused.
+#[tactic(auto, unfolding(crate::specs::Locks::lock))]
+fn held_of(
+    core: &Core,
+    state: &SmbState,
+    arrival: &Arrival<'_>,
+    client: &[u8; 16],
     call: &LockCall<'_>,
-) -> Result<Done, AllocError>
-    requires ready { IsReady 2 core.old }
-    ensures done { (n : ℕ) → IfOk result (λ r. MayBe n core.new → carried n core.old state.old (lock_found core.old state.old conn head.now number place.now (elements_of (shown_lock call.now).elements) (open_of number state.old)) ≡ (r.0, r.1, state.new, core.new)) }
-    ensures leaves { OnOk result (Leaves 2 core.old core.new) }
-    ensures answer { IfOk result (λ r. IsAnswer (Some command.Lock) r.0) }
-    ensures keeper { HandedOn keeper.old keeper.new }
+) -> Result<Held, SmbStatus>
+    ensures { lock core.now state.now arrival.now.conn client.now arrival.now.head.now (shown_lock call.now) ≡ checked result (λ o. lock_on core.now state.now arrival.now.conn arrival.now.head.now o.number o.place (elements_of (shown_lock call.now).elements) o.row) }
 {
-    let Some(row) = open_row(state, number) else {
-        return Ok(failed(alloc, SmbStatus::FileClosed));
+    let Some(session) = session_named(core, state, arrival.conn, arrival.head.session_id) else {
+        return Err(SmbStatus::UserSessionDeleted);
     };
-    let elements = elements_of(alloc, call.elements)?;
-    let done = lock_on(
-        alloc, state, core, keeper, conn, head, number, place, &elements, &row,
-    )?;
-    Ok(done)
+    let Some(place) = tree_named(state, arrival.conn, client, arrival.head, session) else {
+        return Err(SmbStatus::NetworkNameDeleted);
+    };
+    let Some(number) = open_named(core, state, arrival.conn, call.file_id) else {
+        return Err(SmbStatus::FileClosed);
+    };
+    let Some(row) = open_row(state, number) else {
+        return Err(SmbStatus::FileClosed);
+    };
+    Ok(Held { place, number, row })
 }
 
-/// LOCK: in a session, on a tree connect of it, of an open under the connection.
-#[tactic(auto, unfolding(crate::specs::Locks::lock), using(xl_plan::proofs::BudgetLaws::leaves_self))]
+/// LOCK (MS-SMB2 3.3.5.14).
+#[tactic(auto, using(xl_plan::proofs::BudgetLaws::leaves_self))]
 pub(crate) fn lock<K: Keeper>(
     alloc: Global,
     state: &mut SmbState,
     core: &mut Core,
     keeper: &mut K,
-    conn: u64,
+    arrival: &Arrival<'_>,
     client: &[u8; 16],
-    head: &SmbHead,
     call: &LockCall<'_>,
 ) -> Result<Done, AllocError>
     requires ready { IsReady 2 core.old }
-    ensures done { (n : ℕ) → IfOk result (λ r. MayBe n core.new → carried n core.old state.old (lock core.old state.old conn client.now head.now (shown_lock call.now)) ≡ (r.0, r.1, state.new, core.new)) }
+    ensures done { (n : ℕ) → IfOk result (λ r. MayBe n core.new → carried n core.old state.old (lock core.old state.old arrival.now.conn client.now arrival.now.head.now (shown_lock call.now)) ≡ (r.0, r.1, state.new, core.new)) }
     ensures leaves { OnOk result (Leaves 2 core.old core.new) }
     ensures answer { IfOk result (λ r. IsAnswer (Some command.Lock) r.0) }
     ensures keeper { HandedOn keeper.old keeper.new }
 {
-    let Some(session) = session_named(core, state, conn, head.session_id) else {
-        return Ok(failed(alloc, SmbStatus::UserSessionDeleted));
-    };
-    let Some(place) = tree_named(state, conn, client, head, session) else {
-        return Ok(failed(alloc, SmbStatus::NetworkNameDeleted));
-    };
-    let Some(number) = open_named(core, state, conn, call.file_id) else {
-        return Ok(failed(alloc, SmbStatus::FileClosed));
-    };
-    let done = lock_found(alloc, state, core, keeper, conn, head, number, &place, call)?;
-    Ok(done)
+    match held_of(core, state, arrival, client, call) {
+        Ok(held) => {
+            let elements = elements_of(alloc, call.elements)?;
+            let done = lock_on(alloc, state, core, keeper, arrival, &held, &elements)?;
+            Ok(done)
+        }
+        Err(status) => Ok(failed(alloc, status)),
+    }
 }
 
 /// Whether a request came by this connection.

@@ -13,7 +13,7 @@ use xl_smb::{
     Break, CloseReply, Command, NegotiateReply, Route, SessionSetupReply, SmbHead, SmbMessage,
     SmbReply, TreeConnectReply, write,
 };
-use xl_smb_locks::{contexts_told, file_id, file_of, opened};
+use xl_smb_locks::{PENDING, SUCCESS, contexts_told, file_id, file_of, opened};
 
 /// The credits that are granted if so many are asked for.
 #[tactic(auto, unfolding(crate::specs::Replies::credits_for))]
@@ -52,9 +52,6 @@ fn reply_head(head: &SmbHead, status: u32, tree: u32, session: u64) -> SmbHead
     }
 }
 
-/// The status of a request that waits (MS-SMB2 3.3.4.2).
-const PENDING: u32 = 0x103;
-
 /// The header of STATUS_PENDING, which names the AsyncId.
 #[tactic(auto, unfolding(crate::specs::Replies::pending_head))]
 fn pending_head(head: &SmbHead, id: u32) -> SmbHead
@@ -81,8 +78,8 @@ fn head_by(head: &SmbHead, told: Told) -> SmbHead
     let tree = tree_id(head.route);
     match told {
         Told::Failed(status) => reply_head(head, status.number(), tree, head.session_id),
-        Told::SetUp(session) => reply_head(head, 0, tree, session),
-        Told::Connected(tree) => reply_head(head, 0, tree, head.session_id),
+        Told::SetUp(session) => reply_head(head, SUCCESS, tree, session),
+        Told::Connected(tree) => reply_head(head, SUCCESS, tree, head.session_id),
         Told::Pending(id) => pending_head(head, id),
         Told::Nothing
         | Told::Negotiated
@@ -93,7 +90,7 @@ fn head_by(head: &SmbHead, told: Told) -> SmbHead
         | Told::Answered(_)
         | Told::Closed
         | Told::Locked
-        | Told::Echoed => reply_head(head, 0, tree, head.session_id),
+        | Told::Echoed => reply_head(head, SUCCESS, tree, head.session_id),
     }
 }
 

@@ -8,6 +8,7 @@ ghost use Rattle.xl_core.specs.State.{MayBe};
 ghost use Rattle.xl_front_smb.specs.FrontSmb.{sent_by, smb_step, smb_shown};
 ghost use Rattle.xl_front_smb.specs.Short.{IsReady, Leaves};
 
+use crate::arrival::{Arrival, Packet};
 use crate::ending::dismiss_all;
 use crate::front::SmbFront;
 use crate::replies::reply_of;
@@ -31,13 +32,12 @@ fn sent_by(alloc: Global, conn: u64, reply: Option<Vec<u8>>) -> Result<Sequence<
     }
 }
 
-/// Answers a message of the SMB connection of this number, all of one frame: the final replies to the requests that it
-/// cancels, in order of arrival, and its own reply, if there is one, each without its frame and at most 65,536 bytes
-/// long; and what the core told of besides. The other fronts have this number of opens. NEGOTIATE, SESSION_SETUP,
-/// LOGOFF, TREE_CONNECT, TREE_DISCONNECT, CREATE, CLOSE, LOCK, CANCEL, ECHO and acknowledgements of the breaks of
-/// oplocks and leases are served. A CANCEL gets no reply, nor does what has no header of SMB 2.1 or is a reply by its
-/// flags. The breaks that begin for it come first among what the core tells of. After an error nothing is known of the
-/// front and the core.
+/// Answers a message of an SMB connection: the final replies to the requests that it cancels, in order of arrival, and
+/// its own reply, if there is one, each without its frame and at most 65,536 bytes long; and what the core told of
+/// besides. The other fronts have this number of opens. NEGOTIATE, SESSION_SETUP, LOGOFF, TREE_CONNECT,
+/// TREE_DISCONNECT, CREATE, CLOSE, LOCK, CANCEL, ECHO and acknowledgements of the breaks of oplocks and leases are
+/// served. A CANCEL gets no reply, nor does what has no header of SMB 2.1 or is a reply by its flags. The breaks that
+/// begin for it come first among what the core tells of. After an error nothing is known of the front and the core.
 #[tactic(auto, unfolding(crate::specs::FrontSmb::smb_step), using(xl_plan::proofs::BudgetLaws::leaves_self, xl_plan::proofs::BudgetLaws::leaves_more, xl_plan::proofs::BudgetLaws::ready_less, xl_smb_locks::proofs::FinalLaws::fit_both))]
 pub fn smb_step<K: Keeper>(
     alloc: Global,
@@ -45,37 +45,38 @@ pub fn smb_step<K: Keeper>(
     front: &mut SmbFront,
     core: &mut Core,
     keeper: &mut K,
-    conn: u64,
-    bytes: &[u8],
+    packet: &Packet<'_>,
     others: u32,
 ) -> Result<(Sequence<Out>, Sequence<Effect>), AllocError>
     requires ready { IsReady 3 core.old }
-    ensures state { (n : ℕ) → IfOk result (λ r. MayBe n core.new → smb_step n exports.now others front.old core.old conn bytes.now ≡ (r.0, r.1, front.new, core.new)) }
+    ensures state { (n : ℕ) → IfOk result (λ r. MayBe n core.new → smb_step n exports.now others front.old core.old packet.now.conn packet.now.bytes.now ≡ (r.0, r.1, front.new, core.new)) }
     ensures leaves { OnOk result (Leaves 3 core.old core.new) }
     ensures little { IfOk result (λ r. AllByRecursion FitsFrame r.0) }
     ensures keeper { HandedOn keeper.old keeper.new }
 {
-    let Ok(head) = read_head(bytes) else {
+    let Ok(head) = read_head(packet.bytes) else {
         return Ok((Sequence::new(alloc), Sequence::new(alloc)));
     };
     if head.is_reply() {
         return Ok((Sequence::new(alloc), Sequence::new(alloc)));
     }
-    let files = exports.files.as_slice();
+    let arrival = Arrival {
+        files: exports.files.as_slice(),
+        others,
+        conn: packet.conn,
+        head: &head,
+    };
     let (told, effects) = requested(
         alloc,
-        files,
         &mut front.state,
         core,
         keeper,
-        others,
-        conn,
-        bytes,
-        &head,
+        &arrival,
+        packet.bytes,
     )?;
     let mut outs = dismiss_all(alloc, &mut front.state, effects.as_slice())?;
     let reply = reply_of(alloc, &head, told)?;
-    push_all(&mut outs, sent_by(alloc, conn, reply)?)?;
+    push_all(&mut outs, sent_by(alloc, packet.conn, reply)?)?;
     Ok((outs, effects))
 }
 

@@ -28,7 +28,7 @@ use std::alloc::{AllocError, Global};
 use xl_base::{Event, Exports, Keeper, Kind, Moment, Out, Sequence};
 use xl_front_nfs::{nfs_step, nfs_tick};
 use xl_front_nlm::{NlmLayers, nlm_called, nlm_step};
-use xl_front_smb::{smb_begin, smb_end, smb_step};
+use xl_front_smb::{Packet, smb_begin, smb_end, smb_step};
 use xl_programs::{Incoming, Program, Request, read_incoming, refusal, sent_to};
 use xl_rpc::Verdict;
 
@@ -178,8 +178,10 @@ fn hear_packet<K: Keeper>(
         &mut layers.front.smb,
         &mut layers.core,
         keeper,
-        number,
-        bytes,
+        &Packet {
+            conn: number,
+            bytes,
+        },
         others,
     )?;
     let outs = sent_with(alloc, exports, Kind::Smb, layers, reply, effects)?;

@@ -1,6 +1,5 @@
 -- What is asked is of its open, and the caches are those that the breaks leave that are told of.
 use Rattle.std.proofs.Common.{◌≡◌, ℕ, ◌+◌, Bool, true, false, not, if◌then◌else◌, List, [], ◌∷◌, ◌++◌, length, Option, Some, None, refl, sym, ap, subst, ◌∙◌, append-nil}
-use Rattle.std.specs.Prelude.{◌==◌, nat_lt}
 use Rattle.std.specs.List.{AllByRecursion}
 use Rattle.xl_smb.specs.Calls.{Create, Lock}
 use Rattle.xl_smb.specs.Creates.{CreateCallItem}
@@ -40,17 +39,17 @@ use Rattle.xl_smb_locks.specs.declared.status.SmbStatus.{SmbStatus}
 use Rattle.xl_smb_locks.specs.declared.status.SmbStatus.TheVariants as status
 use Rattle.xl_smb_locks.proofs.FitLaws.{party_fits}
 use Rattle.xl_front_smb.specs.Checks.{id_of}
-use Rattle.xl_front_smb.specs.Files.{has_room_for_open, is_key_elsewhere, key_asked, lease_key, open_as, open_ask, open_row, overwrites, rooms_left}
+use Rattle.xl_front_smb.specs.Files.{open_as, open_ask, open_row, rooms_left}
 use Rattle.xl_front_smb.specs.Laws.{IsOnTree, outcome_of}
 use Rattle.xl_front_smb.specs.Locks.{lock_by, lock_on, place_of, unlock_by, waiting_row}
-use Rattle.xl_front_smb.specs.Plans.{Fails, Outcome, Plan, carried, deeds_of, opened_told}
+use Rattle.xl_front_smb.specs.Plans.{Outcome, Plan, carried, deeds_of, opened_told}
 use Rattle.xl_front_smb.specs.Requests.{planned}
 use Rattle.xl_front_smb.specs.Texts.{file_spelled}
 use Rattle.xl_front_smb.specs.declared.told.Told.TheVariants as told
 use Rattle.xl_smb_laws.specs.AskedRows.{IsAskOf, IsPartyOf, OnlyTold}
 use Rattle.xl_smb_laws.specs.LockLaws.{IsOfOpen}
-use Rattle.xl_smb_laws.proofs.CreateLaws.{found_is, found_plan}
-use Rattle.xl_smb_laws.proofs.PlanWalks.{walk_create, walk_if, walk_unless}
+use Rattle.xl_smb_laws.proofs.CreateLaws.{found_is, found_checks}
+use Rattle.xl_smb_laws.proofs.PlanWalks.{walk_created, walk_refused}
 use Rattle.xl_smb_laws.proofs.RangeLaws.{by_lock, lock_named, lock_planned}
 
 -- ---- for whom it is asked
@@ -90,33 +89,27 @@ locks_of n s l conn kept number row es (Some refused) = tt
 locks_of n s l conn kept number row es None = ((refl, refl, own_party number row), tt)
 
 module _ (n : ℕ) (s : CoreState) (files : List (List ℕ)) (others : ℕ) (l : Lists) (conn : ℕ) (h : SmbHead) (client : List ℕ) where
-  on_of : (number : ℕ) (place : Place) (es : List LockElement) (row : Open) (count first : Bool)
-      → AllByRecursion (IsAskOf number row) (deeds_of n s l (if not count then Fails status.InvalidParameter else if first then unlock_by l (unlocks s number row es) else lock_by conn (waiting_row h (place_of row.holder place) number request.Lock) number row es (lock_fault es)))
-  on_of number place es row false first = tt
-  on_of number place es row true true = unlocks_of s number row es
-  on_of number place es row true false = locks_of n s l conn (waiting_row h (place_of row.holder place) number request.Lock) number row es (lock_fault es)
+  on_of : (number : ℕ) (place : Place) (es : List LockElement) (row : Open) (first : Bool)
+      → AllByRecursion (IsAskOf number row) (deeds_of n s l (if first then unlock_by l (unlocks s number row es) else lock_by conn (waiting_row h (place_of row.holder place) number request.Lock) number row es (lock_fault es)))
+  on_of number place es row true = unlocks_of s number row es
+  on_of number place es row false = locks_of n s l conn (waiting_row h (place_of row.holder place) number request.Lock) number row es (lock_fault es)
 
   pub lock_asks_of : (c : LockItem) (session : ℕ) (place : Place) (number : ℕ) (row : Open) → IsOfOpen s l conn h client c.file_id session place number row → AllByRecursion (IsAskOf number row) (deeds_of n s l (planned s files others l conn h (Lock c)))
   lock_asks_of c session place number row of =
       let es = elements_of c.elements in
       subst (λ (x : Plan). AllByRecursion (IsAskOf number row) (deeds_of n s l x)) (sym (lock_planned n s files others l conn h client c of.0.0.0 ∙ lock_named n s files others l conn h client c session place number row of))
-      (on_of number place es row (is_count (length es)) (unlocks_first es))
+      (walk_refused (λ plan. AllByRecursion (IsAskOf number row) (deeds_of n s l plan)) (λ refusal. tt) ((not (is_count (length es)), status.InvalidParameter) ∷ [])
+      (if unlocks_first es then unlock_by l (unlocks s number row es) else lock_by conn (waiting_row h (place_of row.holder place) number request.Lock) number row es (lock_fault es)) (λ all. on_of number place es row (unlocks_first es)))
 
   opens_of : (c : CreateCallItem) (file : ℕ) (place : Place) → AllByRecursion (IsAskOf (s.counter + 1) (open_row file client place c)) (deeds_of n s l (open_as s others l h client place c file (s.counter + 1)))
   unfolding open_ask
   opens_of c file place = (tt, ((refl, refl, own_party (s.counter + 1) (open_row file client place c)), tt))
 
   pub create_asks_of : (c : CreateCallItem) (session file : ℕ) (place : Place) → IsOnTree s l conn h client session place → file_spelled files c.name ≡ Some file → AllByRecursion (IsAskOf (s.counter + 1) (open_row file client place c)) (deeds_of n s l (planned s files others l conn h (Create c)))
-  unfolding found_plan
   create_asks_of c session file place named at =
       let P : Plan → Type 0 = λ plan. AllByRecursion (IsAskOf (s.counter + 1) (open_row file client place c)) (deeds_of n s l plan) in
-      let stop = λ (refused : SmbStatus). tt in
       subst P (sym (found_is s files others l conn h client c session file place named at))
-      (walk_unless P stop (nat_lt 5 c.disposition) status.InvalidParameter _
-      (walk_unless P stop (overwrites c.disposition) status.NotSupported _
-      (walk_unless P stop (c.disposition == 2) status.ObjectNameCollision _
-      (walk_unless P stop (is_key_elsewhere file (lease_key client (key_asked c)) l) status.InvalidParameter _
-      (walk_if P stop (has_room_for_open others l (s.counter + 1)) status.InsufficientResources (open_as s others l h client place c file (s.counter + 1)) (opens_of c file place))))))
+      (walk_refused P (λ refusal. tt) (found_checks s others l client c file) (open_as s others l h client place c file (s.counter + 1)) (λ all. opens_of c file place))
 
 -- ---- the caches
 
@@ -177,4 +170,4 @@ module _ (n : ℕ) (s : CoreState) (files : List (List ℕ)) (others : ℕ) (l :
       subst (λ (told : List Effect). OnlyTold s told r.2) (sym (append-nil r.1)) (asked_only n (rooms_left others l) (drawn s) a (drawn_good s good) (party_fits number row) (ap caches_of same))
 
   pub creates_only : (c : CreateCallItem) → IsGood s → NotOpen (planned s files others l conn h (Create c))
-  creates_only c good = walk_create NotOpen (λ refused shut. still_only s) s files others l conn h c (λ client place file here. opens_only good client place c file)
+  creates_only c good = walk_created NotOpen (λ refused shut. still_only s) s files others l conn h c (λ client place file here. opens_only good client place c file)

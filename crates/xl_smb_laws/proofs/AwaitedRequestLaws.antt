@@ -26,20 +26,17 @@ use Rattle.xl_smb.specs.Locks.{LockItem, elements_of}
 use Rattle.xl_smb.specs.Messages.{MessageItem, Call, Reply, Told, message_at}
 use Rattle.xl_smb.specs.Sessions.{NegotiateCallItem, dialects_of}
 use Rattle.xl_smb.specs.declared.breaks.Break.{Break as Acknowledgement}
-use Rattle.xl_matrix.specs.declared.claim.Break.{Break}
 use Rattle.xl_matrix.specs.declared.claim.What.TheVariants as whats
 use Rattle.xl_smb_state.specs.declared.row.Request.{Request}
 use Rattle.xl_smb_state.specs.declared.row.Request.TheVariants as request
-use Rattle.xl_smb.specs.declared.breaks.Break.TheVariants as held
 use Rattle.xl_smb.specs.declared.fault.SmbBad.{SmbBad}
 use Rattle.xl_smb.specs.declared.file.FileId.{FileId}
 use Rattle.xl_smb.specs.declared.head.SmbHead.{SmbHead}
-use Rattle.xl_smb.specs.declared.lease.Lease.{Lease}
 use Rattle.xl_smb.specs.declared.lock.LockElement.{LockElement}
 use Rattle.xl_smb_state.proofs.LeaseLaws.{with_keeps}
 use Rattle.xl_smb_state.proofs.RowLaws.{equal_from, equal_self, lookup_added, lookup_removed, unequal_both, none_out, none_some, same_Some}
 use Rattle.xl_smb_state.specs.Links.{AreDistinct, IsSound, has_place, most_opens}
-use Rattle.xl_smb_state.specs.State.{Lists, client_of, closed, connection_added, connection_changed, connection_of, file_for, is_key, key_of, makes_open, open_of, opens_under, session_added, session_of, tree_added, sessions_on, waiting_added, waiting_of, creates_under, lease_of as lease_row, waiting_dropped, with_open}
+use Rattle.xl_smb_state.specs.State.{Lists, client_of, closed, connection_added, connection_changed, connection_of, file_for, is_key, key_of, makes_open, open_of, opens_under, session_added, session_of, tree_added, sessions_on, waiting_added, waiting_of, creates_under, waiting_dropped, with_open}
 use Rattle.xl_smb_state.specs.declared.row.Connection.{Connection}
 use Rattle.xl_smb_state.specs.declared.row.Holder.TheVariants as holder
 use Rattle.xl_smb_state.specs.declared.row.Lease.{Lease as LeaseRow}
@@ -49,7 +46,6 @@ use Rattle.xl_smb_state.specs.declared.row.Place.{Place}
 use Rattle.xl_smb_state.specs.declared.row.Scope.{Scope}
 use Rattle.xl_smb_state.specs.declared.row.Scope.TheVariants as scope
 use Rattle.xl_smb_state.specs.declared.row.Waiting.{Waiting}
-use Rattle.xl_cache.specs.Levels.{kind_of_state, level_of}
 use Rattle.xl_wait.specs.Waiting.{no_rows, cancelled, is_waiting}
 use Rattle.xl_wait.specs.declared.waiter.Rooms.{Rooms}
 use Rattle.xl_wait.specs.declared.waiter.Waiter.{Waiter}
@@ -75,7 +71,7 @@ use Rattle.xl_core.specs.declared.ask.Effect.TheVariants as effects
 use Rattle.xl_core.specs.declared.ask.Who.{Who}
 use Rattle.xl_core.specs.declared.ask.Who.TheVariants as who
 use Rattle.xl_smb_locks.proofs.UnlockLaws.{any_stores, no_way}
-use Rattle.xl_smb_locks.specs.Elements.{extent_of, is_count, lock_fault, unlock_fault, unlocks_first}
+use Rattle.xl_smb_locks.specs.Elements.{extent_of, is_count, unlock_fault}
 use Rattle.xl_smb_locks.specs.Finals.{and_sent, cancels, dismissed, ended_with, is_cancelled, request_ended, told_of, open_refusal, opened_outs, request_served, served_with, may_stand, served_by, stood}
 use Rattle.xl_smb_locks.specs.Locks.{lock_ask, lock_told, range_of, unlock_ask, unlock_next, unlock_told, unlocks}
 use Rattle.xl_smb_locks.specs.declared.locking.Locking.{Locking}
@@ -84,16 +80,16 @@ use Rattle.xl_smb_locks.specs.declared.status.SmbStatus.TheVariants as statuses
 use Rattle.xl_smb_laws.specs.WaitingRequests.{AreAwaited, AsksToOpen, IsAskerOf, IsAwaited, IsOnFile, IsUnder, IsUsedOn, serves_request}
 use Rattle.xl_front_smb.specs.Checks.{file_number, id_of, is_fresh, is_open_on, negotiated_by, number_in}
 use Rattle.xl_front_smb.specs.Ending.{all_closed, party_going, leavers_under, connection_gone, session_gone, ends, smb_end, all_dismissed, all_ended, numbers_under, requests_gone}
-use Rattle.xl_front_smb.specs.Files.{acknowledge, may_keep, lease_left, ack_lease_by, ack_cache, ack_lease, break_by, close, close_open, create, create_on, has_room_for_open, key_asked, lease_key, is_key_elsewhere, open_keyed, open_as, open_ask, open_file, open_found, open_row, overwrites, access_of, all_opens, ack_by, ack_level, ack_of, ack_open, deny_of, is_refused, left_at, refused_ack, taken_ack}
+use Rattle.xl_front_smb.specs.Files.{acknowledge, close, close_open, create, has_room_for_open, key_asked, lease_key, is_key_elsewhere, open_as, open_ask, open_row, access_of, all_opens, deny_of}
 use Rattle.xl_front_smb.specs.FrontSmb.{head_heard, plan_for, smb_shown, smb_step, stepped}
 use Rattle.xl_front_smb.specs.Laws.{rows_but, waits_among}
-use Rattle.xl_front_smb.specs.Locks.{cancel, cancel_named, lock, lock_by, lock_found, place_of, request_named, unlock_by, waiting_row}
+use Rattle.xl_front_smb.specs.Locks.{cancel, cancel_named, lock, request_named}
 use Rattle.xl_front_smb.specs.Owners.{is_session_on}
 use Rattle.xl_front_smb.specs.Plans.{Plan, Fails, Does, Opens, Locks, Outcome, carried, has_room_to_wait, with_waiting, lists_as, opened_lists}
 use Rattle.xl_front_smb.specs.Requests.{commanded, planned, read_as, requested}
 use Rattle.xl_front_smb.specs.Sessions.{connect, connect_as, disconnect, has_room_for_session, has_room_for_tree, logoff, negotiate, offers, session_setup, set_up_as, tree_connect, tree_disconnect}
 use Rattle.xl_front_smb.specs.State.{FrontSmb, empty_smb_front, smb_begin}
-use Rattle.xl_front_smb.specs.Texts.{file_spelled, is_share}
+use Rattle.xl_front_smb.specs.Texts.{is_share}
 use Rattle.xl_front_smb.specs.declared.told.Told.{Told as Answered}
 use Rattle.xl_front_smb.specs.declared.told.Told.TheVariants as told
 use Rattle.xl_front_smb.proofs.AskLaws.{queued_after}
@@ -101,13 +97,13 @@ use Rattle.xl_front_smb.proofs.EndLaws.{dismissed_keeps, ended_told, numbers_goi
 use Rattle.xl_front_smb.proofs.GoneLaws.{done_without, end_without, gone_opens, out_one, all_gone_opens}
 use Rattle.xl_smb_laws.proofs.LeaseKeyLaws.{AllUsed, LeasesStay, came_on, closed_leases, ended_leases, gone_leases, has_file, own_file, same_leases, used_by, used_for, used_still}
 use Rattle.xl_smb_laws.proofs.PlaceLaws.{Keeps, Stays, apart_under, begun_place, changed_place, closed_place, disconnected_place, ended_place, keeps_all, keeps_by, keeps_self, logged_off_place, same_places, tree_place, under_still}
+use Rattle.xl_front_smb.proofs.AckLaws.{not_false}
+use Rattle.xl_smb_laws.proofs.PlanWalks.{by_client, by_open, by_session, by_tree, walk_acknowledge, walk_create, walk_lock, walk_refused}
 use Rattle.xl_smb_laws.proofs.SmbWaiterLaws.{asks_of_smb}
-use Rattle.xl_smb_laws.proofs.RequestOwn.{by_client, by_open, by_session, by_tree}
 use Rattle.xl_smb_laws.proofs.WaitConnectionLaws.{all_gone_waiting, closed_waiting, gone_waiting, stands_on}
 use Rattle.xl_matrix.specs.declared.claim.CacheKind.{CacheKind}
 use Rattle.xl_core.specs.BreakAnswers.{ack}
 use Rattle.xl_smb_locks.proofs.FitLaws.{party_fits}
-use Rattle.xl_smb_locks.specs.Levels.{cache_of, lease_party, oplock_of}
 
 -- ---- rows that are taken out
 
@@ -775,16 +771,13 @@ nothing_sorts s l answer = (refl, inl ((λ n. refl), refl, (λ place client here
 draw_sorts : (s : CoreState) (l lists : Lists) (answer : Answered) → lists.waiting ≡ l.waiting → lists.opens ≡ l.opens → lists.leases ≡ l.leases → AllPlaces l lists → Sorts s l (Does (Draws ∷ []) lists answer)
 draw_sorts s l lists answer rows opens leases places = (rows, inl ((λ n. drawn_waits s), opens, places, leases))
 
-negotiate_by : (s : CoreState) (l : Lists) (conn : ℕ) (row : Connection) (fresh empty unknown : Bool) → is_fresh (connection_of conn l) ≡ fresh
-    → Sorts s l (if not fresh then Fails statuses.InvalidParameter else if empty then Fails statuses.InvalidParameter else if unknown then Fails statuses.NotSupported else Does [] (connection_changed conn row l) told.Negotiated)
-negotiate_by s l conn row false empty unknown is = tt
-negotiate_by s l conn row true true unknown is = tt
-negotiate_by s l conn row true false true is = tt
-negotiate_by s l conn row true false false is = (refl, inl ((λ n. refl), refl, (λ place client here. changed_place conn row l place client is here), refl))
-
 negotiate_sorts : (s : CoreState) (l : Lists) (conn : ℕ) (c : NegotiateCallItem) → Sorts s l (negotiate l conn c)
 unfolding negotiate
-negotiate_sorts s l conn c = negotiate_by s l conn (record { client = Some c.client_guid }) (is_fresh (connection_of conn l)) (length (dialects_of c.dialects) == 0) (not (offers c.dialects)) refl
+negotiate_sorts s l conn c =
+    let row : Connection = record { client = Some c.client_guid } in
+    walk_refused (Sorts s l) (λ refusal. tt) ((not (is_fresh (connection_of conn l)), statuses.InvalidParameter) ∷ (length (dialects_of c.dialects) == 0, statuses.InvalidParameter) ∷ (not (offers c.dialects), statuses.NotSupported) ∷ [])
+    (Does [] (connection_changed conn row l) told.Negotiated)
+    (λ all. (refl, inl ((λ n. refl), refl, (λ place client here. changed_place conn row l place client (not_false (is_fresh (connection_of conn l)) all.0) here), refl)))
 
 set_up_by : (s : CoreState) (l : Lists) (conn : ℕ) (room : Bool) → Sorts s l (if room then set_up_as s l conn (s.counter + 1) else Fails statuses.InsufficientResources)
 set_up_by s l conn true = draw_sorts s l (session_added (s.counter + 1) (record { connection = conn }) l) (told.SetUp (id_of s (s.counter + 1))) refl refl refl (λ place client here. here)
@@ -811,16 +804,12 @@ logoff_sorts s l conn h =
       )),
     )))
 
-connect_by : (s : CoreState) (l : Lists) (conn session number : ℕ) (full unknown : Bool) → Sorts s l (if full then Fails statuses.InsufficientResources else if unknown then Fails statuses.BadNetworkName else connect_as l conn session number)
-connect_by s l conn session number true unknown = tt
-connect_by s l conn session number false true = tt
-connect_by s l conn session number false false = draw_sorts s l (tree_added number (record { connection = conn; session = session }) l) (told.Connected number) refl refl refl (λ place client here. tree_place number (record { connection = conn; session = session }) l place client here)
-
 connect_sorts : (s : CoreState) (l : Lists) (conn : ℕ) (h : SmbHead) (path : List ℕ) → Sorts s l (tree_connect s l conn h path)
 unfolding tree_connect
 connect_sorts s l conn h path =
     by_session (Sorts s l) (λ number. is_session_on conn (session_of number l)) (connect s l conn path) (number_in s h.session_id) tt
-    (λ k on. connect_by s l conn k (s.counter + 1) (not (has_room_for_tree l conn (s.counter + 1))) (not (is_share path)))
+    (λ k on. walk_refused (Sorts s l) (λ refusal. tt) ((not (has_room_for_tree l conn (s.counter + 1)), statuses.InsufficientResources) ∷ (not (is_share path), statuses.BadNetworkName) ∷ []) (connect_as l conn k (s.counter + 1))
+    (λ all. draw_sorts s l (tree_added (s.counter + 1) (record { connection = conn; session = k }) l) (told.Connected (s.counter + 1)) refl refl refl (λ place client here. tree_place (s.counter + 1) (record { connection = conn; session = k }) l place client here)))
 
 disconnect_sorts : (s : CoreState) (l : Lists) (conn : ℕ) (client : List ℕ) (h : SmbHead) → Sorts s l (tree_disconnect s l conn client h)
 unfolding tree_disconnect
@@ -837,8 +826,8 @@ disconnect_sorts s l conn client h =
       )),
     )))
 
-opens_by : (s : CoreState) (others : ℕ) (l : Lists) (h : SmbHead) (client : List ℕ) (place : Place) (c : CreateCallItem) (file : ℕ) (room : Bool) → has_place place client l ≡ true → is_key_elsewhere file (lease_key client (key_asked c)) l ≡ false → has_room_for_open others l (s.counter + 1) ≡ room → Sorts s l (if room then open_as s others l h client place c file (s.counter + 1) else Fails statuses.InsufficientResources)
-opens_by s others l h client place c file true there unused is = record {
+opens_sorts : (s : CoreState) (others : ℕ) (l : Lists) (h : SmbHead) (client : List ℕ) (place : Place) (c : CreateCallItem) (file : ℕ) → has_place place client l ≡ true → is_key_elsewhere file (lease_key client (key_asked c)) l ≡ false → has_room_for_open others l (s.counter + 1) ≡ true → Sorts s l (open_as s others l h client place c file (s.counter + 1))
+opens_sorts s others l h client place c file there unused is = record {
   client = open_client place.connection (s.counter + 1) (open_row file client place c) c;
   asks = made_for place.connection (s.counter + 1) (open_row file client place c) c;
   opened = refl;
@@ -855,30 +844,9 @@ opens_by s others l h client place c file true there unused is = record {
     second true false h = refl
     second true true h = absurd (false≢true h)
     second false b h = absurd (false≢true h)
-opens_by s others l h client place c file false there unused is = tt
-
-keyed_by : (s : CoreState) (others : ℕ) (l : Lists) (h : SmbHead) (client : List ℕ) (place : Place) (c : CreateCallItem) (file : ℕ) (elsewhere : Bool) → has_place place client l ≡ true → is_key_elsewhere file (lease_key client (key_asked c)) l ≡ elsewhere → Sorts s l (if elsewhere then Fails statuses.InvalidParameter else open_file s others l h client place c file)
-keyed_by s others l h client place c file true there is = tt
-keyed_by s others l h client place c file false there is = opens_by s others l h client place c file (has_room_for_open others l (s.counter + 1)) there is refl
-
-found_by : (s : CoreState) (others : ℕ) (l : Lists) (h : SmbHead) (client : List ℕ) (place : Place) (c : CreateCallItem) (file : ℕ) (makes : Bool) → has_place place client l ≡ true → Sorts s l (if makes then Fails statuses.ObjectNameCollision else open_keyed s others l h client place c file)
-found_by s others l h client place c file true there = tt
-found_by s others l h client place c file false there = keyed_by s others l h client place c file (is_key_elsewhere file (lease_key client (key_asked c)) l) there refl
-
-found_sorts : (s : CoreState) (others : ℕ) (l : Lists) (h : SmbHead) (client : List ℕ) (place : Place) (c : CreateCallItem) (file : Option ℕ) → has_place place client l ≡ true → Sorts s l (open_found s others l h client place c file)
-found_sorts s others l h client place c None there = tt
-found_sorts s others l h client place c (Some file) there = found_by s others l h client place c file (c.disposition == 2) there
-
-create_by : (s : CoreState) (others : ℕ) (l : Lists) (h : SmbHead) (client : List ℕ) (place : Place) (c : CreateCallItem) (file : Option ℕ) (unknown changes : Bool) → has_place place client l ≡ true → Sorts s l (if unknown then Fails statuses.InvalidParameter else if changes then Fails statuses.NotSupported else open_found s others l h client place c file)
-create_by s others l h client place c file true changes there = tt
-create_by s others l h client place c file false true there = tt
-create_by s others l h client place c file false false there = found_sorts s others l h client place c file there
 
 create_sorts : (s : CoreState) (files : List (List ℕ)) (others : ℕ) (l : Lists) (conn : ℕ) (client : List ℕ) (h : SmbHead) (c : CreateCallItem) → Sorts s l (create s files others l conn client h c)
-unfolding create
-create_sorts s files others l conn client h c =
-    by_session (Sorts s l) (λ number. is_session_on conn (session_of number l)) _ (number_in s h.session_id) tt
-    (λ k on. by_tree (Sorts s l) (create_on s files others l h client c) _ (has_place _ client l) tt (λ there. create_by s others l h client _ c (file_spelled files c.name) (nat_lt 5 c.disposition) (overwrites c.disposition) there))
+create_sorts s files others l conn client h c = walk_create (Sorts s l) (λ refusal. tt) s files others l conn client h c (λ place file on there unused room. opens_sorts s others l h client place c file there unused room)
 
 close_open_sorts : (s : CoreState) (l : Lists) (number : ℕ) → Sorts s l (close_open s l number)
 close_open_sorts s l number = (refl, inr (inl ((number, party_going s.names l number) ∷ [], refl, (λ j apart. closed_apart j (number ∷ []) l apart), (λ distinct e here makes apart client stands. closed_place (number ∷ []) l e.1.place client stands), closed_leases (number ∷ []) l)))
@@ -889,28 +857,17 @@ close_sorts s l conn client h id =
     by_session (Sorts s l) (λ number. is_session_on conn (session_of number l)) _ (number_in s h.session_id) tt
     (λ k on. by_tree (Sorts s l) _ _ (has_place _ client l) tt (λ there. by_open (Sorts s l) (λ number. is_open_on conn (open_of number l)) (close_open s l) (file_number s id) tt (λ number under. close_open_sorts s l number)))
 
-lock_by_sorts : (s : CoreState) (l : Lists) (conn : ℕ) (row : Waiting) (held : Open) (es : List LockElement) (o : Option SmbStatus) → is_count (length es) ≡ true → row.request ≡ request.Lock → is_open_on row.place.connection (open_of row.opened l) ≡ true → Sorts s l (lock_by conn row row.opened held es o)
-lock_by_sorts s l conn row held es (Some status) count locks under = tt
-lock_by_sorts s l conn row held es None count locks under = (lock_client conn row.opened held es, asks_for conn row.opened held es count, locks, under)
-
-lock_on_sorts : (s : CoreState) (l : Lists) (conn : ℕ) (h : SmbHead) (number : ℕ) (place : Place) (es : List LockElement) (row : Open) (count first : Bool) → is_count (length es) ≡ count → open_of number l ≡ Some row → is_open_on conn (Some row) ≡ true
-    → Sorts s l (if not count then Fails statuses.InvalidParameter else if first then unlock_by l (unlocks s number row es) else lock_by conn (waiting_row h (place_of row.holder place) number request.Lock) number row es (lock_fault es))
-lock_on_sorts s l conn h number place es row false first is at on = tt
-lock_on_sorts s l conn h number place es row true true is at on = (refl, inl ((λ n. unlocks_wait n s number row es), refl, (λ p client here. here), refl))
-lock_on_sorts s l conn h number place es row true false is at on =
-    lock_by_sorts s l conn (waiting_row h (place_of row.holder place) number request.Lock) row es (lock_fault es) is refl
-    (ap (λ (c : ℕ). is_open_on c (open_of number l)) (stands_on conn row.holder place row refl on) ∙ ap (is_open_on conn) at ∙ on)
-
-lock_found_sorts : (s : CoreState) (l : Lists) (conn : ℕ) (h : SmbHead) (number : ℕ) (place : Place) (es : List LockElement) (o : Option Open) → open_of number l ≡ o → is_open_on conn o ≡ true → Sorts s l (lock_found s l conn h number place es o)
-lock_found_sorts s l conn h number place es None at on = tt
-lock_found_sorts s l conn h number place es (Some row) at on = lock_on_sorts s l conn h number place es row (is_count (length es)) (unlocks_first es) refl at on
-
 lock_sorts : (s : CoreState) (l : Lists) (conn : ℕ) (client : List ℕ) (h : SmbHead) (c : LockItem) → Sorts s l (lock s l conn client h c)
-unfolding lock
 lock_sorts s l conn client h c =
-    by_session (Sorts s l) (λ number. is_session_on conn (session_of number l)) _ (number_in s h.session_id) tt
-    (λ k on. by_tree (Sorts s l) _ _ (has_place _ client l) tt
-    (λ there. by_open (Sorts s l) (λ number. is_open_on conn (open_of number l)) _ (file_number s c.file_id) tt (λ number under. lock_found_sorts s l conn h number _ (elements_of c.elements) (open_of number l) refl under)))
+    let es = elements_of c.elements in
+    walk_lock (Sorts s l) (λ refusal. tt) s l conn client h c
+    (λ number row at on. (refl, inl ((λ n. unlocks_wait n s number row es), refl, (λ p client here. here), refl)))
+    (λ place number row at on count sound. (
+      lock_client conn number row es,
+      asks_for conn number row es count,
+      refl,
+      ap (λ (k : ℕ). is_open_on k (open_of number l)) (stands_on conn row.holder place row refl on) ∙ ap (is_open_on conn) at ∙ on,
+    ))
 
 cancel_waiting : (s : CoreState) (l : Lists) (id : ℕ) (waits : Bool) → is_waiting id s.waiters ≡ waits → Sorts s l (cancel_named s l (Some id))
 cancel_waiting s l id true is = rw is (refl, inr (inr (id, refl, refl)))
@@ -929,60 +886,8 @@ acked_sorts : (s : CoreState) (l : Lists) (cache : Claim) (to : Option CacheKind
 unfolding ack
 acked_sorts s l cache to answer = (refl, inl ((λ n. refl), refl, (λ place client here. here), refl))
 
-ack_ran : (s : CoreState) (l : Lists) (id level : ℕ) (cache : Claim) (running : Option Break) (refused : Bool) → Sorts s l (if refused then refused_ack l cache running else taken_ack l id level cache running)
-ack_ran s l id level cache None true = tt
-ack_ran s l id level cache None false = tt
-ack_ran s l id level cache (Some running) true = acked_sorts s l cache None (told.Failed statuses.InvalidOplockProtocol)
-ack_ran s l id level cache (Some running) false = acked_sorts s l cache (left_at level) (told.Acknowledged id (level_of (left_at level)))
-
-ack_by_sorts : (s : CoreState) (l : Lists) (id level : ℕ) (cache : Claim) (what : What) → Sorts s l (ack_by l id level cache what)
-ack_by_sorts s l id level cache (whats.Cache kind running) = ack_ran s l id level cache running (is_refused level kind running)
-ack_by_sorts s l id level cache (whats.Share access deny) = tt
-ack_by_sorts s l id level cache (whats.Range extent exclusive) = tt
-
-ack_none : (s : CoreState) (l : Lists) (above : Bool) → Sorts s l (if above then Fails statuses.InvalidOplockProtocol else Fails statuses.InvalidDeviceState)
-ack_none s l true = tt
-ack_none s l false = tt
-
-ack_of_sorts : (s : CoreState) (l : Lists) (id level : ℕ) (o : Option Claim) → Sorts s l (ack_of l id level o)
-ack_of_sorts s l id level None = ack_none s l (nat_lt 1 level)
-ack_of_sorts s l id level (Some cache) = ack_by_sorts s l id level cache cache.what
-
-ack_open_sorts : (s : CoreState) (l : Lists) (level number : ℕ) (o : Option Open) → Sorts s l (ack_open s l level number o)
-ack_open_sorts s l level number None = tt
-ack_open_sorts s l level number (Some row) = ack_of_sorts s l (id_of s number) level (oplock_of row.file number s.claims)
-
-level_by : (s : CoreState) (l : Lists) (level number : ℕ) (lease : Bool) → Sorts s l (if lease then Fails statuses.InvalidParameter else ack_open s l level number (open_of number l))
-level_by s l level number true = tt
-level_by s l level number false = ack_open_sorts s l level number (open_of number l)
-
--- ---- of a lease
-
-lease_kept_sorts : (s : CoreState) (l : Lists) (lease : Lease) (cache : Claim) (may : Bool) → Sorts s l (if may then Does (Acks cache (kind_of_state lease.state) ∷ []) l (told.Answered (lease_left lease)) else Fails statuses.RequestNotAccepted)
-lease_kept_sorts s l lease cache true = acked_sorts s l cache (kind_of_state lease.state) (told.Answered (lease_left lease))
-lease_kept_sorts s l lease cache false = tt
-
-lease_by_sorts : (s : CoreState) (l : Lists) (lease : Lease) (cache : Claim) (what : What) → Sorts s l (ack_lease_by l lease cache what)
-lease_by_sorts s l lease cache (whats.Cache kind None) = tt
-lease_by_sorts s l lease cache (whats.Cache kind (Some running)) = lease_kept_sorts s l lease cache (may_keep lease.state running)
-lease_by_sorts s l lease cache (whats.Share access deny) = tt
-lease_by_sorts s l lease cache (whats.Range extent exclusive) = tt
-
-lease_cache_sorts : (s : CoreState) (l : Lists) (lease : Lease) (o : Option Claim) → Sorts s l (ack_cache l lease o)
-lease_cache_sorts s l lease None = tt
-lease_cache_sorts s l lease (Some cache) = lease_by_sorts s l lease cache cache.what
-
-lease_sorts : (s : CoreState) (l : Lists) (client : List ℕ) (lease : Lease) (o : Option LeaseRow) → Sorts s l (ack_lease s l client lease o)
-lease_sorts s l client lease None = tt
-lease_sorts s l client lease (Some row) = lease_cache_sorts s l lease (cache_of row.file (lease_party s.names client lease.key) s.claims)
-
-break_sorts : (s : CoreState) (l : Lists) (conn : ℕ) (client : List ℕ) (b : Acknowledgement) → Sorts s l (break_by s l conn client b)
-break_sorts s l conn client (held.Oplock level id) = by_open (Sorts s l) (λ number. is_open_on conn (open_of number l)) (ack_level s l level) (file_number s id) tt (λ number on. level_by s l level number (level == 0xFF))
-break_sorts s l conn client (held.Lease lease) = lease_sorts s l client lease (lease_row (record { client = client; key = lease.key }) l)
-
 acknowledge_sorts : (s : CoreState) (l : Lists) (conn : ℕ) (client : List ℕ) (h : SmbHead) (b : Acknowledgement) → Sorts s l (acknowledge s l conn client h b)
-unfolding acknowledge
-acknowledge_sorts s l conn client h b = by_session (Sorts s l) (λ number. is_session_on conn (session_of number l)) _ (number_in s h.session_id) tt (λ k on. break_sorts s l conn client b)
+acknowledge_sorts s l conn client h b = walk_acknowledge (Sorts s l) (λ refusal. tt) s l conn client (λ cache to t here may own quiet. acked_sorts s l cache to t) h b
 
 -- ---- a request
 
@@ -1025,15 +930,10 @@ read_sorts s files others l conn (Ok (Reply h r)) = tt
 read_sorts s files others l conn (Ok (Told t)) = tt
 read_sorts s files others l conn (Err fault) = tt
 
-requested_by : (s : CoreState) (files : List (List ℕ)) (others : ℕ) (l : Lists) (conn : ℕ) (m : Result MessageItem SmbBad) (part above unread : Bool) → Sorts s l (if part then Fails statuses.InvalidParameter else if above then Fails statuses.InvalidParameter else if unread then Fails statuses.NotSupported else read_as s files others l conn m)
-requested_by s files others l conn m true above unread = tt
-requested_by s files others l conn m false true unread = tt
-requested_by s files others l conn m false false true = tt
-requested_by s files others l conn m false false false = read_sorts s files others l conn m
-
 pub requested_sorts : (s : CoreState) (files : List (List ℕ)) (others : ℕ) (l : Lists) (conn : ℕ) (bytes : List ℕ) (h : SmbHead) → Sorts s l (requested s files others l conn bytes h)
 unfolding requested
-requested_sorts s files others l conn bytes h = requested_by s files others l conn (message_at bytes) (not (h.next_command == 0)) (nat_lt 18 h.command) (not (is_some (command_of h.command)))
+requested_sorts s files others l conn bytes h =
+    walk_refused (Sorts s l) (λ refusal. tt) ((not (h.next_command == 0), statuses.InvalidParameter) ∷ (nat_lt 18 h.command, statuses.InvalidParameter) ∷ (not (is_some (command_of h.command)), statuses.NotSupported) ∷ []) (read_as s files others l conn (message_at bytes)) (λ all. read_sorts s files others l conn (message_at bytes))
 
 heard_awaited : (n : ℕ) (exports : Exports) (others : ℕ) (f : FrontSmb) (s : CoreState) (conn : ℕ) (bytes : List ℕ) (h : Option SmbHead) → IsGood s → AreDistinct f.state → AreAwaited s f.state → AreAwaited (stepped n exports others f s conn bytes h).3 (stepped n exports others f s conn bytes h).2.state
 heard_awaited n exports others f s conn bytes None good distinct all = all

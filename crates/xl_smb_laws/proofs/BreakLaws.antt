@@ -1,6 +1,6 @@
 -- What OPLOCK_BREAK comes to, and what it leaves.
 use Rattle.std.proofs.Common.{◌≡◌, ℕ, Bool, true, false, List, [], ◌∷◌, Option, Some, None, if◌then◌else◌, refl, sym, ap, subst, ◌∙◌, inl, inr}
-use Rattle.std.specs.Prelude.{◌==◌, ◌||◌, nat_lt}
+use Rattle.std.specs.Prelude.{◌==◌, ◌||◌, nat_lt, not}
 use Rattle.std.proofs.lemmas.Bool.{cases_Bool, and_parts, or_cases, eqb-true}
 use Rattle.xl_base.specs.declared.name.Party.{Party}
 use Rattle.xl_base.specs.declared.name.Party.TheVariants as parties
@@ -32,10 +32,10 @@ use Rattle.xl_core.proofs.DeedLaws.{deed_makes}
 use Rattle.xl_core.specs.Ids.{id_of}
 use Rattle.xl_smb_locks.specs.Levels.{cache_of, first_kind, lease_party, level_held, oplock_of}
 use Rattle.xl_smb_locks.specs.declared.status.SmbStatus.TheVariants.{InvalidParameter, InvalidOplockProtocol, InvalidDeviceState, FileClosed, ObjectNameNotFound, Unsuccessful, RequestNotAccepted}
-use Rattle.xl_front_smb.specs.Checks.{open_named, negotiated_by, in_session, on_open}
-use Rattle.xl_front_smb.specs.Files.{is_refused, left_at, ack_by, ack_of, ack_open, ack_level, may_keep, lease_left, ack_lease_by, ack_cache, ack_lease, break_by, acknowledge}
+use Rattle.xl_front_smb.specs.Checks.{open_named, refused, found, negotiated_by, in_session, on_open}
+use Rattle.xl_front_smb.specs.Files.{is_refused, left_at, ack_by, ack_of, ack_oplock, may_keep, lease_left, running_of, ack_cache, break_by, acknowledge}
 use Rattle.xl_front_smb.specs.Laws.{IsInSession, IsAckOf, outcome_of, rest_status}
-use Rattle.xl_front_smb.specs.Plans.{Fails, Does, Outcome, carried}
+use Rattle.xl_front_smb.specs.Plans.{Plan, Fails, Does, Outcome, carried}
 use Rattle.xl_front_smb.specs.Requests.{commanded, planned}
 use Rattle.xl_front_smb.specs.declared.told.Told.TheVariants.{Failed, Acknowledged, Answered}
 use Rattle.xl_front_smb.proofs.AckLaws.{above, left_within, kept_within, cache_is, acks, ran_refused, ran_taken}
@@ -102,28 +102,32 @@ state_kept state running may = by (and_parts (state == 0 || (state == 1 || state
 
 -- ---- why it is told so
 
+-- of an open that is there
+abbrev of_row : CoreState → Lists → ℕ → ℕ → Open → Plan
+of_row s l level number row = ack_of l (id_of s number) level (oplock_of row.file number s.claims)
+
 module _ (n : ℕ) (s : CoreState) (files : List (List ℕ)) (others : ℕ) (l : Lists) (conn : ℕ) (h : SmbHead) (client : List ℕ) (session : ℕ) where
   break_planned : (b : Acknowledgement) → IsInSession s l conn h client session → planned s files others l conn h (OplockBreak b) ≡ break_by s l conn client b
   unfolding planned commanded acknowledge
   break_planned b named = ap (negotiated_by (λ k. acknowledge s l conn k h b)) named.0 ∙ ap (in_session (λ k. break_by s l conn client b)) named.1
 
   pub ack_closed : (level : ℕ) (id : FileId) → IsInSession s l conn h client session → open_named s l conn id ≡ None → outcome_of n s files others l conn h (OplockBreak (held.Oplock level id)) ≡ (Failed FileClosed, [], l, s)
-  ack_closed level id named none = ap (carried n s l) (break_planned (held.Oplock level id) named ∙ ap (on_open (ack_level s l level)) none)
+  ack_closed level id named none = ap (carried n s l) (break_planned (held.Oplock level id) named ∙ ap (on_open (ack_oplock s l level)) none)
 
   pub ack_leased : (level : ℕ) (id : FileId) (number : ℕ) → IsInSession s l conn h client session → open_named s l conn id ≡ Some number → (level == 0xFF) ≡ true → outcome_of n s files others l conn h (OplockBreak (held.Oplock level id)) ≡ (Failed InvalidParameter, [], l, s)
   ack_leased level id number named at lease =
-      ap (carried n s l) (break_planned (held.Oplock level id) named ∙ ap (on_open (ack_level s l level)) at ∙ ap (λ (b : Bool). if b then Fails InvalidParameter else ack_open s l level number (open_of number l)) lease)
+      ap (carried n s l) (break_planned (held.Oplock level id) named ∙ ap (on_open (ack_oplock s l level)) at ∙ ap (λ (b : Bool). refused ((b, InvalidParameter) ∷ []) (found (open_of number l) FileClosed (of_row s l level number))) lease)
 
   module _ (level : ℕ) (id : FileId) (number : ℕ) (row : Open) (of : IsAckOf s l conn h client id level session number row) where
     acked_plan : (o : Option Claim) → oplock_of row.file number s.claims ≡ o → planned s files others l conn h (OplockBreak (held.Oplock level id)) ≡ ack_of l (id_of s number) level o
-    acked_plan o found =
+    acked_plan o at =
         break_planned (held.Oplock level id) of.0
-        ∙ ap (on_open (ack_level s l level)) of.1
-        ∙ ap (λ (b : Bool). if b then Fails InvalidParameter else ack_open s l level number (open_of number l)) of.3
-        ∙ ap (ack_open s l level number) of.2
-        ∙ ap (ack_of l (id_of s number) level) found
+        ∙ ap (on_open (ack_oplock s l level)) of.1
+        ∙ ap (λ (b : Bool). refused ((b, InvalidParameter) ∷ []) (found (open_of number l) FileClosed (of_row s l level number))) of.3
+        ∙ ap (λ (o : Option Open). found o FileClosed (of_row s l level number)) of.2
+        ∙ ap (ack_of l (id_of s number) level) at
 
-    rests : (above : Bool) → carried n s l (if above then Fails InvalidOplockProtocol else Fails InvalidDeviceState) ≡ (Failed (rest_status above), [], l, s)
+    rests : (above : Bool) → carried n s l (refused ((above, InvalidOplockProtocol) ∷ []) (Fails InvalidDeviceState)) ≡ (Failed (rest_status above), [], l, s)
     rests true = refl
     rests false = refl
 
@@ -139,7 +143,7 @@ module _ (n : ℕ) (s : CoreState) (files : List (List ℕ)) (others : ℕ) (l :
         ran x done = ap (carried n s l) (acked_plan (Some cache) at ∙ ap (ack_by l (id_of s number) level cache) is) ∙ done
 
         pub ack_refused : is_refused level kind (Some running) ≡ true → outcome_of n s files others l conn h (OplockBreak (held.Oplock level id)) ≡ (Failed InvalidOplockProtocol, (ack s cache None).0, l, (ack s cache None).1)
-        ack_refused refused = ran _ (ran_refused n s l (id_of s number) level cache kind running _ refused (acks n s (ack s cache None).1 l cache None (Failed InvalidOplockProtocol) (ack s cache None).0 refl))
+        ack_refused unfit = ran _ (ran_refused n s l (id_of s number) level cache kind running _ unfit (acks n s (ack s cache None).1 l cache None (Failed InvalidOplockProtocol) (ack s cache None).0 refl))
 
         pub ack_taken : is_refused level kind (Some running) ≡ false → outcome_of n s files others l conn h (OplockBreak (held.Oplock level id)) ≡ (Acknowledged (id_of s number) level, (ack s cache (left_at level)).0, l, (ack s cache (left_at level)).1)
         ack_taken taken =
@@ -154,26 +158,32 @@ module _ (n : ℕ) (s : CoreState) (files : List (List ℕ)) (others : ℕ) (l :
     abbrev party : Party
     party = lease_party s.names client lease.key
 
+    abbrev of_lease : LeaseRow → Plan
+    of_lease row = found (cache_of row.file party s.claims) Unsuccessful (ack_cache l lease)
+
+    abbrev answers : Claim → Plan
+    answers cache = Does (Acks cache (kind_of_state lease.state) ∷ []) l (Answered (lease_left lease))
+
     pub lease_unknown : lease_row (record { client = client; key = lease.key }) l ≡ None → outcome_of n s files others l conn h (OplockBreak (held.Lease lease)) ≡ (Failed ObjectNameNotFound, [], l, s)
-    lease_unknown none = ap (carried n s l) (break_planned (held.Lease lease) named ∙ ap (ack_lease s l client lease) none)
+    lease_unknown none = ap (carried n s l) (break_planned (held.Lease lease) named ∙ ap (λ (o : Option LeaseRow). found o ObjectNameNotFound of_lease) none)
 
     module _ (row : LeaseRow) (there : lease_row (record { client = client; key = lease.key }) l ≡ Some row) where
-      lease_plan : (o : Option Claim) → cache_of row.file party s.claims ≡ o → planned s files others l conn h (OplockBreak (held.Lease lease)) ≡ ack_cache l lease o
-      lease_plan o found = break_planned (held.Lease lease) named ∙ ap (ack_lease s l client lease) there ∙ ap (ack_cache l lease) found
+      lease_plan : (o : Option Claim) → cache_of row.file party s.claims ≡ o → planned s files others l conn h (OplockBreak (held.Lease lease)) ≡ found o Unsuccessful (ack_cache l lease)
+      lease_plan o at = break_planned (held.Lease lease) named ∙ ap (λ (r : Option LeaseRow). found r ObjectNameNotFound of_lease) there ∙ ap (λ (x : Option Claim). found x Unsuccessful (ack_cache l lease)) at
 
       pub lease_bare : cache_of row.file party s.claims ≡ None → outcome_of n s files others l conn h (OplockBreak (held.Lease lease)) ≡ (Failed Unsuccessful, [], l, s)
       lease_bare none = ap (carried n s l) (lease_plan None none)
 
       module _ (cache : Claim) (kind : CacheKind) (at : cache_of row.file party s.claims ≡ Some cache) where
         pub lease_resting : cache.what ≡ whats.Cache kind None → outcome_of n s files others l conn h (OplockBreak (held.Lease lease)) ≡ (Failed Unsuccessful, [], l, s)
-        lease_resting is = ap (carried n s l) (lease_plan (Some cache) at ∙ ap (ack_lease_by l lease cache) is)
+        lease_resting is = ap (carried n s l) (lease_plan (Some cache) at ∙ ap (λ (w : What). found (running_of w) Unsuccessful (λ r. refused ((not (may_keep lease.state r), RequestNotAccepted) ∷ []) (answers cache))) is)
 
         module _ (running : Break) (is : cache.what ≡ whats.Cache kind (Some running)) where
-          lease_ran : (may : Bool) → may_keep lease.state running ≡ may
-              → planned s files others l conn h (OplockBreak (held.Lease lease)) ≡ (if may then Does (Acks cache (kind_of_state lease.state) ∷ []) l (Answered (lease_left lease)) else Fails RequestNotAccepted)
+          lease_ran : (may : Bool) → may_keep lease.state running ≡ may → planned s files others l conn h (OplockBreak (held.Lease lease)) ≡ refused ((not may, RequestNotAccepted) ∷ []) (answers cache)
           lease_ran may keeps =
-              lease_plan (Some cache) at ∙ ap (ack_lease_by l lease cache) is
-              ∙ ap (λ (b : Bool). if b then Does (Acks cache (kind_of_state lease.state) ∷ []) l (Answered (lease_left lease)) else Fails RequestNotAccepted) keeps
+              lease_plan (Some cache) at
+              ∙ ap (λ (w : What). found (running_of w) Unsuccessful (λ r. refused ((not (may_keep lease.state r), RequestNotAccepted) ∷ []) (answers cache))) is
+              ∙ ap (λ (b : Bool). refused ((not b, RequestNotAccepted) ∷ []) (answers cache)) keeps
 
           pub lease_refused : may_keep lease.state running ≡ false → outcome_of n s files others l conn h (OplockBreak (held.Lease lease)) ≡ (Failed RequestNotAccepted, [], l, s)
           lease_refused keeps = ap (carried n s l) (lease_ran false keeps)

@@ -1,8 +1,9 @@
 -- CREATE is told what it is for its cause, and what is open is held.
 use Rattle.std.proofs.Common.{◌≡◌, ◌↔◌, ℕ, ◌+◌, Bool, true, false, not, eqb, cond, List, [], ◌∷◌, ◌++◌, Option, Some, None, if◌then◌else◌, refl, sym, ap, subst, ◌∙◌, inl, inr}
 use Rattle.std.specs.Prelude.{◌==◌, nat_eq, nat_lt, map}
+use Rattle.std.specs.List.{AllByRecursion}
 use Rattle.std.specs.Map.{lookup}
-use Rattle.std.proofs.lemmas.Bool.{cases_Bool, false≢true, true≢false}
+use Rattle.std.proofs.lemmas.Bool.{cases_Bool, true≢false, false≢true}
 use Rattle.xl_base.specs.declared.name.Owner.TheVariants as owners
 use Rattle.xl_matrix.specs.declared.claim.Claim.{Claim}
 use Rattle.xl_matrix.specs.declared.claim.What.TheVariants.{Share}
@@ -29,8 +30,8 @@ use Rattle.xl_core.proofs.BreaksBegunLaws.{begun_others}
 use Rattle.xl_core.proofs.GoodLaws.{drawn_good}
 use Rattle.xl_core.proofs.WayAsks.{ask_way_keeps, ask_due, ask_own, ask_shared}
 use Rattle.xl_smb_laws.proofs.LeaseKeyLaws.{comes_leased, free_lease, key_free}
-use Rattle.xl_front_smb.specs.Checks.{id_of, session_named, tree_named, negotiated_by, in_session, on_tree}
-use Rattle.xl_front_smb.specs.Files.{access_of, deny_of, open_ask, open_row, rooms_left, key_asked, lease_key, is_key_elsewhere, open_as, has_room_for_open, open_file, open_keyed, open_found, overwrites, create_on, create, create_row}
+use Rattle.xl_front_smb.specs.Checks.{id_of, session_named, tree_named, refused, found, negotiated_by, in_session, on_tree}
+use Rattle.xl_front_smb.specs.Files.{access_of, deny_of, open_ask, open_row, rooms_left, key_asked, lease_key, is_key_elsewhere, open_as, has_room_for_open, file_create, file_overwrite_if, overwrites, create_on, create, create_row}
 use Rattle.xl_front_smb.specs.Laws.{IsLeased, outcome_of, IsOnTree, FailsIf, OnceFound, IsRefusalDue, IsOpenDue, open_claim, IsNextDue, IsFileDue, IsDispositionDue, IsCreateDue}
 use Rattle.xl_front_smb.specs.Plans.{Plan, Fails, Outcome, carried, opened_told, opened_lists}
 use Rattle.xl_front_smb.specs.Requests.{commanded, planned}
@@ -39,7 +40,9 @@ use Rattle.xl_smb_locks.specs.declared.status.SmbStatus.{SmbStatus}
 use Rattle.xl_smb_locks.specs.declared.status.SmbStatus.TheVariants as status
 use Rattle.xl_front_smb.specs.declared.told.Told.{Told}
 use Rattle.xl_front_smb.specs.declared.told.Told.TheVariants.{Nothing, Failed, Negotiated, SetUp, LoggedOff, Connected, Disconnected, Opened, Closed, Locked, Pending, Echoed, Acknowledged, Answered}
+use Rattle.xl_front_smb.proofs.AckLaws.{not_false}
 use Rattle.xl_front_smb.proofs.PlanLaws.{open_new}
+use Rattle.xl_smb_laws.proofs.PlanWalks.{walk_created, walk_refused}
 use Rattle.xl_smb_locks.proofs.FitLaws.{party_fits}
 use Rattle.xl_smb_locks.specs.Levels.{caching}
 use Rattle.xl_smb_locks.specs.declared.levels.Caching.{Caching}
@@ -120,56 +123,64 @@ open_exactly n left s conn number id cache row c told =
 failed_exactly : (refused : SmbStatus) → Exactly (Failed refused) (λ told. told ≡ Failed refused)
 failed_exactly refused told = (λ e. sym e, λ e. sym e)
 
+-- the plan of a file that is found, once its disposition passes
+abbrev pub file_plan : CoreState → ℕ → Lists → SmbHead → List ℕ → Place → CreateCallItem → ℕ → Plan
+file_plan s others l h client place c file =
+    refused (
+    (c.disposition == file_create, status.ObjectNameCollision)
+    ∷ (is_key_elsewhere file (lease_key client (key_asked c)) l, status.InvalidParameter)
+    ∷ (not (has_room_for_open others l (s.counter + 1)), status.InsufficientResources)
+    ∷ [])
+    (open_as s others l h client place c file (s.counter + 1))
+
+-- the checks of a file that is found
+abbrev pub found_checks : CoreState → ℕ → Lists → List ℕ → CreateCallItem → ℕ → List (Bool × SmbStatus)
+found_checks s others l client c file =
+    (nat_lt file_overwrite_if c.disposition, status.InvalidParameter)
+    ∷ (overwrites c.disposition, status.NotSupported)
+    ∷ (c.disposition == file_create, status.ObjectNameCollision)
+    ∷ (is_key_elsewhere file (lease_key client (key_asked c)) l, status.InvalidParameter)
+    ∷ (not (has_room_for_open others l (s.counter + 1)), status.InsufficientResources)
+    ∷ []
+
 module _ (n : ℕ) (s : CoreState) (l : Lists) where
   by_check : (b : Bool) (refused : SmbStatus) (plan : Plan) (due : CoreState → Told → Type 0) → Comes (carried n s l plan) due → Comes (carried n s l (if b then Fails refused else plan)) (λ t. FailsIf b refused (due t))
   by_check true refused plan due rest = failed_exactly refused
   by_check false refused plan due rest = rest
 
-  by_room : (b : Bool) (refused : SmbStatus) (plan : Plan) (due : CoreState → Told → Type 0) → Comes (carried n s l plan) due → Comes (carried n s l (if b then plan else Fails refused)) (λ t. FailsIf (not b) refused (due t))
-  by_room true refused plan due rest = rest
-  by_room false refused plan due rest = failed_exactly refused
+  by_found : {X : Type 0} (o : Option X) (refused : SmbStatus) (go : X → Plan) (due : CoreState → X → Told → Type 0) → ((x : X) → Comes (carried n s l (go x)) (λ t. due t x)) → Comes (carried n s l (found o refused go)) (λ t. OnceFound refused (due t) o)
+  by_found None refused go due rest = failed_exactly refused
+  by_found (Some x) refused go due rest = rest x
 
-  file_exactly : (others : ℕ) (h : SmbHead) (client : List ℕ) (place : Place) (c : CreateCallItem) (found : Option ℕ) → Comes (carried n s l (open_found s others l h client place c found)) (λ t. OnceFound status.ObjectNameNotFound (IsFileDue s t others l client place c) found)
-  file_exactly others h client place c None = failed_exactly status.ObjectNameNotFound
-  file_exactly others h client place c (Some file) =
+  file_exactly : (others : ℕ) (h : SmbHead) (client : List ℕ) (place : Place) (c : CreateCallItem) (file : ℕ) → Comes (carried n s l (file_plan s others l h client place c file)) (λ t. IsFileDue s t others l client place c file)
+  file_exactly others h client place c file =
       let row = open_row file client place c in
+      let opens = open_as s others l h client place c file (s.counter + 1) in
       let next = λ (t : CoreState). IsNextDue s t others l place.connection c row in
-      let room = λ (t : CoreState). FailsIf (not (has_room_for_open others l (s.counter + 1))) status.InsufficientResources (next t) in
+      let full = not (has_room_for_open others l (s.counter + 1)) in
+      let room = λ (t : CoreState). FailsIf full status.InsufficientResources (next t) in
       let elsewhere = is_key_elsewhere file (lease_key client (key_asked c)) l in
-      by_check (c.disposition == 2) status.ObjectNameCollision (open_keyed s others l h client place c file) (λ t. FailsIf elsewhere status.InvalidParameter (room t))
-      (by_check elsewhere status.InvalidParameter (open_file s others l h client place c file) room
-      (by_room (has_room_for_open others l (s.counter + 1)) status.InsufficientResources (open_as s others l h client place c file (s.counter + 1)) next
-      (open_exactly n (rooms_left others l) (drawn s) place.connection (s.counter + 1) (id_of s (s.counter + 1)) _ row c)))
+      by_check (c.disposition == 2) status.ObjectNameCollision (if elsewhere then Fails status.InvalidParameter else if full then Fails status.InsufficientResources else opens) (λ t. FailsIf elsewhere status.InvalidParameter (room t))
+      (by_check elsewhere status.InvalidParameter (if full then Fails status.InsufficientResources else opens) room
+      (by_check full status.InsufficientResources opens next (open_exactly n (rooms_left others l) (drawn s) place.connection (s.counter + 1) (id_of s (s.counter + 1)) _ row c)))
 
   create_exactly : (files : List (List ℕ)) (others : ℕ) (h : SmbHead) (client : List ℕ) (c : CreateCallItem) (place : Place) → Comes (carried n s l (create_on s files others l h client c place)) (λ t. IsDispositionDue s t files others l client place c)
   create_exactly files others h client c place =
       let named = λ (t : CoreState). OnceFound status.ObjectNameNotFound (IsFileDue s t others l client place c) (file_spelled files c.name) in
-      by_check (nat_lt 5 c.disposition) status.InvalidParameter _ (λ t. FailsIf (overwrites c.disposition) status.NotSupported (named t))
-      (by_check (overwrites c.disposition) status.NotSupported (open_found s others l h client place c (file_spelled files c.name)) named
-      (file_exactly others h client place c (file_spelled files c.name)))
-
-  by_client : (go : List ℕ → Plan) (due : CoreState → List ℕ → Told → Type 0) (found : Option (List ℕ)) → ((client : List ℕ) → Comes (carried n s l (go client)) (λ t. due t client)) → Comes (carried n s l (negotiated_by go found)) (λ t. OnceFound status.InvalidParameter (due t) found)
-  by_client go due None rest = failed_exactly status.InvalidParameter
-  by_client go due (Some client) rest = rest client
-
-  by_session : (go : ℕ → Plan) (due : CoreState → ℕ → Told → Type 0) (found : Option ℕ) → ((session : ℕ) → Comes (carried n s l (go session)) (λ t. due t session)) → Comes (carried n s l (in_session go found)) (λ t. OnceFound status.UserSessionDeleted (due t) found)
-  by_session go due None rest = failed_exactly status.UserSessionDeleted
-  by_session go due (Some session) rest = rest session
-
-  by_tree : (go : Place → Plan) (due : CoreState → Place → Told → Type 0) (found : Option Place) → ((place : Place) → Comes (carried n s l (go place)) (λ t. due t place))
-      → Comes (carried n s l (on_tree go found)) (λ t. OnceFound status.NetworkNameDeleted (due t) found)
-  by_tree go due None rest = failed_exactly status.NetworkNameDeleted
-  by_tree go due (Some place) rest = rest place
+      let plan = found (file_spelled files c.name) status.ObjectNameNotFound (file_plan s others l h client place c) in
+      by_check (nat_lt 5 c.disposition) status.InvalidParameter (if overwrites c.disposition then Fails status.NotSupported else plan) (λ t. FailsIf (overwrites c.disposition) status.NotSupported (named t))
+      (by_check (overwrites c.disposition) status.NotSupported plan named
+      (by_found (file_spelled files c.name) status.ObjectNameNotFound (file_plan s others l h client place c) (λ t file. IsFileDue s t others l client place c file) (file_exactly others h client place c)))
 
 pub create_due : (n : ℕ) (s : CoreState) (files : List (List ℕ)) (others : ℕ) (l : Lists) (conn : ℕ) (h : SmbHead) (c : CreateCallItem) (told : Told) → ((outcome_of n s files others l conn h (Create c)).0 ≡ told) ↔ IsCreateDue s (outcome_of n s files others l conn h (Create c)).3 files others l conn h c told
 unfolding planned commanded create
 create_due n s files others l conn h c told =
     let at = λ (client : List ℕ) (session : ℕ). tree_named l conn client h session in
-    by_client n s l (λ client. commanded s files others l conn h (Create c) client)
-    (λ t client. OnceFound status.UserSessionDeleted (λ session. OnceFound status.NetworkNameDeleted (λ (place : Place). IsDispositionDue s t files others l client place c) (at client session)) (session_named s l conn h.session_id)) (client_of conn l)
-    (λ client. by_session n s l (λ session. on_tree (create_on s files others l h client c) (at client session))
-    (λ t session. OnceFound status.NetworkNameDeleted (λ (place : Place). IsDispositionDue s t files others l client place c) (at client session)) (session_named s l conn h.session_id)
-    (λ session. by_tree n s l (create_on s files others l h client c) (λ t place. IsDispositionDue s t files others l client place c) (at client session) (λ place. create_exactly n s l files others h client c place))) told
+    let placed = λ (t : CoreState) (client : List ℕ) (session : ℕ). OnceFound status.NetworkNameDeleted (λ (place : Place). IsDispositionDue s t files others l client place c) (at client session) in
+    by_found n s l (client_of conn l) status.InvalidParameter (λ client. commanded s files others l conn h (Create c) client)
+    (λ t client. OnceFound status.UserSessionDeleted (placed t client) (session_named s l conn h.session_id))
+    (λ client. by_found n s l (session_named s l conn h.session_id) status.UserSessionDeleted (λ session. on_tree (create_on s files others l h client c) (at client session)) (λ t session. placed t client session)
+    (λ session. by_found n s l (at client session) status.NetworkNameDeleted (create_on s files others l h client c) (λ t place. IsDispositionDue s t files others l client place c) (λ place. create_exactly n s l files others h client c place))) told
 
 -- ---- what is open is held
 
@@ -199,34 +210,14 @@ lookup_last : {X : Type 0} (k : ℕ) (x : X) (es : List (ℕ × X)) → lookup (
 lookup_last k x [] none = ap (λ b. cond b (Some x) None) (equal_self k)
 lookup_last k x (e ∷ es) none = elim (cases_Bool (eqb k e.0)) [ inl h ↦ absurd (some_none (rw h at none)) | inr h ↦ rw h (lookup_last k x es (rw h at none)) ]
 
--- what is told open by a plan, and passes each of these checks, is the open that is asked for
-opened_by : (n : ℕ) (s : CoreState) (l : Lists) (id : ℕ) (cache : Caching) (unknown changes makes elsewhere room : Bool) (plan : Plan)
-    → (carried n s l (if unknown then Fails status.InvalidParameter else if changes then Fails status.NotSupported else if makes then Fails status.ObjectNameCollision else if elsewhere then Fails status.InvalidParameter else if room then plan else Fails status.InsufficientResources)).0 ≡ Opened id cache
-    → ((if unknown then Fails status.InvalidParameter else if changes then Fails status.NotSupported else if makes then Fails status.ObjectNameCollision else if elsewhere then Fails status.InvalidParameter else if room then plan else Fails status.InsufficientResources) ≡ plan) × (room ≡ true) × (elsewhere ≡ false)
-opened_by n s l id cache true changes makes elsewhere room plan e = absurd (not_open e)
-opened_by n s l id cache false true makes elsewhere room plan e = absurd (not_open e)
-opened_by n s l id cache false false true elsewhere room plan e = absurd (not_open e)
-opened_by n s l id cache false false false true room plan e = absurd (not_open e)
-opened_by n s l id cache false false false false true plan e = (refl, refl, refl)
-opened_by n s l id cache false false false false false plan e = absurd (not_open e)
-
--- the plan of a file that is found
-unfoldable pub found_plan : CoreState → ℕ → Lists → SmbHead → List ℕ → Place → CreateCallItem → ℕ → Plan
-found_plan s others l h client place c file =
-    if nat_lt 5 c.disposition then Fails status.InvalidParameter
-    else if overwrites c.disposition then Fails status.NotSupported
-    else if c.disposition == 2 then Fails status.ObjectNameCollision
-    else if is_key_elsewhere file (lease_key client (key_asked c)) l then Fails status.InvalidParameter
-    else if has_room_for_open others l (s.counter + 1) then open_as s others l h client place c file (s.counter + 1) else Fails status.InsufficientResources
-
 pub found_is : (s : CoreState) (files : List (List ℕ)) (others : ℕ) (l : Lists) (conn : ℕ) (h : SmbHead) (client : List ℕ) (c : CreateCallItem) (session file : ℕ) (place : Place) → IsOnTree s l conn h client session place → file_spelled files c.name ≡ Some file
-    → planned s files others l conn h (Create c) ≡ found_plan s others l h client place c file
-unfolding planned commanded create found_plan
+    → planned s files others l conn h (Create c) ≡ refused (found_checks s others l client c file) (open_as s others l h client place c file (s.counter + 1))
+unfolding planned commanded create
 found_is s files others l conn h client c session file place named at =
     ap (negotiated_by (λ k. in_session (λ j. on_tree (create_on s files others l h k c) (tree_named l conn k h j)) (session_named s l conn h.session_id))) named.0.0
     ∙ ap (in_session (λ j. on_tree (create_on s files others l h client c) (tree_named l conn client h j))) named.0.1
     ∙ ap (on_tree (create_on s files others l h client c)) named.1
-    ∙ ap (λ (found : Option ℕ). if nat_lt 5 c.disposition then Fails status.InvalidParameter else if overwrites c.disposition then Fails status.NotSupported else open_found s others l h client place c found) at
+    ∙ ap (λ (o : Option ℕ). refused ((nat_lt file_overwrite_if c.disposition, status.InvalidParameter) ∷ (overwrites c.disposition, status.NotSupported) ∷ []) (found o status.ObjectNameNotFound (file_plan s others l h client place c))) at
 
 module _ (n : ℕ) (s : CoreState) (files : List (List ℕ)) (others : ℕ) (l : Lists) (conn : ℕ) (h : SmbHead) (client : List ℕ) (c : CreateCallItem) (session file id : ℕ) (cache : Caching) (place : Place)
     (named : IsOnTree s l conn h client session place) (at : file_spelled files c.name ≡ Some file) (e : (outcome_of n s files others l conn h (Create c)).0 ≡ Opened id cache) where
@@ -243,16 +234,22 @@ module _ (n : ℕ) (s : CoreState) (files : List (List ℕ)) (others : ℕ) (l :
   abbrev answered : Answer × List Effect × CoreState
   answered = ask n (rooms_left others l) (drawn s) asks
 
-  abbrev is_planned : planned s files others l conn h (Create c) ≡ found_plan s others l h client place c file
+  abbrev opens : Plan
+  opens = open_as s others l h client place c file number
+
+  abbrev is_planned : planned s files others l conn h (Create c) ≡ refused (found_checks s others l client c file) opens
   is_planned = found_is s files others l conn h client c session file place named at
 
-  passes : (found_plan s others l h client place c file ≡ open_as s others l h client place c file number) × (has_room_for_open others l number ≡ true) × (is_key_elsewhere file (lease_key client (key_asked c)) l ≡ false)
-  unfolding found_plan
+  -- none of the checks is the case
+  passes : (refused (found_checks s others l client c file) opens ≡ opens) × AllByRecursion (λ (check : Bool × SmbStatus). check.0 ≡ false) (found_checks s others l client c file)
   passes =
-      opened_by n s l id cache (nat_lt 5 c.disposition) (overwrites c.disposition) (c.disposition == 2) (is_key_elsewhere file (lease_key client (key_asked c)) l) (has_room_for_open others l number) (open_as s others l h client place c file number)
+      walk_refused (λ plan. (carried n s l plan).0 ≡ Opened id cache → (plan ≡ opens) × AllByRecursion (λ (check : Bool × SmbStatus). check.0 ≡ false) (found_checks s others l client c file)) (λ refusal told. absurd (not_open told)) (found_checks s others l client c file) opens (λ all told. (refl, all))
       (ap (λ (p : Plan). (carried n s l p).0) (sym is_planned) ∙ e)
 
-  abbrev is_asked : outcome_of n s files others l conn h (Create c) ≡ carried n s l (open_as s others l h client place c file number)
+  has_room : has_room_for_open others l number ≡ true
+  has_room = not_false (has_room_for_open others l number) passes.1.1.1.1.1.0
+
+  abbrev is_asked : outcome_of n s files others l conn h (Create c) ≡ carried n s l opens
   is_asked = ap (carried n s l) (is_planned ∙ passes.0)
 
   granted : ((id_of s number ≡ id) × (caching answered.2 number row ≡ cache)) × (g : Claim) × (answered.0 ≡ answers.Granted g)
@@ -269,13 +266,13 @@ module _ (n : ℕ) (s : CoreState) (files : List (List ℕ)) (others : ℕ) (l :
       ap (λ (o : Outcome). open_of number o.2) is_asked
       ∙ ap (λ (a : Answer). open_of number (opened_lists l number row (create_row h place number row) a)) granted.2
       ∙ ap (λ (m : Lists). open_of number m) (with_keeps number row l)
-      ∙ lookup_last number row l.opens (open_new others l number passes.1)
+      ∙ lookup_last number row l.opens (open_new others l number has_room)
 
   pub open_leased : IsLeased (outcome_of n s files others l conn h (Create c)).2 (s.counter + 1) (open_row file client place c)
   open_leased =
       subst (λ (m : Lists). IsLeased m number row)
       (sym (ap (λ (o : Outcome). o.2) is_asked ∙ ap (λ (a : Answer). opened_lists l number row (create_row h place number row) a) granted.2))
-      (comes_leased number row l (λ key own. free_lease file key l (key_free row key l own passes.2)))
+      (comes_leased number row l (λ key own. free_lease file key l (key_free row key l own passes.1.1.1.1.0)))
 
   pub open_shares : IsGood s → held_at (outcome_of n s files others l conn h (Create c)).3 (ShareOf file (owners.Open (s.counter + 1))) ≡ Share (access_of c.desired_access) (deny_of (access_of c.desired_access) c.share_access) ∷ []
   unfolding open_ask
@@ -319,14 +316,6 @@ module _ (n : ℕ) (s : CoreState) (l : Lists) (good : IsGood s) where
   fails_keeps : (refused : SmbStatus) → Keeps (Fails refused)
   fails_keeps refused told e = (refl, refl)
 
-  keeps_if : (b : Bool) (refused : SmbStatus) (plan : Plan) → Keeps plan → Keeps (if b then Fails refused else plan)
-  keeps_if true refused plan rest = fails_keeps refused
-  keeps_if false refused plan rest = rest
-
-  keeps_room : (b : Bool) (refused : SmbStatus) (plan : Plan) → Keeps plan → Keeps (if b then plan else Fails refused)
-  keeps_room true refused plan rest = rest
-  keeps_room false refused plan rest = fails_keeps refused
-
   asks_keeps : (others : ℕ) (h : SmbHead) (client : List ℕ) (place : Place) (c : CreateCallItem) (file : ℕ) → Keeps (open_as s others l h client place c file (s.counter + 1))
   asks_keeps others h client place c file refused e =
       let number = s.counter + 1 in
@@ -337,37 +326,7 @@ module _ (n : ℕ) (s : CoreState) (l : Lists) (good : IsGood s) where
         same_claims n (rooms_left others l) s place.connection number (id_of s number) cache row c refused good e,
       )
 
-  found_keeps : (others : ℕ) (h : SmbHead) (client : List ℕ) (place : Place) (c : CreateCallItem) (found : Option ℕ) → Keeps (open_found s others l h client place c found)
-  found_keeps others h client place c None = fails_keeps status.ObjectNameNotFound
-  found_keeps others h client place c (Some file) =
-      keeps_if (c.disposition == 2) status.ObjectNameCollision (open_keyed s others l h client place c file)
-      (keeps_if (is_key_elsewhere file (lease_key client (key_asked c)) l) status.InvalidParameter (open_file s others l h client place c file)
-      (keeps_room (has_room_for_open others l (s.counter + 1)) status.InsufficientResources (open_as s others l h client place c file (s.counter + 1)) (asks_keeps others h client place c file)))
-
-  create_keeps : (files : List (List ℕ)) (others : ℕ) (h : SmbHead) (client : List ℕ) (c : CreateCallItem) (place : Place) → Keeps (create_on s files others l h client c place)
-  create_keeps files others h client c place =
-      keeps_if (nat_lt 5 c.disposition) status.InvalidParameter _
-      (keeps_if (overwrites c.disposition) status.NotSupported (open_found s others l h client place c (file_spelled files c.name)) (found_keeps others h client place c (file_spelled files c.name)))
-
-  client_keeps : (go : List ℕ → Plan) (found : Option (List ℕ)) → ((client : List ℕ) → Keeps (go client)) → Keeps (negotiated_by go found)
-  client_keeps go None rest = fails_keeps status.InvalidParameter
-  client_keeps go (Some client) rest = rest client
-
-  session_keeps : (go : ℕ → Plan) (found : Option ℕ) → ((session : ℕ) → Keeps (go session)) → Keeps (in_session go found)
-  session_keeps go None rest = fails_keeps status.UserSessionDeleted
-  session_keeps go (Some session) rest = rest session
-
-  tree_keeps : (go : Place → Plan) (found : Option Place) → ((place : Place) → Keeps (go place)) → Keeps (on_tree go found)
-  tree_keeps go None rest = fails_keeps status.NetworkNameDeleted
-  tree_keeps go (Some place) rest = rest place
-
-  planned_keeps : (files : List (List ℕ)) (others conn : ℕ) (h : SmbHead) (c : CreateCallItem) → Keeps (planned s files others l conn h (Create c))
-  unfolding planned commanded create
-  planned_keeps files others conn h c =
-      client_keeps (λ client. commanded s files others l conn h (Create c) client) (client_of conn l)
-      (λ client. session_keeps (λ session. on_tree (create_on s files others l h client c) (tree_named l conn client h session)) (session_named s l conn h.session_id)
-      (λ session. tree_keeps (create_on s files others l h client c) (tree_named l conn client h session) (create_keeps files others h client c)))
-
 pub refused_keeps : (n : ℕ) (s : CoreState) (files : List (List ℕ)) (others : ℕ) (l : Lists) (conn : ℕ) (h : SmbHead) (c : CreateCallItem) (refused : SmbStatus) → IsGood s → (outcome_of n s files others l conn h (Create c)).0 ≡ Failed refused
     → ((outcome_of n s files others l conn h (Create c)).2 ≡ l) × (others_of (outcome_of n s files others l conn h (Create c)).3.claims ≡ others_of s.claims)
-refused_keeps n s files others l conn h c refused good e = planned_keeps n s l good files others conn h c refused e
+refused_keeps n s files others l conn h c refused good e =
+    walk_created (Keeps n s l good) (fails_keeps n s l good) s files others l conn h c (λ client place file on. asks_keeps n s l good others h client place c file) refused e

@@ -8,26 +8,17 @@ use Rattle.xl_base.specs.declared.journal.Exports.{Exports}
 use Rattle.xl_smb.specs.Calls.{CallItem, Negotiate, SessionSetup, Logoff, TreeConnect, TreeDisconnect, Create, Close, Lock, Cancel, Echo, OplockBreak, Other}
 use Rattle.xl_smb.specs.Creates.{CreateCallItem}
 use Rattle.xl_smb.specs.Heads.{command_of, head_of}
-use Rattle.xl_smb.specs.Locks.{LockItem, elements_of}
+use Rattle.xl_smb.specs.Locks.{LockItem}
 use Rattle.xl_smb.specs.Messages.{MessageItem, Call, Reply, Told, message_at}
 use Rattle.xl_smb.specs.Sessions.{NegotiateCallItem, dialects_of}
 use Rattle.xl_smb.specs.declared.breaks.Break.{Break as Acknowledgement}
-use Rattle.xl_matrix.specs.declared.claim.Break.{Break}
-use Rattle.xl_matrix.specs.declared.claim.What.TheVariants as whats
-use Rattle.xl_smb_state.specs.declared.row.Request.TheVariants as request
-use Rattle.xl_smb.specs.declared.breaks.Break.TheVariants as held
 use Rattle.xl_smb.specs.declared.fault.SmbBad.{SmbBad}
 use Rattle.xl_smb.specs.declared.file.FileId.{FileId}
 use Rattle.xl_smb.specs.declared.head.SmbHead.{SmbHead}
-use Rattle.xl_smb.specs.declared.lease.Lease.{Lease}
-use Rattle.xl_smb.specs.declared.lock.LockElement.{LockElement}
-use Rattle.xl_cache.specs.Levels.{kind_of_state}
-use Rattle.xl_core.specs.Deeds.{Acks}
 use Rattle.xl_smb_state.specs.Links.{has_place}
-use Rattle.xl_smb_state.specs.State.{Lists, connection_of, connection_changed, client_of, session_of, sessions_on, tree_dropped, trees_of, open_of, opens_under, closed, waiting_added, connection_added, covers_holder, session_added, tree_added, lease_of as lease_row}
+use Rattle.xl_smb_state.specs.State.{Lists, connection_of, connection_changed, client_of, session_of, sessions_on, tree_dropped, trees_of, open_of, opens_under, closed, waiting_added, connection_added, covers_holder, session_added, tree_added}
 use Rattle.xl_smb_state.specs.declared.row.Holder.{Holder}
 use Rattle.xl_smb_state.specs.declared.row.Holder.TheVariants as holder
-use Rattle.xl_smb_state.specs.declared.row.Lease.{Lease as LeaseRow}
 use Rattle.xl_smb_state.specs.declared.row.Open.{Open}
 use Rattle.xl_smb_state.specs.declared.row.Place.{Place}
 use Rattle.xl_smb_state.specs.declared.row.Scope.TheVariants as scope
@@ -38,37 +29,33 @@ use Rattle.xl_core.specs.State.{CoreState, drawn}
 use Rattle.xl_core.specs.declared.ask.Answer.{Answer}
 use Rattle.xl_core.specs.declared.ask.Answer.TheVariants as answers
 use Rattle.xl_core.specs.declared.ask.Effect.{Effect}
-use Rattle.xl_smb_locks.specs.Elements.{is_count, unlocks_first, lock_fault}
-use Rattle.xl_smb_locks.specs.Locks.{unlocks, lock_told}
+use Rattle.xl_smb_locks.specs.Locks.{lock_told}
 use Rattle.xl_smb_locks.specs.declared.locking.Locking.{Locking}
 use Rattle.xl_smb_locks.specs.declared.locking.Locking.TheVariants as locking
-use Rattle.xl_smb_locks.specs.declared.status.SmbStatus.{SmbStatus}
-use Rattle.xl_smb_locks.specs.declared.status.SmbStatus.TheVariants.{InvalidParameter, ObjectNameCollision, InsufficientResources, NotSupported, BadNetworkName, InvalidOplockProtocol, InvalidDeviceState, RequestNotAccepted}
+use Rattle.xl_smb_locks.specs.declared.status.SmbStatus.TheVariants.{InvalidParameter, InsufficientResources, NotSupported, BadNetworkName}
 use Rattle.xl_smb_locks.proofs.OnLaws.{GoesTo, AllGo, AreOn, told_on, dismissed_on, HeldOn, HolderOn, IsAt, MakesAt, WaitsOn, held_at, came_on}
 pub use Rattle.xl_smb_locks.proofs.OnLaws.{IsOn, GoesTo}
-use Rattle.xl_front_smb.specs.Checks.{is_fresh, is_open_on, file_number, number_in, negotiated_by, id_of}
+use Rattle.xl_front_smb.specs.Checks.{is_fresh, is_open_on, file_number, number_in, negotiated_by}
 use Rattle.xl_front_smb.specs.Ending.{all_closed, trees_dropped, session_gone, sessions_gone, connection_gone, smb_end, all_ended, leavers_under, requests_gone}
-use Rattle.xl_front_smb.specs.Files.{open_as, has_room_for_open, open_file, key_asked, lease_key, is_key_elsewhere, open_keyed, may_keep, lease_left, ack_lease_by, ack_cache, ack_lease, open_found, overwrites, create_on, create, close_open, close, break_by, acknowledge, ack_by, ack_level, ack_of, ack_open, is_refused, refused_ack, taken_ack}
+use Rattle.xl_front_smb.specs.Files.{create, close_open, close, acknowledge}
 use Rattle.xl_front_smb.specs.FrontSmb.{sent_by, head_heard, plan_for, smb_shown, stepped, smb_step}
-use Rattle.xl_front_smb.specs.Locks.{waiting_row, place_of, unlock_by, lock_by, lock_found, lock, request_named, cancel_named, cancel}
+use Rattle.xl_front_smb.specs.Locks.{place_of, lock, request_named, cancel_named, cancel}
 use Rattle.xl_front_smb.specs.Owners.{is_session_on}
 use Rattle.xl_front_smb.specs.Plans.{Plan, Fails, Does, Opens, Locks, opened_lists, has_room_to_wait, lists_as, carried}
 use Rattle.xl_front_smb.specs.Replies.{reply_of, tree_id}
 use Rattle.xl_front_smb.specs.Requests.{commanded, planned, read_as, requested}
 use Rattle.xl_front_smb.specs.Sessions.{offers, negotiate, has_room_for_session, set_up_as, session_setup, logoff, has_room_for_tree, connect_as, connect, tree_connect, disconnect, tree_disconnect}
 use Rattle.xl_front_smb.specs.State.{FrontSmb, empty_smb_front, smb_begin}
-use Rattle.xl_front_smb.specs.Texts.{is_share, file_spelled}
+use Rattle.xl_front_smb.specs.Texts.{is_share}
 use Rattle.xl_front_smb.specs.declared.told.Told.TheVariants as told
-use Rattle.xl_smb_laws.proofs.RequestOwn.{by_session, by_tree, by_open, by_client, removed_of}
+use Rattle.xl_smb_laws.proofs.PlanWalks.{by_client, by_open, by_session, by_tree, walk_acknowledge, walk_create, walk_lock, walk_refused}
+use Rattle.xl_smb_laws.proofs.RequestOwn.{removed_of}
 use Rattle.xl_base.specs.Lists.{IsIn}
 use Rattle.std.specs.List.{AllByRecursion, IsDistinct}
 use Rattle.std.specs.Map.{keys_of, remove_entry}
 use Rattle.std.proofs.lemmas.Map.Keys.{IsDistinct-cons, IsDistinct-head, IsDistinct-tail}
 use Rattle.xl_front_smb.proofs.GoneLaws.{all_gone_opens, gone_opens, opens_out}
 use Rattle.xl_front_smb.proofs.PlanLaws.{open_new}
-use Rattle.xl_matrix.specs.declared.claim.Claim.{Claim}
-use Rattle.xl_matrix.specs.declared.claim.What.{What}
-use Rattle.xl_smb_locks.specs.Levels.{cache_of, lease_party, oplock_of}
 use Rattle.xl_front_smb.specs.Laws.{rows_but}
 use Rattle.std.proofs.lemmas.Map.Made.{IsDistinct-keys_filter}
 
@@ -130,15 +117,12 @@ all_gone_waiting (number ∷ numbers) l = all_gone_waiting numbers (session_gone
 
 -- ---- each command
 
-negotiate_by : (l lists : Lists) (conn : ℕ) (again empty unknown : Bool) → (lists.waiting ≡ l.waiting) × AreOf lists l → Keeps l conn (if again then Fails InvalidParameter else if empty then Fails InvalidParameter else if unknown then Fails NotSupported else Does [] lists told.Negotiated)
-negotiate_by l lists conn true empty unknown same = tt
-negotiate_by l lists conn false true unknown same = tt
-negotiate_by l lists conn false false true same = tt
-negotiate_by l lists conn false false false same = same
-
 negotiate_keeps : (l : Lists) (conn : ℕ) (c : NegotiateCallItem) → Keeps l conn (negotiate l conn c)
 unfolding negotiate
-negotiate_keeps l conn c = negotiate_by l (connection_changed conn (record { client = Some c.client_guid }) l) conn (not (is_fresh (connection_of conn l))) (length (dialects_of c.dialects) == 0) (not (offers c.dialects)) (refl, same_opens (connection_changed conn (record { client = Some c.client_guid }) l) l refl)
+negotiate_keeps l conn c =
+    walk_refused (Keeps l conn) (λ refusal. tt) ((not (is_fresh (connection_of conn l)), InvalidParameter) ∷ (length (dialects_of c.dialects) == 0, InvalidParameter) ∷ (not (offers c.dialects), NotSupported) ∷ [])
+    (Does [] (connection_changed conn (record { client = Some c.client_guid }) l) told.Negotiated)
+    (λ all. (refl, same_opens (connection_changed conn (record { client = Some c.client_guid }) l) l refl))
 
 set_up_by : (s : CoreState) (l : Lists) (conn : ℕ) (room : Bool) → Keeps l conn (if room then set_up_as s l conn (s.counter + 1) else Fails InsufficientResources)
 set_up_by s l conn true = (refl, same_opens (session_added (s.counter + 1) (record { connection = conn }) l) l refl)
@@ -156,16 +140,12 @@ logoff_keeps s l conn h =
     (λ k on. let m = all_closed (opens_under (scope.Session k) l) l in
     (gone_waiting k m ∙ closed_waiting (opens_under (scope.Session k) l) l, of_then (session_gone k m) m l (same_opens (session_gone k m) m (gone_opens k m)) (all_closed_of (opens_under (scope.Session k) l) l)))
 
-connect_by : (l : Lists) (conn session number : ℕ) (full unknown : Bool) → Keeps l conn (if full then Fails InsufficientResources else if unknown then Fails BadNetworkName else connect_as l conn session number)
-connect_by l conn session number true unknown = tt
-connect_by l conn session number false true = tt
-connect_by l conn session number false false = (refl, same_opens (tree_added number (record { connection = conn; session = session }) l) l refl)
-
 connect_keeps : (s : CoreState) (l : Lists) (conn : ℕ) (h : SmbHead) (path : List ℕ) → Keeps l conn (tree_connect s l conn h path)
 unfolding tree_connect
 connect_keeps s l conn h path =
     by_session (Keeps l conn) (λ number. is_session_on conn (session_of number l)) (connect s l conn path) (number_in s h.session_id) tt
-    (λ k on. connect_by l conn k (s.counter + 1) (not (has_room_for_tree l conn (s.counter + 1))) (not (is_share path)))
+    (λ k on. walk_refused (Keeps l conn) (λ refusal. tt) ((not (has_room_for_tree l conn (s.counter + 1)), InsufficientResources) ∷ (not (is_share path), BadNetworkName) ∷ []) (connect_as l conn k (s.counter + 1))
+    (λ all. (refl, same_opens (tree_added (s.counter + 1) (record { connection = conn; session = k }) l) l refl)))
 
 disconnect_by : (s : CoreState) (l : Lists) (conn : ℕ) (place : Place) → Keeps l conn (disconnect s l place)
 disconnect_by s l conn place =
@@ -179,34 +159,8 @@ disconnect_keeps s l conn client h =
     (λ k on. let place : Place = record { connection = conn; session = k; tree = tree_id h.route } in
     by_tree (Keeps l conn) (disconnect s l) place (has_place place client l) tt (λ there. disconnect_by s l conn place))
 
-opens_by : (s : CoreState) (others : ℕ) (l : Lists) (conn : ℕ) (h : SmbHead) (client : List ℕ) (place : Place) (c : CreateCallItem) (file : ℕ) (room : Bool) → place.connection ≡ conn → has_room_for_open others l (s.counter + 1) ≡ room
-    → Keeps l conn (if room then open_as s others l h client place c file (s.counter + 1) else Fails InsufficientResources)
-opens_by s others l conn h client place c file true on at = (open_new others l (s.counter + 1) at, on, on, on)
-opens_by s others l conn h client place c file false on at = tt
-
-keyed_by : (s : CoreState) (others : ℕ) (l : Lists) (conn : ℕ) (h : SmbHead) (client : List ℕ) (place : Place) (c : CreateCallItem) (file : ℕ) (elsewhere : Bool) → place.connection ≡ conn → Keeps l conn (if elsewhere then Fails InvalidParameter else open_file s others l h client place c file)
-keyed_by s others l conn h client place c file true on = tt
-keyed_by s others l conn h client place c file false on = opens_by s others l conn h client place c file (has_room_for_open others l (s.counter + 1)) on refl
-
-found_by : (s : CoreState) (others : ℕ) (l : Lists) (conn : ℕ) (h : SmbHead) (client : List ℕ) (place : Place) (c : CreateCallItem) (file : ℕ) (makes : Bool) → place.connection ≡ conn → Keeps l conn (if makes then Fails ObjectNameCollision else open_keyed s others l h client place c file)
-found_by s others l conn h client place c file true on = tt
-found_by s others l conn h client place c file false on = keyed_by s others l conn h client place c file (is_key_elsewhere file (lease_key client (key_asked c)) l) on
-
-found_keeps : (s : CoreState) (others : ℕ) (l : Lists) (conn : ℕ) (h : SmbHead) (client : List ℕ) (place : Place) (c : CreateCallItem) (file : Option ℕ) → place.connection ≡ conn → Keeps l conn (open_found s others l h client place c file)
-found_keeps s others l conn h client place c None on = tt
-found_keeps s others l conn h client place c (Some file) on = found_by s others l conn h client place c file (c.disposition == 2) on
-
-create_by : (s : CoreState) (others : ℕ) (l : Lists) (conn : ℕ) (h : SmbHead) (client : List ℕ) (place : Place) (c : CreateCallItem) (file : Option ℕ) (unknown changes : Bool) → place.connection ≡ conn → Keeps l conn (if unknown then Fails InvalidParameter else if changes then Fails NotSupported else open_found s others l h client place c file)
-create_by s others l conn h client place c file true changes on = tt
-create_by s others l conn h client place c file false true on = tt
-create_by s others l conn h client place c file false false on = found_keeps s others l conn h client place c file on
-
 create_keeps : (s : CoreState) (files : List (List ℕ)) (others : ℕ) (l : Lists) (conn : ℕ) (client : List ℕ) (h : SmbHead) (c : CreateCallItem) → Keeps l conn (create s files others l conn client h c)
-unfolding create
-create_keeps s files others l conn client h c =
-    by_session (Keeps l conn) (λ number. is_session_on conn (session_of number l)) _ (number_in s h.session_id) tt
-    (λ k on. let place : Place = record { connection = conn; session = k; tree = tree_id h.route } in
-    by_tree (Keeps l conn) (create_on s files others l h client c) place (has_place place client l) tt (λ there. create_by s others l conn h client place c (file_spelled files c.name) (nat_lt 5 c.disposition) (overwrites c.disposition) refl))
+create_keeps s files others l conn client h c = walk_create (Keeps l conn) (λ refusal. tt) s files others l conn client h c (λ place file on there unused room. (open_new others l (s.counter + 1) room, on, on, on))
 
 close_keeps : (s : CoreState) (l : Lists) (conn : ℕ) (client : List ℕ) (h : SmbHead) (id : FileId) → Keeps l conn (close s l conn client h id)
 unfolding close
@@ -222,26 +176,9 @@ stands_on conn (holder.Tree at) place row is on =
       covers_by conn by = is_open_on conn (Some (record row { holder = by }))
 stands_on conn (holder.Nobody until) place row is on = absurd (false≢true (sym (ap (λ (h : Holder). is_open_on conn (Some (record row { holder = h }))) is) ∙ on))
 
-lock_by_keeps : (l : Lists) (conn : ℕ) (row : Waiting) (number : ℕ) (held : Open) (es : List LockElement) (o : Option SmbStatus) → (row.place.connection ≡ conn) × MakesAt conn row.request → Keeps l conn (lock_by conn row number held es o)
-lock_by_keeps l conn row number held es (Some status) on = tt
-lock_by_keeps l conn row number held es None on = on
-
-lock_on_keeps : (s : CoreState) (l : Lists) (conn : ℕ) (h : SmbHead) (number : ℕ) (place : Place) (es : List LockElement) (row : Open) (count first : Bool) → is_open_on conn (Some row) ≡ true
-    → Keeps l conn (if not count then Fails InvalidParameter else if first then unlock_by l (unlocks s number row es) else lock_by conn (waiting_row h (place_of row.holder place) number request.Lock) number row es (lock_fault es))
-lock_on_keeps s l conn h number place es row false first on = tt
-lock_on_keeps s l conn h number place es row true true on = (refl, same_opens l l refl)
-lock_on_keeps s l conn h number place es row true false on = lock_by_keeps l conn (waiting_row h (place_of row.holder place) number request.Lock) number row es (lock_fault es) (stands_on conn row.holder place row refl on, tt)
-
-lock_found_keeps : (s : CoreState) (l : Lists) (conn : ℕ) (h : SmbHead) (number : ℕ) (place : Place) (es : List LockElement) (o : Option Open) → is_open_on conn o ≡ true → Keeps l conn (lock_found s l conn h number place es o)
-lock_found_keeps s l conn h number place es None on = tt
-lock_found_keeps s l conn h number place es (Some row) on = lock_on_keeps s l conn h number place es row (is_count (length es)) (unlocks_first es) on
-
 lock_keeps : (s : CoreState) (l : Lists) (conn : ℕ) (client : List ℕ) (h : SmbHead) (c : LockItem) → Keeps l conn (lock s l conn client h c)
-unfolding lock
 lock_keeps s l conn client h c =
-    by_session (Keeps l conn) (λ number. is_session_on conn (session_of number l)) _ (number_in s h.session_id) tt
-    (λ k on. by_tree (Keeps l conn) _ _ (has_place _ client l) tt
-    (λ there. by_open (Keeps l conn) (λ number. is_open_on conn (open_of number l)) _ (file_number s c.file_id) tt (λ number under. lock_found_keeps s l conn h number _ (elements_of c.elements) (open_of number l) under)))
+    walk_lock (Keeps l conn) (λ refusal. tt) s l conn client h c (λ number row at on. (refl, same_opens l l refl)) (λ place number row at on count sound. (stands_on conn row.holder place row refl on, tt))
 
 cancel_waiting : (s : CoreState) (l : Lists) (conn id : ℕ) (waits : Bool) → is_waiting id s.waiters ≡ waits → Keeps l conn (cancel_named s l (Some id))
 cancel_waiting s l conn id true is = rw is (refl, same_opens l l refl)
@@ -255,58 +192,8 @@ cancel_keeps : (s : CoreState) (l : Lists) (conn : ℕ) (h : SmbHead) → Keeps 
 unfolding cancel
 cancel_keeps s l conn h = cancel_by s l conn (request_named conn l h.message_id h.route)
 
-acked_keeps : (l : Lists) (conn id level : ℕ) (cache : Claim) (running : Option Break) (refused : Bool) → Keeps l conn (if refused then refused_ack l cache running else taken_ack l id level cache running)
-acked_keeps l conn id level cache None true = tt
-acked_keeps l conn id level cache None false = tt
-acked_keeps l conn id level cache (Some running) true = (refl, same_opens l l refl)
-acked_keeps l conn id level cache (Some running) false = (refl, same_opens l l refl)
-
-ack_by_keeps : (l : Lists) (conn id level : ℕ) (cache : Claim) (what : What) → Keeps l conn (ack_by l id level cache what)
-ack_by_keeps l conn id level cache (whats.Cache kind running) = acked_keeps l conn id level cache running (is_refused level kind running)
-ack_by_keeps l conn id level cache (whats.Share access deny) = tt
-ack_by_keeps l conn id level cache (whats.Range extent exclusive) = tt
-
-ack_none_keeps : (l : Lists) (conn : ℕ) (above : Bool) → Keeps l conn (if above then Fails InvalidOplockProtocol else Fails InvalidDeviceState)
-ack_none_keeps l conn true = tt
-ack_none_keeps l conn false = tt
-
-ack_of_keeps : (l : Lists) (conn id level : ℕ) (o : Option Claim) → Keeps l conn (ack_of l id level o)
-ack_of_keeps l conn id level None = ack_none_keeps l conn (nat_lt 1 level)
-ack_of_keeps l conn id level (Some cache) = ack_by_keeps l conn id level cache cache.what
-
-ack_open_keeps : (s : CoreState) (l : Lists) (conn level number : ℕ) (o : Option Open) → Keeps l conn (ack_open s l level number o)
-ack_open_keeps s l conn level number None = tt
-ack_open_keeps s l conn level number (Some row) = ack_of_keeps l conn (id_of s number) level (oplock_of row.file number s.claims)
-
-ack_level_keeps : (s : CoreState) (l : Lists) (conn level number : ℕ) (lease : Bool) → Keeps l conn (if lease then Fails InvalidParameter else ack_open s l level number (open_of number l))
-ack_level_keeps s l conn level number true = tt
-ack_level_keeps s l conn level number false = ack_open_keeps s l conn level number (open_of number l)
-
-lease_kept : (l : Lists) (conn : ℕ) (lease : Lease) (cache : Claim) (may : Bool) → Keeps l conn (if may then Does (Acks cache (kind_of_state lease.state) ∷ []) l (told.Answered (lease_left lease)) else Fails RequestNotAccepted)
-lease_kept l conn lease cache true = (refl, same_opens l l refl)
-lease_kept l conn lease cache false = tt
-
-lease_by_keeps : (l : Lists) (conn : ℕ) (lease : Lease) (cache : Claim) (what : What) → Keeps l conn (ack_lease_by l lease cache what)
-lease_by_keeps l conn lease cache (whats.Cache kind None) = tt
-lease_by_keeps l conn lease cache (whats.Cache kind (Some running)) = lease_kept l conn lease cache (may_keep lease.state running)
-lease_by_keeps l conn lease cache (whats.Share access deny) = tt
-lease_by_keeps l conn lease cache (whats.Range extent exclusive) = tt
-
-lease_cache_keeps : (l : Lists) (conn : ℕ) (lease : Lease) (o : Option Claim) → Keeps l conn (ack_cache l lease o)
-lease_cache_keeps l conn lease None = tt
-lease_cache_keeps l conn lease (Some cache) = lease_by_keeps l conn lease cache cache.what
-
-lease_keeps : (s : CoreState) (l : Lists) (conn : ℕ) (client : List ℕ) (lease : Lease) (o : Option LeaseRow) → Keeps l conn (ack_lease s l client lease o)
-lease_keeps s l conn client lease None = tt
-lease_keeps s l conn client lease (Some row) = lease_cache_keeps l conn lease (cache_of row.file (lease_party s.names client lease.key) s.claims)
-
-break_keeps : (s : CoreState) (l : Lists) (conn : ℕ) (client : List ℕ) (b : Acknowledgement) → Keeps l conn (break_by s l conn client b)
-break_keeps s l conn client (held.Oplock level id) = by_open (Keeps l conn) (λ number. is_open_on conn (open_of number l)) (ack_level s l level) (file_number s id) tt (λ number on. ack_level_keeps s l conn level number (level == 0xFF))
-break_keeps s l conn client (held.Lease lease) = lease_keeps s l conn client lease (lease_row (record { client = client; key = lease.key }) l)
-
 acknowledge_keeps : (s : CoreState) (l : Lists) (conn : ℕ) (client : List ℕ) (h : SmbHead) (b : Acknowledgement) → Keeps l conn (acknowledge s l conn client h b)
-unfolding acknowledge
-acknowledge_keeps s l conn client h b = by_session (Keeps l conn) (λ number. is_session_on conn (session_of number l)) _ (number_in s h.session_id) tt (λ k on. break_keeps s l conn client b)
+acknowledge_keeps s l conn client h b = walk_acknowledge (Keeps l conn) (λ refusal. tt) s l conn client (λ cache to t here may own quiet. (refl, same_opens l l refl)) h b
 
 -- ---- a request
 
@@ -349,15 +236,10 @@ read_keeps s files others l conn (Ok (Reply h r)) = tt
 read_keeps s files others l conn (Ok (Told t)) = tt
 read_keeps s files others l conn (Err fault) = tt
 
-requested_by : (s : CoreState) (files : List (List ℕ)) (others : ℕ) (l : Lists) (conn : ℕ) (m : Result MessageItem SmbBad) (part above unread : Bool) → Keeps l conn (if part then Fails InvalidParameter else if above then Fails InvalidParameter else if unread then Fails NotSupported else read_as s files others l conn m)
-requested_by s files others l conn m true above unread = tt
-requested_by s files others l conn m false true unread = tt
-requested_by s files others l conn m false false true = tt
-requested_by s files others l conn m false false false = read_keeps s files others l conn m
-
 requested_keeps : (s : CoreState) (files : List (List ℕ)) (others : ℕ) (l : Lists) (conn : ℕ) (bytes : List ℕ) (h : SmbHead) → Keeps l conn (requested s files others l conn bytes h)
 unfolding requested
-requested_keeps s files others l conn bytes h = requested_by s files others l conn (message_at bytes) (not (h.next_command == 0)) (nat_lt 18 h.command) (not (is_some (command_of h.command)))
+requested_keeps s files others l conn bytes h =
+    walk_refused (Keeps l conn) (λ refusal. tt) ((not (h.next_command == 0), InvalidParameter) ∷ (nat_lt 18 h.command, InvalidParameter) ∷ (not (is_some (command_of h.command)), NotSupported) ∷ []) (read_as s files others l conn (message_at bytes)) (λ all. read_keeps s files others l conn (message_at bytes))
 
 -- ---- so requests wait where they may
 

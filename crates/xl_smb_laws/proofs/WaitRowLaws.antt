@@ -1,50 +1,38 @@
 -- A request is told that it waits exactly as a row of it comes.
 use Rattle.std.proofs.Common.{◌≡◌, ℕ, ◌+◌, Bool, true, false, not, if◌then◌else◌, List, [], ◌∷◌, ◌++◌, length, Option, Some, None, refl, sym, ap, subst, ◌∙◌}
-use Rattle.std.specs.Prelude.{◌==◌, nat_lt}
-use Rattle.std.proofs.lemmas.Bool.{false≢true, true≢false}
+use Rattle.std.proofs.lemmas.Bool.{true≢false, false≢true}
+use Rattle.std.specs.Prelude.{◌==◌}
 use Rattle.xl_base.proofs.Members.{all_from, all_in}
-use Rattle.xl_matrix.specs.declared.claim.Break.{Break}
-use Rattle.xl_matrix.specs.declared.claim.Claim.{Claim}
-use Rattle.xl_matrix.specs.declared.claim.What.{What}
-use Rattle.xl_matrix.specs.declared.claim.What.TheVariants as whats
-use Rattle.xl_cache.specs.Levels.{kind_of_state}
 use Rattle.xl_smb.specs.Calls.{CallItem, Cancel, Close, Create, Echo, Lock, Logoff, Negotiate, OplockBreak, Other, SessionSetup, TreeConnect, TreeDisconnect}
 use Rattle.xl_smb.specs.Locks.{LockItem, elements_of}
 use Rattle.xl_smb.specs.Sessions.{NegotiateCallItem, dialects_of}
-use Rattle.xl_smb.specs.declared.breaks.Break.{Break as Acknowledgement}
-use Rattle.xl_smb.specs.declared.breaks.Break.TheVariants as held
 use Rattle.xl_smb.specs.declared.file.FileId.{FileId}
 use Rattle.xl_smb.specs.declared.head.SmbHead.{SmbHead}
-use Rattle.xl_smb.specs.declared.lease.Lease.{Lease}
 use Rattle.xl_smb.specs.declared.lock.LockElement.{LockElement}
 use Rattle.xl_smb_state.specs.Links.{AreDistinct}
-use Rattle.xl_smb_state.specs.State.{Lists, client_of, connection_of, lease_of as lease_row, open_of, waiting_added}
-use Rattle.xl_smb_state.specs.declared.row.Lease.{Lease as LeaseRow}
+use Rattle.xl_smb_state.specs.State.{Lists, client_of, connection_changed, connection_of, open_of, waiting_added}
 use Rattle.xl_smb_state.specs.declared.row.Open.{Open}
-use Rattle.xl_smb_state.specs.declared.row.Place.{Place}
-use Rattle.xl_smb_state.specs.declared.row.Request.TheVariants as request
 use Rattle.xl_smb_state.specs.declared.row.Waiting.{Waiting}
 use Rattle.xl_smb_state.proofs.LeaseLaws.{with_keeps}
 use Rattle.xl_wait.specs.Waiting.{is_waiting, no_rows}
 use Rattle.xl_core.specs.Decide.{ask}
-use Rattle.xl_core.specs.Deeds.{Acks, AreFit, Deed}
+use Rattle.xl_core.specs.Deeds.{AreFit, Deed}
 use Rattle.xl_core.specs.Good.{IsGood}
 use Rattle.xl_core.specs.State.{CoreState, drawn}
 use Rattle.xl_core.specs.declared.ask.Answer.{Answer}
 use Rattle.xl_core.specs.declared.ask.Answer.TheVariants as answers
 use Rattle.xl_core.proofs.GoodLaws.{drawn_good}
-use Rattle.xl_smb_locks.specs.Elements.{is_count, lock_fault, unlock_fault, unlocks_first}
-use Rattle.xl_smb_locks.specs.Levels.{cache_of, lease_party, oplock_of}
+use Rattle.xl_smb_locks.specs.Elements.{unlock_fault}
 use Rattle.xl_smb_locks.specs.Locks.{lock_told, unlock_ask, unlock_next, unlock_told, unlocks}
 use Rattle.xl_smb_locks.specs.declared.levels.Caching.{Caching}
 use Rattle.xl_smb_locks.specs.declared.locking.Locking.{Locking}
 use Rattle.xl_smb_locks.specs.declared.locking.Locking.TheVariants as locking
 use Rattle.xl_smb_locks.specs.declared.status.SmbStatus.{SmbStatus}
 use Rattle.xl_smb_locks.specs.declared.status.SmbStatus.TheVariants as status
-use Rattle.xl_front_smb.specs.Checks.{file_number, id_of, is_fresh, is_open_on, negotiated_by, session_named}
-use Rattle.xl_front_smb.specs.Files.{ack_by, ack_cache, ack_lease, ack_lease_by, ack_level, ack_of, ack_open, acknowledge, break_by, close, close_open, is_refused, lease_left, may_keep, refused_ack, taken_ack}
+use Rattle.xl_front_smb.specs.Checks.{file_number, is_fresh, is_open_on, negotiated_by, session_named}
+use Rattle.xl_front_smb.specs.Files.{close, close_open}
 use Rattle.xl_front_smb.specs.Laws.{outcome_of}
-use Rattle.xl_front_smb.specs.Locks.{cancel, cancel_named, lock, lock_by, lock_found, place_of, request_named, unlock_by, waiting_row}
+use Rattle.xl_front_smb.specs.Locks.{cancel, cancel_named, lock, request_named}
 use Rattle.xl_front_smb.specs.Plans.{Does, Fails, Locks, Opens, Plan, carried, deeds_of, has_room_to_wait, lists_as, opened_lists, opened_told, told_as}
 use Rattle.xl_front_smb.specs.Requests.{commanded, planned}
 use Rattle.xl_front_smb.specs.Sessions.{connect, connect_as, disconnect, has_room_for_session, has_room_for_tree, logoff, negotiate, offers, session_setup, set_up_as, tree_connect, tree_disconnect}
@@ -54,15 +42,10 @@ use Rattle.xl_front_smb.specs.declared.told.Told.TheVariants as told
 use Rattle.xl_smb_laws.specs.ReplyHeads.{KeepsHead}
 use Rattle.xl_smb_laws.specs.WaitingRequests.{AreAwaited, IsAwaited}
 use Rattle.xl_smb_laws.proofs.AwaitedRequestLaws.{Sorts, drawn_awaited, planned_sorts}
-use Rattle.xl_smb_laws.proofs.PlanWalks.{walk_client, walk_create, walk_if, walk_session, walk_tree, walk_unless}
-use Rattle.xl_smb_laws.proofs.RequestOwn.{by_open, planned_theirs}
+use Rattle.xl_smb_laws.proofs.PlanWalks.{by_open, is_pending, walk_acknowledge, walk_client, walk_created, walk_if, walk_lock, walk_refused, walk_session, walk_tree}
+use Rattle.xl_smb_laws.proofs.RequestOwn.{planned_theirs}
 use Rattle.xl_smb_laws.proofs.RoomLaws.{queued_kept}
 use Rattle.xl_smb_laws.proofs.WaitConnectionLaws.{stands_on}
-
--- it is told that it waits
-abbrev is_pending : Told → Bool
-is_pending (told.Pending id) = true
-is_pending _ = false
 
 -- a plan of a request that waits keeps of it what its header says, and no other is told that it waits
 abbrev Comes : SmbHead → ℕ → CallItem → Plan → Type 0
@@ -82,7 +65,9 @@ module _ (s : CoreState) (files : List (List ℕ)) (others : ℕ) (l : Lists) (c
 
   negotiate_comes : (c : NegotiateCallItem) → P (negotiate l conn c)
   unfolding negotiate
-  negotiate_comes c = walk_unless P stop (not (is_fresh (connection_of conn l))) status.InvalidParameter _ (walk_unless P stop (length (dialects_of c.dialects) == 0) status.InvalidParameter _ (walk_unless P stop (not (offers c.dialects)) status.NotSupported _ refl))
+  negotiate_comes c =
+      walk_refused P stop ((not (is_fresh (connection_of conn l)), status.InvalidParameter) ∷ (length (dialects_of c.dialects) == 0, status.InvalidParameter) ∷ (not (offers c.dialects), status.NotSupported) ∷ [])
+      (Does [] (connection_changed conn (record { client = Some c.client_guid }) l) told.Negotiated) (λ all. refl)
 
   setup_comes : (new : Bool) → h.session_id == 0 ≡ new → P (session_setup s l conn h)
   unfolding session_setup
@@ -97,19 +82,19 @@ module _ (s : CoreState) (files : List (List ℕ)) (others : ℕ) (l : Lists) (c
   unfolding tree_connect
   connect_comes path =
       walk_session P stop (connect s l conn path) (session_named s l conn h.session_id)
-      (λ session. walk_unless P stop (not (has_room_for_tree l conn (s.counter + 1))) status.InsufficientResources _ (walk_unless P stop (not (is_share path)) status.BadNetworkName (connect_as l conn session (s.counter + 1)) refl))
+      (λ session. walk_refused P stop ((not (has_room_for_tree l conn (s.counter + 1)), status.InsufficientResources) ∷ (not (is_share path), status.BadNetworkName) ∷ []) (connect_as l conn session (s.counter + 1)) (λ all. refl))
 
   disconnect_comes : (client : List ℕ) → P (tree_disconnect s l conn client h)
   unfolding tree_disconnect
   disconnect_comes client =
       walk_session P stop _ (session_named s l conn h.session_id)
-      (λ session. walk_tree P stop l conn session client h (disconnect s l) (λ place here. refl))
+      (λ session. walk_tree P stop l conn session client h (disconnect s l) (λ place here there. refl))
 
   close_comes : (client : List ℕ) (id : FileId) → P (close s l conn client h id)
   unfolding close
   close_comes client id =
       walk_session P stop _ (session_named s l conn h.session_id)
-      (λ session. walk_tree P stop l conn session client h _ (λ place here. by_open P (λ number. is_open_on conn (open_of number l)) (close_open s l) (file_number s id) tt (λ number on. refl)))
+      (λ session. walk_tree P stop l conn session client h _ (λ place here there. by_open P (λ number. is_open_on conn (open_of number l)) (close_open s l) (file_number s id) tt (λ number on. refl)))
 
   cancel_comes : (o : Option ℕ) → P (cancel_named s l o)
   cancel_comes None = refl
@@ -118,47 +103,6 @@ module _ (s : CoreState) (files : List (List ℕ)) (others : ℕ) (l : Lists) (c
       by : (b : Bool) → is_waiting id s.waiters ≡ b → P (cancel_named s l (Some id))
       by true is = rw is refl
       by false is = rw is refl
-
-  acked_comes : (id level : ℕ) (cache : Claim) (running : Option Break) (refused : Bool) → P (if refused then refused_ack l cache running else taken_ack l id level cache running)
-  acked_comes id level cache None true = tt
-  acked_comes id level cache None false = tt
-  acked_comes id level cache (Some running) true = refl
-  acked_comes id level cache (Some running) false = refl
-
-  ack_by_comes : (id level : ℕ) (cache : Claim) (what : What) → P (ack_by l id level cache what)
-  ack_by_comes id level cache (whats.Cache kind running) = acked_comes id level cache running (is_refused level kind running)
-  ack_by_comes id level cache (whats.Share access deny) = tt
-  ack_by_comes id level cache (whats.Range extent exclusive) = tt
-
-  ack_of_comes : (id level : ℕ) (o : Option Claim) → P (ack_of l id level o)
-  ack_of_comes id level None = walk_unless P stop (nat_lt 1 level) status.InvalidOplockProtocol (Fails status.InvalidDeviceState) tt
-  ack_of_comes id level (Some cache) = ack_by_comes id level cache cache.what
-
-  ack_open_comes : (level number : ℕ) (o : Option Open) → P (ack_open s l level number o)
-  ack_open_comes level number None = tt
-  ack_open_comes level number (Some row) = ack_of_comes (id_of s number) level (oplock_of row.file number s.claims)
-
-  lease_by_comes : (lease : Lease) (cache : Claim) (what : What) → P (ack_lease_by l lease cache what)
-  lease_by_comes lease cache (whats.Cache kind None) = tt
-  lease_by_comes lease cache (whats.Cache kind (Some running)) = walk_if P stop (may_keep lease.state running) status.RequestNotAccepted (Does (Acks cache (kind_of_state lease.state) ∷ []) l (told.Answered (lease_left lease))) refl
-  lease_by_comes lease cache (whats.Share access deny) = tt
-  lease_by_comes lease cache (whats.Range extent exclusive) = tt
-
-  lease_cache_comes : (lease : Lease) (o : Option Claim) → P (ack_cache l lease o)
-  lease_cache_comes lease None = tt
-  lease_cache_comes lease (Some cache) = lease_by_comes lease cache cache.what
-
-  lease_comes : (client : List ℕ) (lease : Lease) (o : Option LeaseRow) → P (ack_lease s l client lease o)
-  lease_comes client lease None = tt
-  lease_comes client lease (Some row) = lease_cache_comes lease (cache_of row.file (lease_party s.names client lease.key) s.claims)
-
-  break_comes : (client : List ℕ) (b : Acknowledgement) → P (break_by s l conn client b)
-  break_comes client (held.Oplock level id) = by_open P (λ number. is_open_on conn (open_of number l)) (ack_level s l level) (file_number s id) tt (λ number on. walk_unless P stop (level == 0xFF) status.InvalidParameter (ack_open s l level number (open_of number l)) (ack_open_comes level number (open_of number l)))
-  break_comes client (held.Lease lease) = lease_comes client lease (lease_row (record { client = client; key = lease.key }) l)
-
-  acknowledge_comes : (client : List ℕ) (b : Acknowledgement) → P (acknowledge s l conn client h b)
-  unfolding acknowledge
-  acknowledge_comes client b = walk_session P stop _ (session_named s l conn h.session_id) (λ session. break_comes client b)
 
 -- ---- LOCK
 
@@ -194,32 +138,11 @@ ended_told locking.Done ends = refl
 ended_told (locking.Failed refused) ends = refl
 ended_told (locking.Waits id) ends = absurd (false≢true ends)
 
-module _ (s : CoreState) (files : List (List ℕ)) (others : ℕ) (l : Lists) (conn : ℕ) (h : SmbHead) (c : LockItem) where
-  abbrev Q : Plan → Type 0
-  Q plan = Comes h conn (Lock c) plan
-
-  abbrev halt : (refused : SmbStatus) → Q (Fails refused)
-  halt refused = tt
-
-  lock_by_comes : (place : Place) (number : ℕ) (row : Open) (es : List LockElement) (o : Option SmbStatus) → place.connection ≡ conn → Q (lock_by conn (waiting_row h place number request.Lock) number row es o)
-  lock_by_comes place number row es (Some refused) on = tt
-  lock_by_comes place number row es None on = record { message = refl; session = refl; charge = refl; command = refl; connection = on }
-
-  lock_on_comes : (number : ℕ) (place : Place) (es : List LockElement) (row : Open) (count first : Bool) → is_open_on conn (Some row) ≡ true
-      → Q (if not count then Fails status.InvalidParameter else if first then unlock_by l (unlocks s number row es) else lock_by conn (waiting_row h (place_of row.holder place) number request.Lock) number row es (lock_fault es))
-  lock_on_comes number place es row false first on = tt
-  lock_on_comes number place es row true true on = ended_told (unlocks s number row es).1 (unlocks_end s number row es)
-  lock_on_comes number place es row true false on = lock_by_comes (place_of row.holder place) number row es (lock_fault es) (stands_on conn row.holder place row refl on)
-
-  lock_found_comes : (number : ℕ) (place : Place) (es : List LockElement) (o : Option Open) → is_open_on conn o ≡ true → Q (lock_found s l conn h number place es o)
-  lock_found_comes number place es None on = tt
-  lock_found_comes number place es (Some row) on = lock_on_comes number place es row (is_count (length es)) (unlocks_first es) on
-
-  lock_comes : (client : List ℕ) → Q (lock s l conn client h c)
-  unfolding lock
-  lock_comes client =
-      walk_session Q halt _ (session_named s l conn h.session_id)
-      (λ session. walk_tree Q halt l conn session client h _ (λ place here. by_open Q (λ number. is_open_on conn (open_of number l)) _ (file_number s c.file_id) tt (λ number on. lock_found_comes number place (elements_of c.elements) (open_of number l) on)))
+lock_comes : (s : CoreState) (l : Lists) (conn : ℕ) (h : SmbHead) (c : LockItem) (client : List ℕ) → Comes h conn (Lock c) (lock s l conn client h c)
+lock_comes s l conn h c client =
+    walk_lock (λ plan. Comes h conn (Lock c) plan) (λ refusal. tt) s l conn client h c
+    (λ number row at on. ended_told (unlocks s number row (elements_of c.elements)).1 (unlocks_end s number row (elements_of c.elements)))
+    (λ place number row at on count sound. record { message = refl; session = refl; charge = refl; command = refl; connection = stands_on conn row.holder place row refl on })
 
 -- ---- a request
 
@@ -234,12 +157,12 @@ module _ (s : CoreState) (files : List (List ℕ)) (others : ℕ) (l : Lists) (c
   planned_comes Logoff = once_comes Logoff (λ client. logoff_comes s files others l conn h Logoff)
   planned_comes (TreeConnect path) = once_comes (TreeConnect path) (λ client. connect_comes s files others l conn h (TreeConnect path) path)
   planned_comes TreeDisconnect = once_comes TreeDisconnect (λ client. disconnect_comes s files others l conn h TreeDisconnect client)
-  planned_comes (Create c) = walk_create (λ plan. Comes h conn (Create c) plan) (λ refused. tt) s files others l conn h c (λ client place file here. record { message = refl; session = refl; charge = refl; command = refl; connection = here })
+  planned_comes (Create c) = walk_created (λ plan. Comes h conn (Create c) plan) (λ refused. tt) s files others l conn h c (λ client place file here. record { message = refl; session = refl; charge = refl; command = refl; connection = here })
   planned_comes (Close c) = once_comes (Close c) (λ client. close_comes s files others l conn h (Close c) client c.file_id)
-  planned_comes (Lock c) = once_comes (Lock c) (λ client. lock_comes s files others l conn h c client)
+  planned_comes (Lock c) = once_comes (Lock c) (λ client. lock_comes s l conn h c client)
   planned_comes Cancel = once_comes Cancel (λ client. cancel_comes s files others l conn h Cancel (request_named conn l h.message_id h.route))
   planned_comes Echo = once_comes Echo (λ client. refl)
-  planned_comes (OplockBreak b) = once_comes (OplockBreak b) (λ client. acknowledge_comes s files others l conn h (OplockBreak b) client b)
+  planned_comes (OplockBreak b) = once_comes (OplockBreak b) (λ client. walk_acknowledge (λ plan. Comes h conn (OplockBreak b) plan) (λ refused. tt) s l conn client (λ cache to t here may own quiet. quiet) h b)
   planned_comes Other = once_comes Other (λ client. tt)
 
 -- ---- what it comes to

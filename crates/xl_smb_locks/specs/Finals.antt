@@ -4,9 +4,11 @@ use Rattle.std.specs.List.{list_any}
 use Rattle.std.specs.Map.{remove_entry}
 use Rattle.xl_base.specs.declared.event.Out.{Out}
 use Rattle.xl_programs.specs.Sent.{sent_to}
+use Rattle.xl_smb.specs.Heads.{number_of}
 use Rattle.xl_smb.specs.Messages.{Reply, spelling}
 use Rattle.xl_smb.specs.Places.{zeros}
 use Rattle.xl_smb.specs.Replies.{Create, Lock, Error}
+use Rattle.xl_smb.specs.declared.command.Command.TheVariants as commands
 use Rattle.xl_smb.specs.declared.head.Route.TheVariants.{Async}
 use Rattle.xl_smb.specs.declared.head.SmbHead.{SmbHead}
 use Rattle.xl_smb_state.specs.Links.{most_opens, has_place}
@@ -20,13 +22,14 @@ use Rattle.xl_smb_state.specs.declared.row.Request.TheVariants as request
 use Rattle.xl_smb_state.specs.declared.row.Waiting.{Waiting}
 use Rattle.xl_core.specs.State.{CoreState}
 use Rattle.xl_core.specs.declared.ask.Answer.{Answer}
-use Rattle.xl_core.specs.declared.ask.Answer.TheVariants as answers
 use Rattle.xl_core.specs.declared.ask.Effect.{Effect}
 use Rattle.xl_core.specs.declared.ask.Effect.TheVariants as effects
 use Rattle.xl_core.specs.Ids.{id_of}
 use Rattle.xl_smb_locks.specs.Levels.{caching, opened, noticed}
-use Rattle.xl_smb_locks.specs.Statuses.{status_number}
+use Rattle.xl_smb_locks.specs.Statuses.{comes_to, status_number, status_success}
 use Rattle.xl_smb_locks.specs.declared.levels.Caching.{Caching}
+use Rattle.xl_smb_locks.specs.declared.locking.Locking.{Locking}
+use Rattle.xl_smb_locks.specs.declared.locking.Locking.TheVariants as locking
 use Rattle.xl_smb_locks.specs.declared.status.SmbStatus.{SmbStatus}
 use Rattle.xl_smb_locks.specs.declared.status.SmbStatus.TheVariants.{SharingViolation, LockNotGranted, InsufficientResources, Cancelled}
 
@@ -50,8 +53,8 @@ final_head id command h status = record {
 
 -- the number of the request's command
 abbrev pub command_by : Request → ℕ
-command_by (request.Create made) = 5
-command_by request.Lock = 10
+command_by (request.Create made) = number_of commands.Create
+command_by request.Lock = number_of commands.Lock
 
 -- it failed so
 abbrev pub failed_reply : ℕ → Waiting → SmbStatus → List ℕ
@@ -59,11 +62,11 @@ failed_reply id row status = spelling (Reply (final_head id (command_by row.requ
 
 -- the ranges are locked
 abbrev pub locked_reply : ℕ → Waiting → List ℕ
-locked_reply id row = spelling (Reply (final_head id 10 row.header 0) Lock)
+locked_reply id row = spelling (Reply (final_head id (number_of commands.Lock) row.header status_success) Lock)
 
 -- the file is open under this id, with this said of its cache
 abbrev pub opened_reply : ℕ → Waiting → ℕ → Caching → List ℕ
-opened_reply id row handle told = spelling (Reply (final_head id 5 row.header 0) (Create (opened handle told)))
+opened_reply id row handle told = spelling (Reply (final_head id (number_of commands.Create) row.header status_success) (Create (opened handle told)))
 
 -- it goes to the connection that the request came by
 abbrev pub final_outs : Waiting → List ℕ → List Out
@@ -84,17 +87,19 @@ request_ended id status l = ended_with id status (waiting_of id l) l
 
 -- ---- a request that was served
 
+-- why it failed, if it did; what is served doesn't wait
+abbrev pub refusal_in : Locking → Option SmbStatus
+refusal_in locking.Done = None
+refusal_in (locking.Failed status) = Some status
+refusal_in (locking.Waits id) = Some InsufficientResources
+
 -- why locks failed, if they did
 abbrev pub lock_refusal : Answer → Option SmbStatus
-lock_refusal (answers.Granted claim) = None
-lock_refusal (answers.Conflict claim) = Some LockNotGranted
-lock_refusal answer = Some InsufficientResources
+lock_refusal answer = refusal_in (comes_to LockNotGranted answer)
 
--- why an open failed, if it did: something held is against it, or there is no room for it
+-- why an open failed, if it did
 abbrev pub open_refusal : Answer → Option SmbStatus
-open_refusal (answers.Granted claim) = None
-open_refusal (answers.Conflict claim) = Some SharingViolation
-open_refusal answer = Some InsufficientResources
+open_refusal answer = refusal_in (comes_to SharingViolation answer)
 
 abbrev pub locked_outs : ℕ → Waiting → Option SmbStatus → List Out
 locked_outs id row None = final_outs row (locked_reply id row)

@@ -16,10 +16,11 @@ use Rattle.xl_core.specs.declared.ask.Effect.{Effect}
 use Rattle.xl_core.specs.declared.ask.Who.TheVariants as who
 use Rattle.xl_smb_locks.specs.Elements.{extent_of, is_exclusive, any_waits, unlock_fault}
 use Rattle.xl_smb_locks.specs.Levels.{party_for}
+use Rattle.xl_smb_locks.specs.Statuses.{comes_to}
 use Rattle.xl_smb_locks.specs.declared.locking.Locking.{Locking}
-use Rattle.xl_smb_locks.specs.declared.locking.Locking.TheVariants.{Done, Failed, Waits}
+use Rattle.xl_smb_locks.specs.declared.locking.Locking.TheVariants.{Done, Failed}
 use Rattle.xl_smb_locks.specs.declared.status.SmbStatus.{SmbStatus}
-use Rattle.xl_smb_locks.specs.declared.status.SmbStatus.TheVariants.{LockNotGranted, RangeNotLocked, InsufficientResources}
+use Rattle.xl_smb_locks.specs.declared.status.SmbStatus.TheVariants.{LockNotGranted, RangeNotLocked}
 
 -- ---- what the core is asked
 
@@ -76,10 +77,7 @@ unlocks s number row (e ∷ es) =
 
 -- what the answer makes of it
 abbrev pub lock_told : Answer → Locking
-lock_told (answers.Granted c) = Done
-lock_told (answers.Queued id) = Waits id
-lock_told (answers.Conflict c) = Failed LockNotGranted
-lock_told answer = Failed InsufficientResources
+lock_told answer = comes_to LockNotGranted answer
 
 abbrev pub lock_done : Answer × List Effect × CoreState → Locking × List Effect × CoreState
 lock_done r = (lock_told r.0, r.1, r.2)

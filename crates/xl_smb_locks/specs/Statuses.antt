@@ -1,5 +1,9 @@
--- Statuses as numbers (MS-ERREF 2.3).
+-- Statuses, as numbers and by what the core answers (MS-ERREF 2.3).
 use Rattle.std.specs.Prelude.{ℕ}
+use Rattle.xl_core.specs.declared.ask.Answer.{Answer}
+use Rattle.xl_core.specs.declared.ask.Answer.TheVariants as answers
+use Rattle.xl_smb_locks.specs.declared.locking.Locking.{Locking}
+use Rattle.xl_smb_locks.specs.declared.locking.Locking.TheVariants as locking
 use Rattle.xl_smb_locks.specs.declared.status.SmbStatus.{SmbStatus}
 use Rattle.xl_smb_locks.specs.declared.status.SmbStatus.TheVariants as status
 
@@ -22,3 +26,17 @@ status_number status.FileClosed = 0xC0000128
 status_number status.InvalidDeviceState = 0xC0000184
 status_number status.InvalidLockRange = 0xC00001A1
 status_number status.UserSessionDeleted = 0xC0000203
+
+-- STATUS_SUCCESS, and STATUS_PENDING of a request that waits
+abbrev pub status_success : ℕ
+status_success = 0
+
+abbrev pub status_pending : ℕ
+status_pending = 0x103
+
+-- what an ask comes to by the core's answer: it fails with this status if something held is against it, and else for want of room
+abbrev pub comes_to : SmbStatus → Answer → Locking
+comes_to conflict (answers.Granted c) = locking.Done
+comes_to conflict (answers.Queued id) = locking.Waits id
+comes_to conflict (answers.Conflict c) = locking.Failed conflict
+comes_to conflict answer = locking.Failed status.InsufficientResources

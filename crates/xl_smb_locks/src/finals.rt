@@ -5,11 +5,12 @@ ghost use Rattle.xl_base.specs.Limits.{most_message_bytes};
 ghost use Rattle.xl_programs.specs.Sent.{FitsFrame};
 ghost use Rattle.xl_smb_state.specs.Links.{IsHolderLinked, IsOpenLinked, most_opens};
 ghost use Rattle.xl_smb_state.specs.State.{open_of, waiting_of, waiting_dropped};
-ghost use Rattle.xl_smb_locks.specs.Finals.{final_head, command_by, failed_reply, locked_reply, opened_reply, final_outs, failed_outs, request_ended, lock_refusal, open_refusal, locked_outs, holder_stands, may_stand, stood, opened_outs, served_by, request_served, told_of, cancels, is_cancelled, dismissed};
+ghost use Rattle.xl_smb_locks.specs.Finals.{final_head, command_by, failed_reply, locked_reply, opened_reply, final_outs, failed_outs, request_ended, refusal_in, locked_outs, holder_stands, may_stand, stood, opened_outs, served_by, request_served, told_of, cancels, is_cancelled, dismissed};
 ghost use Rattle.xl_smb_locks.specs.declared.status.SmbStatus.TheVariants.{Cancelled};
 
 use crate::levels::{Caching, caching_of, contexts_told, noticed, opened};
-use crate::status::SmbStatus;
+use crate::locking::{Locking, comes_to};
+use crate::status::{SUCCESS, SmbStatus};
 use std::alloc::{AllocError, Global};
 use xl_base::{Out, Sequence};
 use xl_core::{Answer, Core, Effect, id_of};
@@ -68,7 +69,7 @@ fn locked_reply(alloc: Global, id: u32, row: &Waiting) -> Result<Vec<u8>, AllocE
     ensures reply { IfOk result (λ v. v.items ≡ locked_reply id row.now) }
     ensures little { IfOk result (λ v. length v.items ≤ most_message_bytes) }
 {
-    let head = final_head(id, Command::Lock.number(), &row.header, 0);
+    let head = final_head(id, Command::Lock.number(), &row.header, SUCCESS);
     let message = SmbMessage::Reply(head, SmbReply::Lock);
     Ok(write(alloc, &message)?)
 }
@@ -85,7 +86,7 @@ fn opened_reply(
     ensures reply { IfOk result (λ v. v.items ≡ opened_reply id row.now handle told) }
     ensures little { IfOk result (λ v. length v.items ≤ most_message_bytes) }
 {
-    let head = final_head(id, Command::Create.number(), &row.header, 0);
+    let head = final_head(id, Command::Create.number(), &row.header, SUCCESS);
     let contexts = contexts_told(alloc, told)?;
     let message = SmbMessage::Reply(head, SmbReply::Create(opened(handle, told, &contexts)));
     Ok(write(alloc, &message)?)
@@ -133,39 +134,14 @@ fn end_request(
     Ok(outs)
 }
 
-/// Why locks failed, if they did.
-fn lock_refusal(answer: &Answer) -> Option<SmbStatus>
-    ensures { result ≡ lock_refusal answer.now }
+/// Why it failed, if it did. What is served doesn't wait.
+fn refusal_in(locking: Locking) -> Option<SmbStatus>
+    ensures { result ≡ refusal_in locking }
 {
-    match answer {
-        Answer::Granted(_) => None,
-        Answer::Conflict(_) => Some(SmbStatus::LockNotGranted),
-        Answer::Queued(_)
-        | Answer::Recall(_)
-        | Answer::Grace(_)
-        | Answer::NoGrace(_)
-        | Answer::NotRecorded
-        | Answer::Full(_)
-        | Answer::NotHeld
-        | Answer::StoreFailed => Some(SmbStatus::InsufficientResources),
-    }
-}
-
-/// Why an open failed, if it did: what somebody holds is against it, or there is no room for it.
-pub fn open_refusal(answer: &Answer) -> Option<SmbStatus>
-    ensures { result ≡ open_refusal answer.now }
-{
-    match answer {
-        Answer::Granted(_) => None,
-        Answer::Conflict(_) => Some(SmbStatus::SharingViolation),
-        Answer::Queued(_)
-        | Answer::Recall(_)
-        | Answer::Grace(_)
-        | Answer::NoGrace(_)
-        | Answer::NotRecorded
-        | Answer::Full(_)
-        | Answer::NotHeld
-        | Answer::StoreFailed => Some(SmbStatus::InsufficientResources),
+    match locking {
+        Locking::Done => None,
+        Locking::Failed(status) => Some(status),
+        Locking::Waits(_) => Some(SmbStatus::InsufficientResources),
     }
 }
 
@@ -266,10 +242,13 @@ fn served_by(
 {
     match row.request {
         Request::Create(made) => {
-            let refused = open_refusal(answer);
+            let refused = refusal_in(comes_to(SmbStatus::SharingViolation, answer));
             Ok(opened_outs(alloc, state, core, id, row, &made, refused)?)
         }
-        Request::Lock => Ok(locked_outs(alloc, id, row, lock_refusal(answer))?),
+        Request::Lock => {
+            let refused = refusal_in(comes_to(SmbStatus::LockNotGranted, answer));
+            Ok(locked_outs(alloc, id, row, refused)?)
+        }
     }
 }
 

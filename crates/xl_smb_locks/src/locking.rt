@@ -4,8 +4,9 @@ ghost use Rattle.xl_base.specs.Outside.{HandedOn};
 ghost use Rattle.xl_core.specs.Decide.{ask};
 ghost use Rattle.xl_core.specs.State.{MayBe};
 ghost use Rattle.xl_smb_locks.specs.Elements.{lock_fault};
-ghost use Rattle.xl_smb_locks.specs.Locks.{lock_ask, lock_told, lock_done};
+ghost use Rattle.xl_smb_locks.specs.Locks.{lock_ask, lock_done};
 ghost use Rattle.xl_smb_locks.specs.Short.{IsOpenAsk, IsReady, Leaves};
+ghost use Rattle.xl_smb_locks.specs.Statuses.{comes_to};
 ghost use Rattle.xl_wait.specs.Waiting.{no_rows};
 
 use crate::asks::lock_ask;
@@ -17,7 +18,7 @@ use xl_smb::LockElement;
 use xl_smb_state::Open;
 use xl_wait::{NO_ROWS, Rooms};
 
-/// What a LOCK comes to.
+/// What a LOCK comes to, or the ask of a CREATE.
 #[derive(Clone, Copy)]
 pub enum Locking {
     /// All is done.
@@ -28,14 +29,15 @@ pub enum Locking {
     Waits(u32),
 }
 
-/// What the core's answer to locks makes of them.
-fn lock_told(answer: &Answer) -> Locking
-    ensures { result ≡ lock_told answer.now }
+/// What an ask comes to by the core's answer: it fails with this status if something held is against it, and else for
+/// want of room (MS-ERREF 2.3).
+pub fn comes_to(conflict: SmbStatus, answer: &Answer) -> Locking
+    ensures { result ≡ comes_to conflict answer.now }
 {
     match answer {
         Answer::Granted(_) => Locking::Done,
         Answer::Queued(id) => Locking::Waits(*id),
-        Answer::Conflict(_) => Locking::Failed(SmbStatus::LockNotGranted),
+        Answer::Conflict(_) => Locking::Failed(conflict),
         Answer::Recall(_)
         | Answer::Grace(_)
         | Answer::NoGrace(_)
@@ -88,5 +90,6 @@ pub fn lock<K: Keeper>(
 {
     let request = lock_ask(alloc, conn, number, row, elements)?;
     let (answer, effects) = asked(alloc, core, keeper, &NO_ROWS, request)?;
-    Ok((lock_told(&answer), effects))
+    let told = comes_to(SmbStatus::LockNotGranted, &answer);
+    Ok((told, effects))
 }

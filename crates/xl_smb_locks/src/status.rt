@@ -2,6 +2,11 @@
 ghost use Rattle.std.specs.Prelude.{◌≡◌};
 ghost use Rattle.xl_smb_locks.specs.Statuses.{status_number};
 
+/// STATUS_SUCCESS (MS-ERREF 2.3).
+pub const SUCCESS: u32 = 0;
+/// STATUS_PENDING, of a request that waits (MS-SMB2 3.3.4.2).
+pub const PENDING: u32 = 0x103;
+
 /// Why a request fails (MS-ERREF 2.3).
 #[derive(Clone, Copy)]
 pub enum SmbStatus {

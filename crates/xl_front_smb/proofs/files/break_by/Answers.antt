@@ -3,6 +3,3 @@ use Rattle.xl_front_smb.proofs.files.break_by.Goals as goal
 
 pub returns-in_default-clause-leaves : goal.returns-in_default-clause-leaves
 returns-in_default-clause-leaves c = leaves_self _ _ _ c.requires.ready
-
-pub returns-then-level-clause-leaves : goal.returns-then-level-clause-leaves
-returns-then-level-clause-leaves c = leaves_self _ _ _ c.requires.ready

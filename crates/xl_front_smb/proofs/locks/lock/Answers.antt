@@ -1,11 +1,5 @@
 use Rattle.xl_plan.proofs.BudgetLaws.{leaves_self}
 use Rattle.xl_front_smb.proofs.locks.lock.Goals as goal
 
-pub returns-in_default-clause-leaves : goal.returns-in_default-clause-leaves
-returns-in_default-clause-leaves g c = leaves_self _ _ _ c.requires.ready
-
-pub returns-in_default-tree_named-clause-leaves : goal.returns-in_default-tree_named-clause-leaves
-returns-in_default-tree_named-clause-leaves g c = leaves_self _ _ _ c.requires.ready
-
-pub returns-in_default-open_named-clause-leaves : goal.returns-in_default-open_named-clause-leaves
-returns-in_default-open_named-clause-leaves g c = leaves_self _ _ _ c.requires.ready
+pub returns-in-Err-clause-leaves : goal.returns-in-Err-clause-leaves
+returns-in-Err-clause-leaves g c = leaves_self _ _ _ c.requires.ready

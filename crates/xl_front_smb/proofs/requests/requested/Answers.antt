@@ -10,7 +10,7 @@ use Rattle.xl_front_smb.proofs.requests.requested.Goals as goal
 pub returns-in_ok-planned-in-Ok-Call-clause-answer : goal.returns-in_ok-planned-in-Ok-Call-clause-answer
 returns-in_ok-planned-in-Ok-Call-clause-answer g c =
     let found = subst (λ (m : SmbMessage). IsOf (head_at c.args.bytes.now) (shown m) × HasSpelling (shown m)) c.in-Ok-Call.field-0-is c.in-Ok-Call.ensures.found in
-    answers_head c.args.bytes.now c.args.head.now c.in-Ok-Call.of (shown_call c.in-Ok-Call.call) c.in_ok-planned-in-Ok-Call.field-0.0 c.requires.head found.0 found.1 c.in_ok-planned-in-Ok-Call.ensures.answer
+    answers_head c.args.bytes.now c.args.arrival.now.head.now c.in-Ok-Call.of (shown_call c.in-Ok-Call.call) c.in_ok-planned-in-Ok-Call.field-0.0 c.requires.head found.0 found.1 c.in_ok-planned-in-Ok-Call.ensures.answer
 
 pub returns-then-head-ne0-clause-leaves : goal.returns-then-head-ne0-clause-leaves
 returns-then-head-ne0-clause-leaves g c = leaves_self _ _ _ c.requires.ready

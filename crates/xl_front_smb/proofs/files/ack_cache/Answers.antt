@@ -1,7 +1,7 @@
 use Rattle.std.proofs.Common.{rules, sym, ◌∙◌}
 use Rattle.xl_plan.proofs.BudgetLaws.{leaves_self}
 use Rattle.xl_front_smb.proofs.AckLaws.{kept_done}
-use Rattle.xl_front_smb.proofs.files.ack_lease_by.Goals as goal
+use Rattle.xl_front_smb.proofs.files.ack_cache.Goals as goal
 
 pub returns-in_default-clause-leaves : goal.returns-in_default-clause-leaves
 returns-in_default-clause-leaves c = leaves_self c.args.core.now 0 0 c.requires.ready

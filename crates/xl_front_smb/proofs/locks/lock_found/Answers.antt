@@ -1,5 +1,0 @@
-use Rattle.xl_plan.proofs.BudgetLaws.{leaves_self}
-use Rattle.xl_front_smb.proofs.locks.lock_found.Goals as goal
-
-pub returns-in_default-clause-leaves : goal.returns-in_default-clause-leaves
-returns-in_default-clause-leaves g c = leaves_self _ _ _ c.requires.ready
