@@ -1,41 +1,50 @@
--- A header that was written is read again, whatever follows; which headers are no notice's.
-use Rattle.std.proofs.Common.{◌≡◌, ℕ, ◌<◌, Bool, true, false, ◌&&◌, eqb, List, ◌++◌, refl, arith}
+-- A header that was written is read again, whatever follows, and takes 64 bytes; what a header says.
+use Rattle.std.proofs.Common.{◌≡◌, ℕ, true, List, ◌++◌, length, drop, Some, refl, ap, arith}
 use Rattle.std.proofs.lemmas.Bool.Decides.{nat_tests}
-use Rattle.std.proofs.lemmas.Nat.{from_le_bytes-to_le_bytes_2 as half_again, from_le_bytes-to_le_bytes_4 as word_again, from_le_bytes-to_le_bytes_8 as long_again}
-use Rattle.std.proofs.lemmas.List.{take_at, append-nil}
+use Rattle.std.proofs.lemmas.Nat.{from_le_bytes-to_le_bytes_4 as word_again, from_le_bytes-to_le_bytes_8 as long_again}
 use Rattle.xl_base.specs.Codec.{little_endian}
-use Rattle.xl_smb.specs.Places.{u16_at, u32_at, u64_at}
-use Rattle.xl_smb.specs.Heads.{route, head, is_set, is_async, route_at, head_at, is_notice, HeadFits}
+use Rattle.xl_layout.specs.Places.{u32_at, u64_at}
+use Rattle.xl_layout.specs.Layouts.{Fit}
+use Rattle.xl_layout.proofs.LayoutLaws.{fields_length, again}
+use Rattle.xl_smb.specs.Heads.{number_of, command_of, has_mark, is_set, is_async, route, route_of, head_fields, head_at, head, is_notice, RouteFits, HeadFits}
+use Rattle.xl_smb.specs.declared.command.Command.{Command}
 use Rattle.xl_smb.specs.declared.head.Route.{Route}
 use Rattle.xl_smb.specs.declared.head.Route.TheVariants.{Tree, Async}
 use Rattle.xl_smb.specs.declared.head.SmbHead.{SmbHead}
 
-made : ℕ → ℕ → ℕ → ℕ → ℕ → ℕ → ℕ → Route → ℕ → List ℕ → SmbHead
-made charge status command credits flags next message to session signature = record { credit_charge = charge; status = status; command = command; credits = credits; flags = flags; next_command = next; message_id = message; route = to; session_id = session; signature = signature }
+route_length : (to : Route) → length (route to) ≡ 8
+unfolding route little_endian
+route_length (Tree id) = refl
+route_length (Async id) = refl
 
-made_again : (charge status command credits flags next message : ℕ) (to : Route) (session : ℕ) (signature rest : List ℕ)
-    → HeadFits (made charge status command credits flags next message to session signature) → is_set 2 flags ≡ is_async to
-    → head_at (head (made charge status command credits flags next message to session signature) ++ rest) ≡ made charge status command credits flags next message to session signature
-unfolding made head head_at route route_at little_endian u16_at u32_at u64_at
-made_again charge status command credits flags next message (Tree id) session signature rest fits form =
-    rw (half_again charge fits.credit_charge, word_again status fits.status, half_again command fits.command, half_again credits fits.credits, word_again flags fits.flags, word_again next fits.next_command, long_again message fits.message_id, form, word_again id fits.route, long_again session fits.session_id, append-nil signature, take_at signature rest 16 fits.signature) refl
-made_again charge status command credits flags next message (Async id) session signature rest fits form =
-    rw (half_again charge fits.credit_charge, word_again status fits.status, half_again command fits.command, half_again credits fits.credits, word_again flags fits.flags, word_again next fits.next_command, long_again message fits.message_id, form, long_again id fits.route, long_again session fits.session_id, append-nil signature, take_at signature rest 16 fits.signature) refl
+route_again : (flags : ℕ) (to : Route) → RouteFits to → is_set 2 flags ≡ is_async to → route_of flags (route to) ≡ to
+unfolding route little_endian u32_at u64_at
+route_again flags (Tree id) fits form = rw (form, word_again id fits) refl
+route_again flags (Async id) fits form = rw (form, long_again id fits) refl
+
+head_fit : (h : SmbHead) → HeadFits h → is_set 2 h.flags ≡ is_async h.route → Fit head_fields h
+unfolding head_fields
+head_fit h fits form =
+    (refl, (fits.credit_charge, (fits.status, (fits.command, (fits.credits, (fits.flags, (fits.next_command, (fits.message_id, (route_length h.route, (fits.session_id, (fits.signature, ap (λ (to : Route). record h { route = to }) (route_again h.flags h.route fits.route form))))))))))))
+
+pub head_length : (h : SmbHead) → HeadFits h → is_set 2 h.flags ≡ is_async h.route → length (head h) ≡ 64
+unfolding head head_fields
+head_length h fits form = fields_length head_fields 64 h (head_fit h fits form)
 
 pub head_again : (h : SmbHead) (rest : List ℕ) → HeadFits h → is_set 2 h.flags ≡ is_async h.route → head_at (head h ++ rest) ≡ h
-unfolding made
-head_again h rest fits form = made_again h.credit_charge h.status h.command h.credits h.flags h.next_command h.message_id h.route h.session_id h.signature rest fits form
+unfolding head head_at head_fields
+head_again h rest fits form = (again head_fields h 0 64 64 0 0 64 (head h ++ rest) rest (drop 64 (head h ++ rest)) (head_fit h fits form) refl (omega arith) (omega arith) refl refl).1
 
--- ---- a reply that is no notice, as each that grants credits, and each with another flag than 1
+pub mark_stands : (h : SmbHead) (rest : List ℕ) → has_mark (head h ++ rest) ≡ true
+unfolding has_mark head head_fields
+mark_stands h rest = refl
 
-and_false : (b : Bool) → (b && false) ≡ false
-and_false true = refl
-and_false false = refl
+-- ---- what a header says
 
-pub flagged_no_notice : (h : SmbHead) → eqb h.flags 1 ≡ false → is_notice h ≡ false
+pub notice_says : (h : SmbHead) → is_notice h ≡ true → (h.command ≡ 18) × (h.flags ≡ 1)
 unfolding is_notice
-flagged_no_notice h other = rw (other, and_false (eqb h.status 0 && eqb h.command 18)) refl
+notice_says h is = (grind (arith, nat_tests), grind (arith, nat_tests))
 
-pub other_no_notice : (h : SmbHead) → eqb h.command 18 ≡ false → is_notice h ≡ false
-unfolding is_notice
-other_no_notice h other = rw (other, and_false (eqb h.status 0)) refl
+-- the command of a number has that number
+pub numbered : (n : ℕ) (c : Command) → command_of n ≡ Some c → number_of c ≡ n
+numbered n c is = grind (arith, nat_tests)

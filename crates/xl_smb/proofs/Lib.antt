@@ -1,11 +1,3 @@
-pub mod PlaceLaws
 pub mod HeadLaws
-pub mod SessionLaws
-pub mod LockLaws
-pub mod BreakLaws
 pub mod LeaseLaws
-pub mod CreateLaws
 pub mod MessageLaws
-pub mod FaultLaws
-pub mod FoundLaws
-pub mod LengthLaws

@@ -1,129 +1,253 @@
--- What was written of a message is read again.
-use Rattle.std.proofs.Common.{◌≡◌, ℕ, true, false, ltb, eqb, List, [], ◌++◌, length, Option, Some, None, Ok, refl, sym, ap, ◌∙◌, inl, inr, arith}
-use Rattle.std.specs.Int.{w64}
+-- What was written of a message is read again, and how long it is; what is read has a spelling; which fault is met.
+use Rattle.std.proofs.Common.{◌≡◌, ℕ, ◌+◌, true, false, cond, ltb, eqb, List, [], ◌++◌, length, drop, Option, Some, None, Result, Ok, Err, refl, sym, ap, subst, ◌∙◌, inl, inr, arith}
+use Rattle.std.specs.Prelude.{IfOk}
+use Rattle.std.specs.Result.{result_err}
 use Rattle.std.proofs.lemmas.Bool.{le-ltb, cases_Bool, eqb-true, false≢true}
-use Rattle.std.proofs.lemmas.Bool.Decides.{nat_tests}
-use Rattle.std.proofs.lemmas.List.{drop_at, length-append, append-nil}
-use Rattle.xl_base.specs.Codec.{little_endian}
-use Rattle.xl_smb.specs.Places.{u16_at}
-use Rattle.xl_smb.specs.Heads.{head_of, command_of, has_mark, is_set, is_async, route, head, is_notice, HeadFits}
-use Rattle.xl_smb.specs.Calls.{CallItem, Negotiate, SessionSetup, Logoff, TreeConnect, TreeDisconnect, Create, Close, Lock, Cancel, Echo, OplockBreak, Other, call_at, call_text, command_of_call, CallFits, CallHas}
-use Rattle.xl_smb.specs.Replies.{ReplyItem, success_at, error_at, error, reply_text, has_reply, Answers, ReplyFits, ReplyHas}
+use Rattle.std.proofs.lemmas.List.{drop_at, length-append}
+use Rattle.xl_base.specs.Codec.{IsBytes}
+use Rattle.xl_base.specs.Results.{Gives}
+use Rattle.xl_base.proofs.CodecLaws.{IsBytes-drop}
+use Rattle.xl_layout.specs.Places.{u32_at}
+use Rattle.xl_layout.specs.Forms.{size_found, Body, reads, Said, said, SaidFits}
+use Rattle.xl_layout.proofs.LayoutLaws.{padding_length}
+use Rattle.xl_layout.proofs.FormLaws.{Speaks, said_again, said_size, said_length, AllTold, body_found, seen_ok, seen_err, IsListed, body_fault as listed_fault}
+use Rattle.xl_smb.specs.Bodies.{form_at, body_at}
+use Rattle.xl_smb.specs.Heads.{command_of, head_of, has_mark, is_set, is_async, head_fields, head_at, head, is_notice, HeadFits}
+use Rattle.xl_smb.specs.Sessions.{negotiate_call, negotiate_reply, setup_call, setup_reply, tree_call, tree_reply, empty}
+use Rattle.xl_smb.specs.Creates.{create_call, create_reply}
+use Rattle.xl_smb.specs.Locks.{close_call, close_reply, lock_call}
+use Rattle.xl_smb.specs.Breaks.{oplock_break, lease_break, oplock_notice, lease_notice, notice_form, notice_said, notice}
+use Rattle.xl_smb.specs.Calls.{CallItem, call_body, call_at, call_said, call_text, command_of_call, CallHas}
+use Rattle.xl_smb.specs.Calls as call
+use Rattle.xl_smb.specs.Replies.{ReplyItem, success_body, error, error_body, reply_said, reply_text, has_reply, Answers, ReplyHas}
 use Rattle.xl_smb.specs.Replies as reply
-use Rattle.xl_smb.specs.Messages.{MessageItem, Call, Reply, Told, reply_at, told_at, message_at, notice_head, spelling, Fits, IsReplyTo, HasSpelling}
+use Rattle.xl_smb.specs.Messages.{MessageItem, Call, Reply, Told, shown, IsOf, reply_body, reply_at, told_at, message_at, notice_head, spelling, Fits, IsReplyTo, HasSpelling}
+use Rattle.xl_smb.specs.Lengths.{call_length, reply_length, notice_length, message_length}
+use Rattle.xl_smb.specs.Faults.{call_form, success_form, form_of, contexts_lie, call_parts, success_parts, parts_lie, body_fault, fault_of}
+use Rattle.xl_smb.specs.declared.breaks.Break.TheVariants as held
+use Rattle.xl_smb.specs.declared.breaks.Notice.{Notice}
+use Rattle.xl_smb.specs.declared.breaks.Notice.TheVariants as told
 use Rattle.xl_smb.specs.declared.command.Command.{Command}
 use Rattle.xl_smb.specs.declared.command.Command.TheVariants as command
-use Rattle.xl_smb.specs.Breaks.{notice}
-use Rattle.xl_smb.specs.declared.head.Route.{Route}
-use Rattle.xl_smb.specs.declared.head.Route.TheVariants.{Tree, Async}
+use Rattle.xl_smb.specs.declared.fault.SmbBad.{SmbBad}
+use Rattle.xl_smb.specs.declared.fault.SmbBad.TheVariants.{Size, Offset}
 use Rattle.xl_smb.specs.declared.head.SmbHead.{SmbHead}
-use Rattle.xl_smb.proofs.PlaceLaws.{fixed_stands}
-use Rattle.xl_smb.proofs.HeadLaws.{head_again, flagged_no_notice}
-use Rattle.xl_smb.proofs.SessionLaws.{negotiate_call_again, negotiate_reply_again, setup_call_again, setup_reply_again, path_again, tree_reply_again, empty_again}
-use Rattle.xl_smb.proofs.CreateLaws.{create_call_again, create_reply_again}
-use Rattle.xl_smb.proofs.LockLaws.{close_call_again, close_reply_again, lock_call_again}
-use Rattle.xl_smb.proofs.BreakLaws.{break_again, notice_again}
+use Rattle.xl_smb.specs.declared.message.SmbMessage.{SmbMessage}
+use Rattle.xl_smb.proofs.HeadLaws.{head_again, head_length, mark_stands, notice_says}
 
--- ---- the header
+-- ---- what is said is read again
 
-route_length : (r : Route) → length (route r) ≡ 8
-unfolding route little_endian
-route_length (Tree id) = refl
-route_length (Async id) = refl
+-- by this body, of the size that is said, behind the header
+abbrev IsTold : {A : Type 0} → ℕ → (ℕ → Body A) → Said → A → Type 0
+IsTold command b s a = Speaks 64 (Size command) Offset b s a
 
-pub head_length : (h : SmbHead) → length h.signature ≡ 16 → length (head h) ≡ 64
-unfolding head little_endian
-head_length h signature =
-    let tail = little_endian w64 h.session_id ++ (h.signature ++ []) in
-    let whole : length (h.signature ++ []) ≡ 16 = ap length (append-nil h.signature) ∙ signature in
-    omega (arith, route_length h.route, length-append (route h.route) tail, whole)
+call_told : (n : ℕ) (c : CallItem) → IsTold n (λ size. call_body size (command_of_call c)) (call_said c) c
+unfolding negotiate_call setup_call tree_call create_call close_call lock_call empty oplock_break lease_break
+call_told n call.Other = λ _ _ _. refl
+call_told n (call.OplockBreak (held.Oplock level id)) = (refl, (refl, refl, refl), λ _ _ read. rw read refl)
+call_told n _ = (refl, (refl, refl, refl), λ _ _ read. rw read refl)
 
-mark_stands : (h : SmbHead) (rest : List ℕ) → has_mark (head h ++ rest) ≡ true
-unfolding has_mark head little_endian
-mark_stands h rest = refl
+other_told : (n : ℕ) (c : Option Command) (size : ℕ) (frame body : List ℕ) → has_reply c ≡ false → body_at (success_body size c) n frame body ≡ Ok reply.Other
+other_told n None size frame body none = refl
+other_told n (Some command.Cancel) size frame body none = refl
+other_told n (Some _) size frame body none = absurd cc
 
--- ---- requests
+reply_told : (h : SmbHead) (r : ReplyItem) → IsReplyTo h r → IsTold h.command (λ size. reply_body size h) (reply_said r) r
+unfolding negotiate_reply setup_reply tree_reply create_reply close_reply empty oplock_break lease_break error
+reply_told h reply.Error is = rw is (refl, (refl, refl, refl), λ _ _ read. rw read refl)
+reply_told h reply.Other is = rw (is.0) (λ size frame body. other_told h.command (command_of h.command) size frame body is.1)
+reply_told h (reply.OplockBreak (held.Oplock level id)) is = rw (is.0, is.1) (refl, (refl, refl, refl), λ _ _ read. rw read refl)
+reply_told h _ is = rw (is.0, is.1) (refl, (refl, refl, refl), λ _ _ read. rw read refl)
 
-call_again : (front : List ℕ) (c : CallItem) → length front ≡ 64 → CallFits c → CallHas c → call_at (command_of_call c) (front ++ call_text c) (call_text c) ≡ Ok c
-unfolding call_at
-call_again front (Negotiate c) at fits has = rw (negotiate_call_again c fits has) refl
-call_again front (SessionSetup c) at fits has = rw (setup_call_again front c at fits has) refl
-call_again front Logoff at fits has = rw (empty_again _) refl
-call_again front (TreeConnect path) at fits has = rw (path_again front path at has) refl
-call_again front TreeDisconnect at fits has = rw (empty_again _) refl
-call_again front (Create c) at fits has = rw (create_call_again front c at fits has) refl
-call_again front (Close c) at fits has = rw (close_call_again c fits) refl
-call_again front (Lock c) at fits has = rw (lock_call_again c fits has) refl
-call_again front Cancel at fits has = rw (empty_again _) refl
-call_again front Echo at fits has = rw (empty_again _) refl
-call_again front (OplockBreak b) at fits has = rw (break_again b fits) refl
-call_again front Other at fits has = refl
+notice_told : (n : Notice) → IsTold 18 (λ size. reads Told (notice_form size)) (notice_said n) (Told n)
+unfolding oplock_notice lease_notice
+notice_told (told.Oplock level id) = (refl, (refl, refl, refl), λ _ _ read. rw read refl)
+notice_told _ = (refl, (refl, refl, refl), λ _ _ read. rw read refl)
 
--- ---- replies
-
-other_again : (c : Option Command) (frame body : List ℕ) → has_reply c ≡ false → success_at c frame body ≡ Ok reply.Other
-unfolding success_at
-other_again None frame body none = refl
-other_again (Some command.Cancel) frame body none = refl
-other_again (Some _) frame body none = absurd cc
-
-succeeded : (h : SmbHead) (r : ReplyItem) (frame body : List ℕ) → h.status ≡ 0 → success_at (command_of h.command) frame body ≡ Ok r → reply_at h frame body ≡ Ok r
-unfolding reply_at
-succeeded h r frame body status success =
-    let is : eqb h.status 0 ≡ true = grind (arith, nat_tests) in
-    rw is success
-
-reply_again : (front : List ℕ) (h : SmbHead) (r : ReplyItem) → length front ≡ 64 → ReplyFits r → ReplyHas r → IsReplyTo h r → reply_at h (front ++ reply_text r) (reply_text r) ≡ Ok r
-unfolding success_at reply_at error_at error little_endian u16_at
-reply_again front h (reply.Negotiate r) at fits has is = succeeded h (reply.Negotiate r) _ _ is.0 (rw (is.1, negotiate_reply_again front r at fits has) refl)
-reply_again front h (reply.SessionSetup r) at fits has is = succeeded h (reply.SessionSetup r) _ _ is.0 (rw (is.1, setup_reply_again front r at fits has) refl)
-reply_again front h reply.Logoff at fits has is = succeeded h reply.Logoff _ _ is.0 (rw (is.1, empty_again command.Logoff) refl)
-reply_again front h (reply.TreeConnect r) at fits has is = succeeded h (reply.TreeConnect r) _ _ is.0 (rw (is.1, tree_reply_again r fits) refl)
-reply_again front h reply.TreeDisconnect at fits has is = succeeded h reply.TreeDisconnect _ _ is.0 (rw (is.1, empty_again command.TreeDisconnect) refl)
-reply_again front h (reply.Create r) at fits has is = succeeded h (reply.Create r) _ _ is.0 (rw (is.1, create_reply_again front r at fits has) refl)
-reply_again front h (reply.Close r) at fits has is = succeeded h (reply.Close r) _ _ is.0 (rw (is.1, close_reply_again r fits) refl)
-reply_again front h reply.Lock at fits has is = succeeded h reply.Lock _ _ is.0 (rw (is.1, empty_again command.Lock) refl)
-reply_again front h reply.Echo at fits has is = succeeded h reply.Echo _ _ is.0 (rw (is.1, empty_again command.Echo) refl)
-reply_again front h (reply.OplockBreak b) at fits has is = succeeded h (reply.OplockBreak b) _ _ is.0 (rw (is.1, break_again b fits) refl)
-reply_again front h reply.Error at fits has is = rw (is, fixed_stands 9 8 error (omega arith) (omega arith) refl) refl
-reply_again front h reply.Other at fits has is = succeeded h reply.Other _ _ is.0 (other_again (command_of h.command) _ _ is.1)
-
--- ---- messages
+told_again : {A : Type 0} (h : SmbHead) (command : ℕ) (b : ℕ → Body A) (s : Said) (a : A) → HeadFits h → is_set 2 h.flags ≡ is_async h.route → SaidFits s → IsTold command b s a
+    → body_at (b (size_found (said s))) command (head h ++ said s) (said s) ≡ Ok a
+told_again h command b s a head_fits form fits speaks = said_again (Size command) Offset b s a (head h) fits (rw (head_length h head_fits form) speaks)
 
 opens : (h : SmbHead) (body : List ℕ) → HeadFits h → is_set 2 h.flags ≡ is_async h.route → message_at (head h ++ body) ≡ told_at h (head h ++ body) body
 unfolding message_at head_of
 opens h body fits form =
-    let long = head_length h fits.signature in
+    let long = head_length h fits form in
     let whole : ltb (length (head h ++ body)) 64 ≡ false = le-ltb _ _ (omega (arith, long, length-append (head h) body)) in
     rw (whole, mark_stands h body, head_again h body fits form, drop_at (head h) body 64 long) refl
 
 -- a request has no header of a notice
 no_notice : (h : SmbHead) → is_set 1 h.flags ≡ false → is_notice h ≡ false
 no_notice h request =
-    elim (cases_Bool (eqb h.flags 1)) [
-      | inl is ↦ let flags : h.flags ≡ 1 = eqb-true _ _ is in absurd (false≢true (sym request ∙ ap (λ (n : ℕ). is_set 1 n) flags))
-      | inr other ↦ flagged_no_notice h other
-    ]
+    elim (cases_Bool (is_notice h)) [ inl is ↦ absurd (false≢true (sym request ∙ ap (λ (n : ℕ). is_set 1 n) (notice_says h is).1)) | inr other ↦ other ]
 
-notice_head_fits : HeadFits notice_head
-unfolding notice_head
-notice_head_fits = record { credit_charge = omega arith; status = omega arith; command = omega arith; credits = omega arith; flags = omega arith; next_command = omega arith; message_id = omega arith; route = omega arith; session_id = omega arith; signature = refl }
-
-notice_head_form : is_set 2 notice_head.flags ≡ is_async notice_head.route
-unfolding notice_head
-notice_head_form = refl
-
-notice_head_is : is_notice notice_head ≡ true
+notice_head_stands : HeadFits notice_head × (is_set 2 notice_head.flags ≡ is_async notice_head.route) × (is_notice notice_head ≡ true)
 unfolding notice_head is_notice
-notice_head_is = refl
+notice_head_stands = (record { credit_charge = omega arith; status = omega arith; command = omega arith; credits = omega arith; flags = omega arith; next_command = omega arith; message_id = omega arith; route = omega arith; session_id = omega arith; signature = refl }, refl, refl)
 
 pub message_again : (m : MessageItem) → Fits m → HasSpelling m → message_at (spelling m) ≡ Ok m
-unfolding told_at spelling
+unfolding told_at reply_at call_at spelling
 message_again (Call h c) fits has =
-    let front = head_length h fits.0.signature in
-    opens h (call_text c) fits.0 has.form ∙ rw (no_notice h has.request, has.request, has.command, call_again (head h) c front fits.1 has.has) refl
+    opens h (call_text c) fits.0 has.form ∙ rw (no_notice h has.request, has.request, has.command, told_again h h.command (λ size. call_body size (command_of_call c)) (call_said c) c fits.0 has.form fits.1 (call_told h.command c)) refl
 message_again (Reply h r) fits has =
-    let front = head_length h fits.0.signature in
-    opens h (reply_text r) fits.0 has.form ∙ rw (has.no_notice, has.reply, reply_again (head h) h r front fits.1 has.has has.command) refl
+    opens h (reply_text r) fits.0 has.form ∙ rw (has.no_notice, has.reply, told_again h h.command (λ size. reply_body size h) (reply_said r) r fits.0 has.form fits.1 (reply_told h r has.command)) refl
 message_again (Told n) fits has =
-    opens notice_head (notice n) notice_head_fits notice_head_form ∙ rw (notice_head_is, notice_again n fits) refl
+    let s = notice_head_stands in
+    opens notice_head (notice n) s.0 s.1 ∙ rw (s.2) (told_again notice_head 18 (λ size. reads Told (notice_form size)) (notice_said n) (Told n) s.0 s.1 fits (notice_told n))
+
+-- ---- lengths
+
+call_size : (c : CallItem) → said_size (call_said c) ≡ call_length c
+unfolding negotiate_call setup_call tree_call create_call close_call lock_call empty oplock_break lease_break
+call_size (call.Create c) = omega (arith, padding_length (120 + length c.name) (length c.contexts))
+call_size (call.OplockBreak (held.Oplock level id)) = refl
+call_size _ = refl
+
+reply_size : (r : ReplyItem) → said_size (reply_said r) ≡ reply_length r
+unfolding negotiate_reply setup_reply tree_reply create_reply close_reply empty error oplock_break lease_break
+reply_size (reply.OplockBreak (held.Oplock level id)) = refl
+reply_size _ = refl
+
+notice_size : (n : Notice) → said_size (notice_said n) ≡ notice_length n
+unfolding oplock_notice lease_notice
+notice_size (told.Oplock level id) = refl
+notice_size _ = refl
+
+-- a header, and what is said behind it
+both_length : (h : SmbHead) (s : Said) (n : ℕ) → HeadFits h → is_set 2 h.flags ≡ is_async h.route → SaidFits s → said_size s ≡ n → length (head h ++ said s) ≡ 64 + n
+both_length h s n head_fits form fits is = length-append (head h) (said s) ∙ rw (head_length h head_fits form, said_length s fits, is) refl
+
+pub message_has : (m : MessageItem) → Fits m → HasSpelling m → length (spelling m) ≡ message_length m
+unfolding spelling
+message_has (Call h c) fits has = both_length h (call_said c) (call_length c) fits.0 has.form fits.1 (call_size c)
+message_has (Reply h r) fits has = both_length h (reply_said r) (reply_length r) fits.0 has.form fits.1 (reply_size r)
+message_has (Told n) fits has = both_length notice_head (notice_said n) (notice_length n) notice_head_stands.0 notice_head_stands.1 fits (notice_size n)
+
+-- ---- what is read has a spelling
+
+abbrev Asked : Option Command → CallItem → Type 0
+Asked c x = (c ≡ command_of_call x) × CallHas x
+
+call_asked : (size : ℕ) (c : Option Command) → AllTold (call_body size c) (Asked c)
+unfolding negotiate_call setup_call tree_call create_call close_call lock_call empty oplock_break lease_break
+call_asked size (Some command.Negotiate) = λ b count long few _ _ _ _ _. (refl, (omega arith, omega arith))
+call_asked size (Some command.SessionSetup) = λ _ _ _ b short _ _. (refl, short)
+call_asked size (Some command.TreeConnect) = λ _ b short _. (refl, short)
+call_asked size (Some command.Create) = λ _ _ _ _ _ _ _ _ b short _ list few within. (refl, record { name = short; contexts = few; within = within })
+call_asked size (Some command.Lock) = λ b count long few _ _ _. (refl, (omega arith, omega arith))
+call_asked size (Some command.Close) = λ _ _ _ _. (refl, tt)
+call_asked size (Some command.OplockBreak) = elim (cases_Bool (eqb size 36)) [ inl is ↦ rw is (λ _ _ _ _ _. (refl, tt)) | inr is ↦ rw is (λ _ _ _ _. (refl, tt)) ]
+call_asked size None = (refl, tt)
+call_asked size (Some _) = λ _. (refl, tt)
+
+success_replied : (size : ℕ) (c : Option Command) → AllTold (success_body size c) (λ r. Answers c r × ReplyHas r)
+unfolding negotiate_reply setup_reply tree_reply create_reply close_reply empty oplock_break lease_break
+success_replied size (Some command.Negotiate) = λ _ _ _ _ _ _ _ _ _ _ b short _ _. (refl, short)
+success_replied size (Some command.SessionSetup) = λ _ b short _. (refl, short)
+success_replied size (Some command.TreeConnect) = λ _ _ _ _ _. (refl, tt)
+success_replied size (Some command.Create) = λ _ _ _ _ _ _ _ _ _ _ _ _ _ list few within. (refl, record { contexts = few; within = within })
+success_replied size (Some command.Close) = λ _ _ _ _ _ _ _ _ _. (refl, tt)
+success_replied size (Some command.OplockBreak) = elim (cases_Bool (eqb size 36)) [ inl is ↦ rw is (λ _ _ _ _ _. (refl, tt)) | inr is ↦ rw is (λ _ _ _ _. (refl, tt)) ]
+success_replied size (Some command.Cancel) = (refl, tt)
+success_replied size None = (refl, tt)
+success_replied size (Some _) = λ _. (refl, tt)
+
+answered : (h : SmbHead) (r : ReplyItem) → h.status ≡ 0 → Answers (command_of h.command) r → IsReplyTo h r
+answered h reply.Error status is = absurd is
+answered h _ status is = (status, is)
+
+reply_has : (h : SmbHead) (frame body : List ℕ) (r : ReplyItem) → IsBytes body → reply_at h frame body ≡ Ok r → IsReplyTo h r × ReplyHas r
+unfolding reply_at error
+reply_has h frame body r is e =
+    elim (cases_Bool (eqb h.status 0)) [
+      | inl success ↦ let c = command_of h.command in
+          let has = body_found (Size h.command) Offset (success_body (size_found body) c) (λ r. Answers c r × ReplyHas r) frame body r is (success_replied (size_found body) c) (rw success at e) in
+          (answered h r (eqb-true _ _ success) has.0, has.1)
+      | inr failure ↦ body_found (Size h.command) Offset error_body (λ r. IsReplyTo h r × ReplyHas r) frame body r is (λ _. (failure, tt)) (rw failure at e)
+    ]
+
+told_has : (h : SmbHead) (frame body : List ℕ) (m : MessageItem) → IsBytes body → is_set 2 h.flags ≡ is_async h.route → told_at h frame body ≡ Ok m → IsOf h m × HasSpelling m
+unfolding told_at call_at
+told_has h frame body m is form e =
+    elim (cases_Bool (is_notice h)) [
+      | inl told ↦ let n = seen_ok (form_at (notice_form (size_found body)) 18 frame body) Told m (rw told at e) in subst (λ (x : MessageItem). IsOf h x × HasSpelling x) n.2 (told, tt)
+      | inr untold ↦ elim (cases_Bool (is_set 1 h.flags)) [
+        | inl answer ↦ let r = seen_ok _ _ m (rw (untold, answer) at e) in
+            let has = reply_has h frame body r.0 is r.1 in
+            subst (λ (x : MessageItem). IsOf h x × HasSpelling x) r.2 (refl, record { reply = answer; form = form; no_notice = untold; command = has.0; has = has.1 })
+        | inr request ↦ let c = seen_ok _ _ m (rw (untold, request) at e) in
+            let has = body_found (Size h.command) Offset _ (Asked (command_of h.command)) frame body c.0 is (call_asked (size_found body) (command_of h.command)) c.1 in
+            subst (λ (x : MessageItem). IsOf h x × HasSpelling x) c.2 (refl, record { request = request; form = form; command = has.0; has = has.1 })
+      ]
+    ]
+
+form_stands : (frame : List ℕ) → is_set 2 (head_at frame).flags ≡ is_async (head_at frame).route
+unfolding head_at head_fields
+form_stands frame = elim (cases_Bool (is_set 2 (u32_at 16 frame))) [ inl set ↦ rw set refl | inr clear ↦ rw clear refl ]
+
+message_stands : (frame : List ℕ) (m : MessageItem) → IsBytes frame → message_at frame ≡ Ok m → IsOf (head_at frame) m × HasSpelling m
+unfolding message_at head_of
+message_stands frame m is e =
+    elim (cases_Bool (ltb (length frame) 64)) [
+      | inl short ↦ absurd cc
+      | inr long ↦ elim (cases_Bool (has_mark frame)) [
+        | inl marked ↦ told_has (head_at frame) frame (drop 64 frame) m (IsBytes-drop 64 frame is) (form_stands frame) (rw (long, marked) at e)
+        | inr other ↦ absurd cc
+      ]
+    ]
+
+-- ---- which fault is met
+
+-- the form and the parts of each body are those of the tables
+call_listed : (size : ℕ) (c : Option Command) → IsListed (call_body size c) (call_form size c) (call_parts c)
+unfolding negotiate_call setup_call tree_call create_call close_call lock_call empty oplock_break lease_break contexts_lie
+call_listed size None = (refl, λ _ _. refl)
+call_listed size (Some command.OplockBreak) = elim (cases_Bool (eqb size 36)) [ inl is ↦ rw is (refl, λ _ _. refl) | inr is ↦ rw is (refl, λ _ _. refl) ]
+call_listed size (Some _) = (refl, λ _ _. refl)
+
+success_listed : (size : ℕ) (c : Option Command) → IsListed (success_body size c) (success_form size c) (success_parts c)
+unfolding negotiate_reply setup_reply tree_reply create_reply close_reply empty oplock_break lease_break contexts_lie
+success_listed size None = (refl, λ _ _. refl)
+success_listed size (Some command.OplockBreak) = elim (cases_Bool (eqb size 36)) [ inl is ↦ rw is (refl, λ _ _. refl) | inr is ↦ rw is (refl, λ _ _. refl) ]
+success_listed size (Some _) = (refl, λ _ _. refl)
+
+notice_listed : (size : ℕ) → IsListed (reads Told (notice_form size)) (Some (cond (eqb size 44) (44, 44) (24, 24))) (λ _ _. [])
+unfolding oplock_notice lease_notice
+notice_listed size = elim (cases_Bool (eqb size 44)) [ inl is ↦ rw is (refl, λ _ _. refl) | inr is ↦ rw is (refl, λ _ _. refl) ]
+
+told_fault : (h : SmbHead) (frame body : List ℕ) → result_err (told_at h frame body) ≡ body_fault h frame body
+unfolding told_at reply_at call_at error form_of parts_lie body_fault
+told_fault h frame body =
+    let size = size_found body in
+    let c = command_of h.command in
+    elim (cases_Bool (is_notice h)) [
+      | inl told ↦ rw (told, (notice_says h told).0) (listed_fault (Size 18) Offset (reads Told (notice_form size)) _ (λ _ _. []) frame body (notice_listed size))
+      | inr untold ↦ rw untold (elim (cases_Bool (is_set 1 h.flags)) [
+        | inl answer ↦ rw answer (seen_err _ _ ∙ elim (cases_Bool (eqb h.status 0)) [
+          | inl success ↦ rw success (listed_fault (Size h.command) Offset (success_body size c) _ (success_parts c) frame body (success_listed size c))
+          | inr failure ↦ rw failure (listed_fault (Size h.command) Offset error_body (Some (9, 8)) (λ _ _. []) frame body (refl, λ _ _. refl))
+        ])
+        | inr request ↦ rw request (seen_err _ _ ∙ listed_fault (Size h.command) Offset (call_body size c) _ (call_parts c) frame body (call_listed size c))
+      ])
+    ]
+
+-- The fault that reading gives is the first that the bytes show; there is a message just where they show none.
+message_err : (frame : List ℕ) → result_err (message_at frame) ≡ fault_of frame
+unfolding message_at head_of fault_of
+message_err frame =
+    elim (cases_Bool (ltb (length frame) 64)) [
+      | inl short ↦ rw short refl
+      | inr long ↦ rw long (elim (cases_Bool (has_mark frame)) [ inl marked ↦ rw marked (told_fault (head_at frame) frame (drop 64 frame)) | inr other ↦ rw other refl ])
+    ]
+
+-- ---- the clauses of a reader, from the one that it gives what its definition gives
+
+pub message_found : (frame : List ℕ) (r : Result SmbMessage SmbBad) → IsBytes frame → Gives shown r (message_at frame) → IfOk r (λ message. IsOf (head_at frame) (shown message) × HasSpelling (shown message))
+message_found frame (Ok message) is exact = message_stands frame (shown message) is exact
+message_found frame (Err e) is exact = tt
+
+pub message_fault : (frame : List ℕ) (r : Result SmbMessage SmbBad) → Gives shown r (message_at frame) → result_err r ≡ fault_of frame
+message_fault frame (Ok message) exact = ap result_err (sym exact) ∙ message_err frame
+message_fault frame (Err e) exact = ap result_err (sym exact) ∙ message_err frame
+
+pub message_only : (frame : List ℕ) (r : Result SmbMessage SmbBad) → Gives shown r (message_at frame) → (m : MessageItem) → Fits m → HasSpelling m → frame ≡ spelling m → Gives shown r (Ok m)
+message_only frame r exact m fits has is = subst (Gives shown r) (ap message_at is ∙ message_again m fits has) exact

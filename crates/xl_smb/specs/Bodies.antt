@@ -1,9 +1,11 @@
 -- A body begins with its size, and names parts of the frame by offset and length (MS-SMB2 2.2). A fixed part of an odd
--- size is one byte shorter than that: the size counts the first byte of the part behind it.
-use Rattle.std.specs.Prelude.{◌≡◌, ℕ, ◌+◌, ◌/◌, ◌%◌, ◌^◌, ◌<◌, Bool, ◌&&◌, not, ◌==◌, List, [], length, nat_lt, Result, Ok, Err, if◌then◌else◌}
+-- size is one byte shorter than that: the size counts the first byte of the part behind it. The bytes that no field names
+-- are free when they are read, and zeros when they are written (SMB-4).
+use Rattle.std.specs.Prelude.{ℕ, false, List, None, Result}
+use Rattle.xl_layout.specs.Layouts.{U16, Layout, part}
+use Rattle.xl_layout.specs.Forms.{Form, form_read, Body, body_read}
 use Rattle.xl_smb.specs.declared.fault.SmbBad.{SmbBad}
 use Rattle.xl_smb.specs.declared.fault.SmbBad.TheVariants.{Short, Magic, Size, Offset}
-use Rattle.xl_smb.specs.Places.{bytes_at, u16_at}
 
 -- the faults in their order
 abbrev pub number_of_fault : SmbBad → ℕ
@@ -12,22 +14,17 @@ number_of_fault Magic = 2
 number_of_fault (Size command found) = 3
 number_of_fault Offset = 4
 
--- the size with which a body begins, 0 if its two bytes are cut
-unfoldable pub size_found : List ℕ → ℕ
-size_found body = if nat_lt (length body) 2 then 0 else u16_at 0 body
+-- a part that offset and length name in two bytes each; a part of no bytes leaves no frame (SMB-2)
+abbrev pub buffer : {A : Type 0} → (A → List ℕ) → (List ℕ → Layout A) → Layout A
+buffer get rest = part (record { offset = U16; count = U16; empty_at_0 = false; test = None }) get rest
 
--- whether a body begins with this size and its fixed part, of so many bytes, is whole
-unfoldable pub has_fixed : ℕ → ℕ → List ℕ → Bool
-has_fixed size fixed body = (size_found body == size) && not (nat_lt (length body) fixed)
+-- a body behind the header of 64 bytes, of this size and so many fixed bytes
+abbrev pub form : {A : Type 0} → ℕ → ℕ → Layout A → Form A
+form size fixed layout = record { before = 64; size = size; fixed = fixed; layout = layout }
 
--- the part of so many bytes at a place of the frame; a part of no bytes leaves no frame (SMB-2)
-unfoldable pub part_at : ℕ → ℕ → List ℕ → Result (List ℕ) SmbBad
-part_at start count frame = if count == 0 then Ok [] else if nat_lt (length frame) (start + count) then Err Offset else Ok (bytes_at count start frame)
+-- what a command's body of this form tells, and what its body tells
+abbrev pub form_at : {A : Type 0} → Form A → ℕ → List ℕ → List ℕ → Result A SmbBad
+form_at f command frame body = form_read (Size command) Offset f frame body
 
--- the answer if a command's body begins with this size and its fixed part, of so many bytes, is whole
-abbrev pub when_fixed : {A : Type 0} → ℕ → ℕ → ℕ → List ℕ → Result A SmbBad → Result A SmbBad
-when_fixed command size fixed body answer = if has_fixed size fixed body then answer else Err (Size command (size_found body))
-
--- whole elements of so many bytes, of which a number of two bytes counts them
-abbrev pub IsCounted : ℕ → List ℕ → Type 0
-IsCounted size bytes = (length bytes % size ≡ 0) × (length bytes / size < 2 ^ 16)
+abbrev pub body_at : {A : Type 0} → Body A → ℕ → List ℕ → List ℕ → Result A SmbBad
+body_at b command frame body = body_read (Size command) Offset b frame body

@@ -1,12 +1,9 @@
 -- OPLOCK_BREAK: acknowledgements and their replies, which have the same forms, and notices.
-use Rattle.std.specs.Prelude.{◌≡◌, ℕ, ◌<◌, ◌^◌, ◌==◌, List, [], ◌∷◌, length, slice_index, Result, Ok, if◌then◌else◌}
-use Rattle.std.specs.Int.{w16, w32, w64}
-use Rattle.xl_base.specs.Codec.{little_endian}
-use Rattle.xl_smb.specs.Places.{joined, zeros, bytes_at, u32_at, u64_at}
-use Rattle.xl_smb.specs.Bodies.{size_found, when_fixed}
-use Rattle.xl_smb.specs.Files.{file_id_at, FileIdFits}
-use Rattle.xl_smb.specs.Leases.{LeaseFits}
-use Rattle.xl_smb.specs.declared.fault.SmbBad.{SmbBad}
+use Rattle.std.specs.Prelude.{ℕ, ◌==◌, List, [], if◌then◌else◌}
+use Rattle.xl_layout.specs.Layouts.{made, reserved, byte, u32, u64, raw}
+use Rattle.xl_layout.specs.Forms.{Form, Said, says, said, SaidFits}
+use Rattle.xl_smb.specs.Bodies.{form}
+use Rattle.xl_smb.specs.Files.{file_id}
 use Rattle.xl_smb.specs.declared.file.FileId.{FileId}
 use Rattle.xl_smb.specs.declared.lease.Lease.{Lease}
 use Rattle.xl_smb.specs.declared.breaks.Break.{Break}
@@ -15,52 +12,66 @@ use Rattle.xl_smb.specs.declared.breaks.Notice.{Notice}
 use Rattle.xl_smb.specs.declared.breaks.Notice.TheVariants as told
 use Rattle.xl_smb.specs.declared.breaks.LeaseNotice.{LeaseNotice}
 
--- ---- acknowledgements and their replies: 24 bytes of an oplock (MS-SMB2 2.2.24.1, 2.2.25.1), 36 of a lease (2.2.24.2,
--- 2.2.25.2)
+-- a form of 24 bytes: a level and an open (MS-SMB2 2.2.23.1, 2.2.24.1, 2.2.25.1)
+abbrev pub oplock : {A : Type 0} → (A → ℕ × FileId) → (ℕ → FileId → A) → Form A
+oplock get make = form 24 24 (byte (λ a. (get a).0) λ level. reserved 5 (file_id (λ a. (get a).1) λ id. made (make level id)))
+
+-- the fields of a break of the other kind, which isn't made of them
+abbrev pub no_oplock : ℕ × FileId
+no_oplock = (0, record { persistent = 0; volatile = 0 })
+
+-- ---- acknowledgements and their replies: of an oplock, and 36 bytes of a lease (MS-SMB2 2.2.24.2, 2.2.25.2)
+
+abbrev pub oplock_of : Break → ℕ × FileId
+oplock_of (held.Oplock level id) = (level, id)
+oplock_of (held.Lease l) = no_oplock
+
+abbrev pub lease_in : Break → Lease
+lease_in (held.Oplock level id) = record { key = []; state = 0; flags = 0; duration = 0 }
+lease_in (held.Lease l) = l
+
+unfoldable pub oplock_break : Form Break
+oplock_break = oplock oplock_of (λ level id. held.Oplock level id)
+
+unfoldable pub lease_break : Form Break
+lease_break = form 36 36 (reserved 2 (u32 (λ b. (lease_in b).flags) λ flags. raw 16 (λ b. (lease_in b).key) λ key. u32 (λ b. (lease_in b).state) λ state. u64 (λ b. (lease_in b).duration) λ duration.
+    made (held.Lease (record { key = key; state = state; flags = flags; duration = duration }))))
 
 -- of a lease by its size, and else of an oplock (SMB-7)
-unfoldable pub break_at : List ℕ → Result Break SmbBad
-break_at body =
-    if size_found body == 36
-    then when_fixed 18 36 36 body (Ok (held.Lease (record { key = bytes_at 16 8 body; state = u32_at 24 body; flags = u32_at 4 body; duration = u64_at 28 body })))
-    else when_fixed 18 24 24 body (Ok (held.Oplock (slice_index body 2) (file_id_at 8 body)))
+abbrev pub break_form : ℕ → Form Break
+break_form size = if size == 36 then lease_break else oplock_break
 
-unfoldable pub oplock_text : ℕ → FileId → List ℕ
-oplock_text level file_id = joined (little_endian w16 24 ∷ (level ∷ 0 ∷ []) ∷ zeros 4 ∷ little_endian w64 file_id.persistent ∷ little_endian w64 file_id.volatile ∷ [])
+abbrev pub break_said : Break → Said
+break_said (held.Oplock level id) = says oplock_break (held.Oplock level id)
+break_said (held.Lease l) = says lease_break (held.Lease l)
 
-unfoldable pub lease_text : Lease → List ℕ
-lease_text l = joined (little_endian w16 36 ∷ zeros 2 ∷ little_endian w32 l.flags ∷ l.key ∷ little_endian w32 l.state ∷ little_endian w64 l.duration ∷ [])
+-- ---- notices: of an oplock, and 44 bytes of a lease (MS-SMB2 2.2.23.2)
 
-abbrev pub break_text : Break → List ℕ
-break_text (held.Oplock level file_id) = oplock_text level file_id
-break_text (held.Lease lease) = lease_text lease
+abbrev pub oplock_told : Notice → ℕ × FileId
+oplock_told (told.Oplock level id) = (level, id)
+oplock_told (told.Lease n) = no_oplock
 
-abbrev pub BreakFits : Break → Type 0
-BreakFits (held.Oplock level file_id) = FileIdFits file_id
-BreakFits (held.Lease lease) = LeaseFits lease
+abbrev pub lease_told : Notice → LeaseNotice
+lease_told (told.Oplock level id) = record { flags = 0; key = []; current = 0; new = 0 }
+lease_told (told.Lease n) = n
 
--- ---- notices: 24 bytes of an oplock (MS-SMB2 2.2.23.1), 44 of a lease (2.2.23.2)
+unfoldable pub oplock_notice : Form Notice
+oplock_notice = oplock oplock_told (λ level id. told.Oplock level id)
+
+unfoldable pub lease_notice : Form Notice
+lease_notice = form 44 44 (reserved 2 (u32 (λ n. (lease_told n).flags) λ flags. raw 16 (λ n. (lease_told n).key) λ key. u32 (λ n. (lease_told n).current) λ current. u32 (λ n. (lease_told n).new) λ new. reserved 12 (
+    made (told.Lease (record { flags = flags; key = key; current = current; new = new })))))
 
 -- of a lease by its size, and else of an oplock (SMB-7)
-unfoldable pub notice_at : List ℕ → Result Notice SmbBad
-notice_at body =
-    if size_found body == 44
-    then when_fixed 18 44 44 body (Ok (told.Lease (record { flags = u32_at 4 body; key = bytes_at 16 8 body; current = u32_at 24 body; new = u32_at 28 body })))
-    else when_fixed 18 24 24 body (Ok (told.Oplock (slice_index body 2) (file_id_at 8 body)))
+abbrev pub notice_form : ℕ → Form Notice
+notice_form size = if size == 44 then lease_notice else oplock_notice
 
-unfoldable pub lease_notice : LeaseNotice → List ℕ
-lease_notice n = joined (little_endian w16 44 ∷ zeros 2 ∷ little_endian w32 n.flags ∷ n.key ∷ little_endian w32 n.current ∷ little_endian w32 n.new ∷ zeros 12 ∷ [])
+abbrev pub notice_said : Notice → Said
+notice_said (told.Oplock level id) = says oplock_notice (told.Oplock level id)
+notice_said (told.Lease n) = says lease_notice (told.Lease n)
 
 abbrev pub notice : Notice → List ℕ
-notice (told.Oplock level file_id) = oplock_text level file_id
-notice (told.Lease lease) = lease_notice lease
-
-pub record LeaseNoticeFits (n : LeaseNotice) : Type 0 where
-  pub flags : n.flags < 2 ^ 32
-  pub key : length n.key ≡ 16
-  pub current : n.current < 2 ^ 32
-  pub new : n.new < 2 ^ 32
+notice n = said (notice_said n)
 
 abbrev pub NoticeFits : Notice → Type 0
-NoticeFits (told.Oplock level file_id) = FileIdFits file_id
-NoticeFits (told.Lease lease) = LeaseNoticeFits lease
+NoticeFits n = SaidFits (notice_said n)

@@ -1,11 +1,13 @@
 -- Requests, by their command.
-use Rattle.std.specs.Prelude.{ℕ, ◌<◌, ◌^◌, List, [], length, Option, Some, None, Result, Ok}
-use Rattle.xl_base.specs.Codec.{◌>>=◌}
-use Rattle.xl_smb.specs.Bodies.{IsCounted}
-use Rattle.xl_smb.specs.Sessions.{NegotiateCallItem, shown_negotiate_call, negotiate_call_at, negotiate_call, NegotiateCallFits, SetupCallItem, shown_setup_call, setup_call_at, setup_call, SetupCallFits, path_at, tree_call, empty_at, empty}
-use Rattle.xl_smb.specs.Creates.{CreateCallItem, shown_create_call, create_call_at, create_call, CreateCallFits, CreateCallHas}
-use Rattle.xl_smb.specs.Locks.{close_call_at, close_call, CloseCallFits, LockItem, shown_lock, lock_call_at, lock_call, LockFits}
-use Rattle.xl_smb.specs.Breaks.{break_at, break_text, BreakFits}
+use Rattle.std.specs.Prelude.{ℕ, ◌<◌, ◌^◌, List, length, Option, Some, None, Result}
+use Rattle.xl_layout.specs.Layouts.{IsCounted}
+use Rattle.xl_layout.specs.Forms.{size_found, Body, unread, reads, Said, nothing, says, said, SaidFits}
+use Rattle.xl_smb.specs.Bodies.{body_at}
+use Rattle.xl_smb.specs.Heads.{command_of}
+use Rattle.xl_smb.specs.Sessions.{NegotiateCallItem, shown_negotiate_call, negotiate_call, SetupCallItem, shown_setup_call, setup_call, tree_call, empty}
+use Rattle.xl_smb.specs.Creates.{CreateCallItem, shown_create_call, create_call, CreateCallHas}
+use Rattle.xl_smb.specs.Locks.{close_call, LockItem, shown_lock, lock_call}
+use Rattle.xl_smb.specs.Breaks.{break_form, break_said}
 use Rattle.xl_smb.specs.declared.breaks.Break.{Break}
 use Rattle.xl_smb.specs.declared.call.SmbCall.{SmbCall}
 use Rattle.xl_smb.specs.declared.call.SmbCall.TheVariants as call
@@ -43,38 +45,48 @@ shown_call call.Echo = Echo
 shown_call (call.OplockBreak b) = OplockBreak b
 shown_call call.Other = Other
 
--- ---- reading: the body is what stands behind the header
+-- ---- the body of each command, if it begins with this size
 
--- of a command that is not known the body is not looked at (SMB-6)
-unfoldable pub call_at : Option Command → List ℕ → List ℕ → Result CallItem SmbBad
-call_at (Some command.Negotiate) frame body = negotiate_call_at body >>= λ c. Ok (Negotiate c)
-call_at (Some command.SessionSetup) frame body = setup_call_at frame body >>= λ c. Ok (SessionSetup c)
-call_at (Some command.Logoff) frame body = empty_at command.Logoff body >>= λ _. Ok Logoff
-call_at (Some command.TreeConnect) frame body = path_at frame body >>= λ path. Ok (TreeConnect path)
-call_at (Some command.TreeDisconnect) frame body = empty_at command.TreeDisconnect body >>= λ _. Ok TreeDisconnect
-call_at (Some command.Create) frame body = create_call_at frame body >>= λ c. Ok (Create c)
-call_at (Some command.Close) frame body = close_call_at body >>= λ c. Ok (Close c)
-call_at (Some command.Lock) frame body = lock_call_at body >>= λ c. Ok (Lock c)
-call_at (Some command.Cancel) frame body = empty_at command.Cancel body >>= λ _. Ok Cancel
-call_at (Some command.Echo) frame body = empty_at command.Echo body >>= λ _. Ok Echo
-call_at (Some command.OplockBreak) frame body = break_at body >>= λ b. Ok (OplockBreak b)
-call_at None frame body = Ok Other
+-- of a command that is not known it is not looked at (SMB-6)
+abbrev pub call_body : ℕ → Option Command → Body CallItem
+call_body size (Some command.Negotiate) = reads Negotiate negotiate_call
+call_body size (Some command.SessionSetup) = reads SessionSetup setup_call
+call_body size (Some command.Logoff) = reads (λ _. Logoff) empty
+call_body size (Some command.TreeConnect) = reads TreeConnect tree_call
+call_body size (Some command.TreeDisconnect) = reads (λ _. TreeDisconnect) empty
+call_body size (Some command.Create) = reads Create create_call
+call_body size (Some command.Close) = reads Close close_call
+call_body size (Some command.Lock) = reads Lock lock_call
+call_body size (Some command.Cancel) = reads (λ _. Cancel) empty
+call_body size (Some command.Echo) = reads (λ _. Echo) empty
+call_body size (Some command.OplockBreak) = reads OplockBreak (break_form size)
+call_body size None = unread Other
 
--- ---- spelling
+unfoldable pub call_at : ℕ → List ℕ → List ℕ → Result CallItem SmbBad
+call_at command frame body = body_at (call_body (size_found body) (command_of command)) command frame body
+
+-- ---- what a request is told by
+
+abbrev pub call_said : CallItem → Said
+call_said (Negotiate c) = says negotiate_call c
+call_said (SessionSetup c) = says setup_call c
+call_said Logoff = says empty tt
+call_said (TreeConnect path) = says tree_call path
+call_said TreeDisconnect = says empty tt
+call_said (Create c) = says create_call c
+call_said (Close c) = says close_call c
+call_said (Lock c) = says lock_call c
+call_said Cancel = says empty tt
+call_said Echo = says empty tt
+call_said (OplockBreak b) = break_said b
+call_said Other = nothing
 
 abbrev pub call_text : CallItem → List ℕ
-call_text (Negotiate c) = negotiate_call c
-call_text (SessionSetup c) = setup_call c
-call_text Logoff = empty
-call_text (TreeConnect path) = tree_call path
-call_text TreeDisconnect = empty
-call_text (Create c) = create_call c
-call_text (Close c) = close_call c
-call_text (Lock c) = lock_call c
-call_text Cancel = empty
-call_text Echo = empty
-call_text (OplockBreak b) = break_text b
-call_text Other = []
+call_text c = said (call_said c)
+
+-- what fits its fields
+abbrev pub CallFits : CallItem → Type 0
+CallFits c = SaidFits (call_said c)
 
 -- the command of a request
 abbrev pub command_of_call : CallItem → Option Command
@@ -91,22 +103,8 @@ command_of_call Echo = Some command.Echo
 command_of_call (OplockBreak b) = Some command.OplockBreak
 command_of_call Other = None
 
--- what fits its fields, which each value in memory does
-abbrev pub CallFits : CallItem → Type 0
-CallFits (Negotiate c) = NegotiateCallFits c
-CallFits (SessionSetup c) = SetupCallFits c
-CallFits Logoff = Unit {0}
-CallFits (TreeConnect path) = Unit {0}
-CallFits TreeDisconnect = Unit {0}
-CallFits (Create c) = CreateCallFits c
-CallFits (Close c) = CloseCallFits c
-CallFits (Lock c) = LockFits c
-CallFits Cancel = Unit {0}
-CallFits Echo = Unit {0}
-CallFits (OplockBreak b) = BreakFits b
-CallFits Other = Unit {0}
-
--- what it takes beside that to be spelled: lengths that their numbers hold, whole elements, contexts within their list
+-- what it takes of a request to be spelled, beside numbers that fit their fields: lengths that their numbers hold, whole
+-- elements, contexts within their list
 abbrev pub CallHas : CallItem → Type 0
 CallHas (Negotiate c) = IsCounted 2 c.dialects
 CallHas (SessionSetup c) = length c.buffer < 2 ^ 16

@@ -1,27 +1,20 @@
 -- CREATE.
-use Rattle.std.specs.Prelude.{◌≡◌, ℕ, ◌+◌, ◌-◌, ◌%◌, ◌<◌, ◌^◌, true, ◌==◌, List, [], ◌∷◌, length, take, slice_index, Result, Ok, Err, if◌then◌else◌}
-use Rattle.std.specs.Int.{w16, w32, w64}
-use Rattle.xl_base.specs.Codec.{little_endian, ◌>>=◌}
-use Rattle.xl_smb.specs.Places.{joined, zeros, u16_at, u32_at}
-use Rattle.xl_smb.specs.Bodies.{when_fixed, part_at}
-use Rattle.xl_smb.specs.Files.{file_id_at, FileIdFits, status_at, StatusFits}
+use Rattle.std.specs.Prelude.{◌≡◌, ℕ, ◌<◌, ◌^◌, true, List, length, Some}
+use Rattle.xl_layout.specs.Layouts.{U32, Layout, made, part, aligned, reserved, byte, u32}
+use Rattle.xl_layout.specs.Forms.{Form}
+use Rattle.xl_smb.specs.Bodies.{buffer, form}
+use Rattle.xl_smb.specs.Files.{file_id, file_status}
 use Rattle.xl_smb.specs.Leases.{are_contexts}
 use Rattle.xl_smb.specs.declared.create.CreateCall.{CreateCall}
 use Rattle.xl_smb.specs.declared.create.CreateReply.{CreateReply}
-use Rattle.xl_smb.specs.declared.fault.SmbBad.{SmbBad}
-use Rattle.xl_smb.specs.declared.fault.SmbBad.TheVariants.{Offset}
 use Rattle.xl_smb.specs.declared.file.FileId.{FileId}
 use Rattle.xl_smb.specs.declared.file.FileStatus.{FileStatus}
 
--- the contexts at a place of the frame, each of which lies within them (MS-SMB2 2.2.13.2)
-unfoldable pub contexts_at : ℕ → ℕ → List ℕ → Result (List ℕ) SmbBad
-contexts_at start count frame = part_at start count frame >>= λ list. if are_contexts list then Ok list else Err Offset
+-- contexts, each of which lies within them, and whose offset is 0 if there are none (MS-SMB2 2.2.13.2)
+abbrev pub contexts : {A : Type 0} → (A → List ℕ) → (List ℕ → Layout A) → Layout A
+contexts get rest = part (record { offset = U32; count = U32; empty_at_0 = true; test = Some are_contexts }) get rest
 
--- where the contexts begin that stand behind so many bytes of the frame, 0 if there are none
-unfoldable pub contexts_place : ℕ → ℕ → ℕ
-contexts_place before contexts = if contexts == 0 then 0 else before
-
--- ---- CREATE request (MS-SMB2 2.2.13): 56 bytes, then the name, and the contexts from a multiple of 8 on
+-- ---- CREATE request (MS-SMB2 2.2.13): 56 bytes, then the name, and the contexts from a multiple of 8 on (SMB-8)
 
 pub record CreateCallItem : Type 0 where
   pub oplock_level : ℕ
@@ -35,29 +28,12 @@ pub record CreateCallItem : Type 0 where
 abbrev pub shown_create_call : CreateCall → CreateCallItem
 shown_create_call c = record { oplock_level = c.oplock_level; desired_access = c.desired_access; share_access = c.share_access; disposition = c.disposition; options = c.options; name = c.name.now; contexts = c.contexts.0.now }
 
-unfoldable pub create_call_at : List ℕ → List ℕ → Result CreateCallItem SmbBad
-create_call_at frame body = when_fixed 5 57 56 body
-    (part_at (u16_at 44 body) (u16_at 46 body) frame >>= λ name. contexts_at (u32_at 48 body) (u32_at 52 body) frame >>= λ contexts.
-    Ok (record { oplock_level = slice_index body 3; desired_access = u32_at 24 body; share_access = u32_at 32 body; disposition = u32_at 36 body; options = u32_at 40 body; name = name; contexts = contexts }))
+unfoldable pub create_call : Form CreateCallItem
+create_call = form 57 56 (reserved 1 (byte (λ c. c.oplock_level) λ oplock_level. reserved 20 (u32 (λ c. c.desired_access) λ desired_access. reserved 4 (
+    u32 (λ c. c.share_access) λ share_access. u32 (λ c. c.disposition) λ disposition. u32 (λ c. c.options) λ options. buffer (λ c. c.name) λ name. aligned (λ c. c.contexts) (contexts (λ c. c.contexts) λ list.
+    made (record { oplock_level = oplock_level; desired_access = desired_access; share_access = share_access; disposition = disposition; options = options; name = name; contexts = list }))))))
 
--- how many zeros stand between a name and contexts of these lengths, which begin at a multiple of 8 (SMB-8)
-unfoldable pub padding : ℕ → ℕ → ℕ
-padding name contexts = if contexts == 0 then 0 else (8 - name % 8) % 8
-
-unfoldable pub create_call : CreateCallItem → List ℕ
-create_call c = joined (little_endian w16 57 ∷ (0 ∷ c.oplock_level ∷ []) ∷ zeros 20 ∷ little_endian w32 c.desired_access ∷ zeros 4
-    ∷ little_endian w32 c.share_access ∷ little_endian w32 c.disposition ∷ little_endian w32 c.options
-    ∷ little_endian w16 120 ∷ little_endian w16 (length c.name)
-    ∷ little_endian w32 (contexts_place (120 + length c.name + padding (length c.name) (length c.contexts)) (length c.contexts)) ∷ little_endian w32 (length c.contexts)
-    ∷ c.name ∷ take (padding (length c.name) (length c.contexts)) (zeros 8) ∷ c.contexts ∷ [])
-
-pub record CreateCallFits (c : CreateCallItem) : Type 0 where
-  pub desired_access : c.desired_access < 2 ^ 32
-  pub share_access : c.share_access < 2 ^ 32
-  pub disposition : c.disposition < 2 ^ 32
-  pub options : c.options < 2 ^ 32
-
--- what it takes beside that to be spelled
+-- what it takes to be spelled, beside numbers that fit their fields
 pub record CreateCallHas (c : CreateCallItem) : Type 0 where
   pub name : length c.name < 2 ^ 16
   pub contexts : length c.contexts < 2 ^ 32
@@ -75,22 +51,9 @@ pub record CreateReplyItem : Type 0 where
 abbrev pub shown_create_reply : CreateReply → CreateReplyItem
 shown_create_reply r = record { oplock_level = r.oplock_level; action = r.action; status = r.status; file_id = r.file_id; contexts = r.contexts.0.now }
 
-unfoldable pub create_reply_at : List ℕ → List ℕ → Result CreateReplyItem SmbBad
-create_reply_at frame body = when_fixed 5 89 88 body
-    (contexts_at (u32_at 80 body) (u32_at 84 body) frame >>= λ contexts.
-    Ok (record { oplock_level = slice_index body 2; action = u32_at 4 body; status = status_at body; file_id = file_id_at 64 body; contexts = contexts }))
-
-unfoldable pub create_reply : CreateReplyItem → List ℕ
-create_reply r = joined (little_endian w16 89 ∷ (r.oplock_level ∷ 0 ∷ []) ∷ little_endian w32 r.action
-    ∷ little_endian w64 r.status.created ∷ little_endian w64 r.status.accessed ∷ little_endian w64 r.status.written ∷ little_endian w64 r.status.changed
-    ∷ little_endian w64 r.status.allocated ∷ little_endian w64 r.status.end_of_file ∷ little_endian w32 r.status.attributes ∷ zeros 4
-    ∷ little_endian w64 r.file_id.persistent ∷ little_endian w64 r.file_id.volatile
-    ∷ little_endian w32 (contexts_place 152 (length r.contexts)) ∷ little_endian w32 (length r.contexts) ∷ r.contexts ∷ [])
-
-pub record CreateReplyFits (r : CreateReplyItem) : Type 0 where
-  pub action : r.action < 2 ^ 32
-  pub status : StatusFits r.status
-  pub file_id : FileIdFits r.file_id
+unfoldable pub create_reply : Form CreateReplyItem
+create_reply = form 89 88 (byte (λ r. r.oplock_level) λ oplock_level. reserved 1 (u32 (λ r. r.action) λ action. file_status (λ r. r.status) λ status. reserved 4 (file_id (λ r. r.file_id) λ id. contexts (λ r. r.contexts) λ list.
+    made (record { oplock_level = oplock_level; action = action; status = status; file_id = id; contexts = list }))))
 
 pub record CreateReplyHas (r : CreateReplyItem) : Type 0 where
   pub contexts : length r.contexts < 2 ^ 32

@@ -1,21 +1,21 @@
 -- What an open is called, and what a file is.
-use Rattle.std.specs.Prelude.{ℕ, ◌+◌, ◌<◌, ◌^◌, List}
-use Rattle.xl_smb.specs.Places.{u32_at, u64_at}
+use Rattle.std.specs.Prelude.{ℕ, ◌+◌, List}
+use Rattle.xl_layout.specs.Places.{u32_at, u64_at}
+use Rattle.xl_layout.specs.Layouts.{Layout, u32, u64}
 use Rattle.xl_smb.specs.declared.file.FileId.{FileId}
 use Rattle.xl_smb.specs.declared.file.FileStatus.{FileStatus}
 
 -- ---- the name of an open, 16 bytes (MS-SMB2 2.2.14.1)
 
-unfoldable pub file_id_at : ℕ → List ℕ → FileId
+abbrev pub file_id_at : ℕ → List ℕ → FileId
 file_id_at place body = record { persistent = u64_at place body; volatile = u64_at (place + 8) body }
 
-pub record FileIdFits (id : FileId) : Type 0 where
-  pub persistent : id.persistent < 2 ^ 64
-  pub volatile : id.volatile < 2 ^ 64
+abbrev pub file_id : {A : Type 0} → (A → FileId) → (FileId → Layout A) → Layout A
+file_id get rest = u64 (λ a. (get a).persistent) λ persistent. u64 (λ a. (get a).volatile) λ volatile. rest (record { persistent = persistent; volatile = volatile })
 
 -- ---- what a file is, 52 bytes from place 8 on in the replies to CREATE and CLOSE (MS-SMB2 2.2.14, 2.2.16)
 
-unfoldable pub status_at : List ℕ → FileStatus
+abbrev pub status_at : List ℕ → FileStatus
 status_at body = record {
   created = u64_at 8 body;
   accessed = u64_at 16 body;
@@ -26,11 +26,7 @@ status_at body = record {
   attributes = u32_at 56 body;
 }
 
-pub record StatusFits (s : FileStatus) : Type 0 where
-  pub created : s.created < 2 ^ 64
-  pub accessed : s.accessed < 2 ^ 64
-  pub written : s.written < 2 ^ 64
-  pub changed : s.changed < 2 ^ 64
-  pub allocated : s.allocated < 2 ^ 64
-  pub end_of_file : s.end_of_file < 2 ^ 64
-  pub attributes : s.attributes < 2 ^ 32
+abbrev pub file_status : {A : Type 0} → (A → FileStatus) → (FileStatus → Layout A) → Layout A
+file_status get rest = u64 (λ a. (get a).created) λ created. u64 (λ a. (get a).accessed) λ accessed. u64 (λ a. (get a).written) λ written. u64 (λ a. (get a).changed) λ changed.
+    u64 (λ a. (get a).allocated) λ allocated. u64 (λ a. (get a).end_of_file) λ end_of_file. u32 (λ a. (get a).attributes) λ attributes.
+    rest (record { created = created; accessed = accessed; written = written; changed = changed; allocated = allocated; end_of_file = end_of_file; attributes = attributes })

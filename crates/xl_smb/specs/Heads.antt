@@ -1,8 +1,9 @@
 -- The header of a message, 64 bytes (MS-SMB2 2.2.1).
 use Rattle.std.specs.Prelude.{◌≡◌, ℕ, ◌-◌, ◌<◌, ◌^◌, Bool, true, false, not, ◌&&◌, ◌==◌, bit_and, List, [], ◌∷◌, ◌++◌, length, bytes_eq, nat_lt, Option, Some, None, Result, Ok, Err, if◌then◌else◌}
-use Rattle.std.specs.Int.{w16, w32, w64}
+use Rattle.std.specs.Int.{w32, w64}
 use Rattle.xl_base.specs.Codec.{little_endian}
-use Rattle.xl_smb.specs.Places.{joined, bytes_at, u16_at, u32_at, u64_at}
+use Rattle.xl_layout.specs.Places.{joined, bytes_at, u32_at, u64_at}
+use Rattle.xl_layout.specs.Layouts.{Layout, made, u16, u32, u64, raw, read, fields}
 use Rattle.xl_smb.specs.declared.command.Command.{Command}
 use Rattle.xl_smb.specs.declared.command.Command.TheVariants.{Negotiate, SessionSetup, Logoff, TreeConnect, TreeDisconnect, Create, Close, Lock, Cancel, Echo, OplockBreak}
 use Rattle.xl_smb.specs.declared.fault.SmbBad.{SmbBad}
@@ -33,7 +34,7 @@ command_of n =
     else if n == 6 then Some Close else if n == 10 then Some Lock else if n == 12 then Some Cancel
     else if n == 13 then Some Echo else if n == 18 then Some OplockBreak else None
 
--- ---- reading
+-- ---- fields
 
 -- the mark, and the header's size
 abbrev pub mark : List ℕ
@@ -46,23 +47,25 @@ has_mark frame = bytes_eq (bytes_at 6 0 frame) mark
 abbrev pub is_set : ℕ → ℕ → Bool
 is_set flag flags = not (bit_and flags flag == 0)
 
--- the tree, or the pending request if flag 2 is set
-unfoldable pub route_at : List ℕ → Route
-route_at frame = if is_set 2 (u32_at 16 frame) then Async (u64_at 32 frame) else Tree (u32_at 36 frame)
+-- the tree in the last four of eight bytes, or the pending request in all of them
+unfoldable pub route : Route → List ℕ
+route (Tree id) = little_endian w32 0 ++ little_endian w32 id
+route (Async id) = little_endian w64 id
+
+-- the pending request if flag 2 is set
+abbrev pub route_of : ℕ → List ℕ → Route
+route_of flags bytes = if is_set 2 flags then Async (u64_at 0 bytes) else Tree (u32_at 4 bytes)
+
+unfoldable pub head_fields : Layout SmbHead
+head_fields = raw 6 (λ _. mark) λ _. u16 (λ h. h.credit_charge) λ credit_charge. u32 (λ h. h.status) λ status. u16 (λ h. h.command) λ command. u16 (λ h. h.credits) λ credits. u32 (λ h. h.flags) λ flags.
+    u32 (λ h. h.next_command) λ next_command. u64 (λ h. h.message_id) λ message_id. raw 8 (λ h. route h.route) λ to. u64 (λ h. h.session_id) λ session_id. raw 16 (λ h. h.signature) λ signature.
+    made (record { credit_charge = credit_charge; status = status; command = command; credits = credits; flags = flags; next_command = next_command; message_id = message_id; route = route_of flags to; session_id = session_id; signature = signature })
 
 unfoldable pub head_at : List ℕ → SmbHead
-head_at frame = record {
-  credit_charge = u16_at 6 frame;
-  status = u32_at 8 frame;
-  command = u16_at 12 frame;
-  credits = u16_at 14 frame;
-  flags = u32_at 16 frame;
-  next_command = u32_at 20 frame;
-  message_id = u64_at 24 frame;
-  route = route_at frame;
-  session_id = u64_at 40 frame;
-  signature = bytes_at 16 48 frame;
-}
+head_at frame = read head_fields 0 64 frame frame
+
+unfoldable pub head : SmbHead → List ℕ
+head h = joined (fields head_fields 64 h)
 
 -- the header, or why there is none
 unfoldable pub head_of : List ℕ → Result SmbHead SmbBad
@@ -76,17 +79,6 @@ is_no_tree (Async id) = false
 -- the header of a notice, which no request asked for (MS-SMB2 2.2.23) (SMB-5)
 unfoldable pub is_notice : SmbHead → Bool
 is_notice h = (h.status == 0) && (h.command == 18) && (h.flags == 1) && (h.credits == 0) && (h.message_id == 2 ^ 64 - 1) && (h.session_id == 0) && is_no_tree h.route
-
--- ---- spelling
-
-unfoldable pub route : Route → List ℕ
-route (Tree id) = little_endian w32 0 ++ little_endian w32 id
-route (Async id) = little_endian w64 id
-
-unfoldable pub head : SmbHead → List ℕ
-head h = joined (mark ∷ little_endian w16 h.credit_charge ∷ little_endian w32 h.status ∷ little_endian w16 h.command
-    ∷ little_endian w16 h.credits ∷ little_endian w32 h.flags ∷ little_endian w32 h.next_command
-    ∷ little_endian w64 h.message_id ∷ route h.route ∷ little_endian w64 h.session_id ∷ h.signature ∷ [])
 
 -- ---- what fits its fields, which each value in memory does
 

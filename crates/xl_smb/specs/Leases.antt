@@ -1,19 +1,14 @@
 -- Leases and the contexts of CREATE that carry them.
-use Rattle.std.specs.Prelude.{◌≡◌, ℕ, zero, suc, ◌<◌, ◌^◌, ◌&&◌, ◌||◌, Bool, false, ◌==◌, List, [], ◌∷◌, length, drop, bytes_eq, codes, nat_lt, Option, Some, None, option_map, Result, Ok, Err, if◌then◌else◌}
-use Rattle.std.specs.Int.{w16, w32, w64}
-use Rattle.xl_base.specs.Codec.{little_endian, ◌>>=◌}
-use Rattle.xl_smb.specs.Places.{joined, zeros, bytes_at, u16_at, u32_at, u64_at}
-use Rattle.xl_smb.specs.Bodies.{part_at}
+use Rattle.std.specs.Prelude.{ℕ, zero, suc, ◌&&◌, ◌||◌, not, Bool, true, false, ◌==◌, List, ◌∷◌, length, drop, bytes_eq, codes, nat_lt, Option, Some, None, option_map, Result, Ok, Err, if◌then◌else◌}
+use Rattle.std.specs.Int.{w16, w32}
+use Rattle.xl_base.specs.Codec.{little_endian}
+use Rattle.xl_layout.specs.Places.{joined, zeros}
+use Rattle.xl_layout.specs.Layouts.{U16, U32, Layout, made, reserved, part, aligned, u32, u64, raw, read, parts_at, all_stand, fields}
+use Rattle.xl_smb.specs.Bodies.{buffer}
 use Rattle.xl_smb.specs.declared.fault.SmbBad.{SmbBad}
 use Rattle.xl_smb.specs.declared.fault.SmbBad.TheVariants.{Offset}
 use Rattle.xl_smb.specs.declared.lease.Context.{Context}
 use Rattle.xl_smb.specs.declared.lease.Lease.{Lease}
-
-pub record LeaseFits (l : Lease) : Type 0 where
-  pub key : length l.key ≡ 16
-  pub state : l.state < 2 ^ 32
-  pub flags : l.flags < 2 ^ 32
-  pub duration : l.duration < 2 ^ 64
 
 -- ---- contexts (MS-SMB2 2.2.13.2): a head of 16 bytes, and a name and data at places within the list
 
@@ -26,50 +21,57 @@ pub record ContextItem : Type 0 where
 abbrev pub shown_context : Context → ContextItem
 shown_context c = record { next = c.next; name = c.name.now; content = c.content.now }
 
+unfoldable pub context_fields : Layout ContextItem
+context_fields = u32 (λ c. c.next) λ next. buffer (λ c. c.name) λ name. reserved 2 (aligned (λ c. c.content) (
+    part (record { offset = U16; count = U32; empty_at_0 = false; test = None }) (λ c. c.content) λ content. made (record { next = next; name = name; content = content })))
+
 -- the context at the front of a list
 unfoldable pub context_at : List ℕ → Result ContextItem SmbBad
-context_at list =
-    if nat_lt (length list) 16 then Err Offset
-    else part_at (u16_at 4 list) (u16_at 6 list) list >>= λ name. part_at (u16_at 10 list) (u32_at 12 list) list >>= λ content. Ok (record { next = u32_at 0 list; name = name; content = content })
+context_at list = if not (nat_lt (length list) 16) && all_stand (parts_at context_fields 0 16 list list) then Ok (read context_fields 0 16 list list) else Err Offset
 
--- whether the context and those that it leads to lie within the list
-abbrev pub chained : Result ContextItem SmbBad → (ℕ → Bool) → Bool
-chained (Ok c) others = (c.next == 0) || others c.next
-chained (Err e) others = false
+-- ---- walks from context to context
 
--- the same of at most so many contexts; a list has at most as many as bytes
-unfoldable pub is_chain : ℕ → List ℕ → Bool
-is_chain zero list = false
-is_chain (suc most) list = chained (context_at list) (λ next. is_chain most (drop next list))
+abbrev pub or_else : {R : Type 0} → Option R → R → R
+or_else (Some r) other = r
+or_else None other = other
 
+-- what a context comes to: what is found at it; the end, if it is the last; or what the next one comes to. What leaves the
+-- list comes to nothing.
+abbrev pub met : {R : Type 0} → (ContextItem → Option R) → R → R → Result ContextItem SmbBad → (ℕ → R) → R
+met found end none (Ok c) others = or_else (found c) (if c.next == 0 then end else others c.next)
+met found end none (Err e) others = none
+
+-- what at most so many contexts come to; a list has at most as many as bytes
+unfoldable pub walk : {R : Type 0} → (ContextItem → Option R) → R → R → ℕ → List ℕ → R
+walk found end none zero list = none
+walk found end none (suc most) list = met found end none (context_at list) (λ next. walk found end none most (drop next list))
+
+-- whether each context lies within the list
 abbrev pub are_contexts : List ℕ → Bool
-are_contexts list = (length list == 0) || is_chain (length list) list
+are_contexts list = (length list == 0) || walk (λ _. None) true false (length list) list
 
 -- whether a context has this name and this length
 abbrev pub is_named : List ℕ → ℕ → ContextItem → Bool
 is_named name size c = bytes_eq c.name name && (length c.content == size)
 
 -- the data of the first context of this name and this length
-abbrev pub first_of : List ℕ → ℕ → Result ContextItem SmbBad → (ℕ → Option (List ℕ)) → Option (List ℕ)
-first_of name size (Ok c) others = if is_named name size c then Some c.content else if c.next == 0 then None else others c.next
-first_of name size (Err e) others = None
-
-unfoldable pub find_among : ℕ → List ℕ → ℕ → List ℕ → Option (List ℕ)
-find_among zero name size list = None
-find_among (suc most) name size list = first_of name size (context_at list) (λ next. find_among most name size (drop next list))
+abbrev pub named : List ℕ → ℕ → ContextItem → Option (Option (List ℕ))
+named name size c = if is_named name size c then Some (Some c.content) else None
 
 abbrev pub find : List ℕ → ℕ → List ℕ → Option (List ℕ)
-find name size list = find_among (length list) name size list
+find name size list = walk (named name size) None None (length list) list
 
 -- ---- the lease's context, `RqLs` with 32 bytes (MS-SMB2 2.2.13.2.8, 2.2.14.2.10)
 
+abbrev pub lease_fields : Layout Lease
+lease_fields = raw 16 (λ l. l.key) λ key. u32 (λ l. l.state) λ state. u32 (λ l. l.flags) λ flags. u64 (λ l. l.duration) λ duration. made (record { key = key; state = state; flags = flags; duration = duration })
+
 unfoldable pub lease_at : List ℕ → Lease
-lease_at content = record { key = bytes_at 16 0 content; state = u32_at 16 content; flags = u32_at 20 content; duration = u64_at 24 content }
+lease_at content = read lease_fields 0 32 content content
 
 -- the lease of the first such context; contexts of another name or length are passed over (SMB-8)
 abbrev pub lease_of : List ℕ → Option Lease
 lease_of list = option_map lease_at (find (codes "RqLs") 32 list)
 
 unfoldable pub lease_context : Lease → List ℕ
-lease_context l = joined (little_endian w32 0 ∷ little_endian w16 16 ∷ little_endian w16 4 ∷ zeros 2 ∷ little_endian w16 24 ∷ little_endian w32 32
-    ∷ codes "RqLs" ∷ zeros 4 ∷ l.key ∷ little_endian w32 l.state ∷ little_endian w32 l.flags ∷ little_endian w64 l.duration ∷ [])
+lease_context l = joined (little_endian w32 0 ∷ little_endian w16 16 ∷ little_endian w16 4 ∷ zeros 2 ∷ little_endian w16 24 ∷ little_endian w32 32 ∷ codes "RqLs" ∷ zeros 4 ∷ fields lease_fields 0 l)

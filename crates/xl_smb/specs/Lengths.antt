@@ -1,6 +1,6 @@
 -- How many bytes a message is spelled in.
 use Rattle.std.specs.Prelude.{ℕ, ◌+◌, length}
-use Rattle.xl_smb.specs.Creates.{padding}
+use Rattle.xl_layout.specs.Layouts.{padding}
 use Rattle.xl_smb.specs.Calls.{CallItem}
 use Rattle.xl_smb.specs.Calls as call
 use Rattle.xl_smb.specs.Replies.{ReplyItem}
@@ -25,7 +25,7 @@ call_length (call.SessionSetup c) = 24 + length c.buffer
 call_length call.Logoff = 4
 call_length (call.TreeConnect path) = 8 + length path
 call_length call.TreeDisconnect = 4
-call_length (call.Create c) = 56 + length c.name + padding (length c.name) (length c.contexts) + length c.contexts
+call_length (call.Create c) = 56 + length c.name + padding (120 + length c.name) (length c.contexts) + length c.contexts
 call_length (call.Close c) = 24
 call_length (call.Lock c) = 24 + length c.elements
 call_length call.Cancel = 4

@@ -1,42 +1,23 @@
 -- CLOSE and LOCK. The reply to LOCK has no field.
-use Rattle.std.specs.Prelude.{ℕ, ◌*◌, ◌/◌, ◌<◌, ◌^◌, List, [], ◌∷◌, length, Result, Ok}
-use Rattle.std.specs.Int.{w16, w32, w64}
-use Rattle.xl_base.specs.Codec.{little_endian, ◌>>=◌}
-use Rattle.xl_smb.specs.Places.{joined, zeros, whole_of, u16_at, u32_at, u64_at}
-use Rattle.xl_smb.specs.Bodies.{when_fixed, part_at}
-use Rattle.xl_smb.specs.Files.{file_id_at, FileIdFits, status_at, StatusFits}
-use Rattle.xl_smb.specs.declared.fault.SmbBad.{SmbBad}
+use Rattle.std.specs.Prelude.{ℕ, List}
+use Rattle.xl_layout.specs.Places.{whole_of, u32_at, u64_at}
+use Rattle.xl_layout.specs.Layouts.{made, array, reserved, u16, u32}
+use Rattle.xl_layout.specs.Forms.{Form}
+use Rattle.xl_smb.specs.Bodies.{form}
+use Rattle.xl_smb.specs.Files.{file_id, file_status}
 use Rattle.xl_smb.specs.declared.file.FileId.{FileId}
 use Rattle.xl_smb.specs.declared.lock.CloseCall.{CloseCall}
 use Rattle.xl_smb.specs.declared.lock.CloseReply.{CloseReply}
 use Rattle.xl_smb.specs.declared.lock.LockCall.{LockCall}
 use Rattle.xl_smb.specs.declared.lock.LockElement.{LockElement}
 
--- ---- CLOSE request (MS-SMB2 2.2.15): 24 bytes
+-- CLOSE request (MS-SMB2 2.2.15): 24 bytes
+unfoldable pub close_call : Form CloseCall
+close_call = form 24 24 (u16 (λ c. c.flags) λ flags. reserved 4 (file_id (λ c. c.file_id) λ id. made (record { flags = flags; file_id = id })))
 
-unfoldable pub close_call_at : List ℕ → Result CloseCall SmbBad
-close_call_at body = when_fixed 6 24 24 body (Ok (record { flags = u16_at 2 body; file_id = file_id_at 8 body }))
-
-unfoldable pub close_call : CloseCall → List ℕ
-close_call c = joined (little_endian w16 24 ∷ little_endian w16 c.flags ∷ zeros 4 ∷ little_endian w64 c.file_id.persistent ∷ little_endian w64 c.file_id.volatile ∷ [])
-
-pub record CloseCallFits (c : CloseCall) : Type 0 where
-  pub flags : c.flags < 2 ^ 16
-  pub file_id : FileIdFits c.file_id
-
--- ---- CLOSE reply (MS-SMB2 2.2.16): 60 bytes
-
-unfoldable pub close_reply_at : List ℕ → Result CloseReply SmbBad
-close_reply_at body = when_fixed 6 60 60 body (Ok (record { flags = u16_at 2 body; status = status_at body }))
-
-unfoldable pub close_reply : CloseReply → List ℕ
-close_reply r = joined (little_endian w16 60 ∷ little_endian w16 r.flags ∷ zeros 4
-    ∷ little_endian w64 r.status.created ∷ little_endian w64 r.status.accessed ∷ little_endian w64 r.status.written ∷ little_endian w64 r.status.changed
-    ∷ little_endian w64 r.status.allocated ∷ little_endian w64 r.status.end_of_file ∷ little_endian w32 r.status.attributes ∷ [])
-
-pub record CloseReplyFits (r : CloseReply) : Type 0 where
-  pub flags : r.flags < 2 ^ 16
-  pub status : StatusFits r.status
+-- CLOSE reply (MS-SMB2 2.2.16): 60 bytes
+unfoldable pub close_reply : Form CloseReply
+close_reply = form 60 60 (u16 (λ r. r.flags) λ flags. reserved 4 (file_status (λ r. r.status) λ status. made (record { flags = flags; status = status })))
 
 -- ---- LOCK request (MS-SMB2 2.2.26): 24 bytes, then the ranges of 24 bytes each; its size counts the first of them
 
@@ -48,17 +29,8 @@ pub record LockItem : Type 0 where
 abbrev pub shown_lock : LockCall → LockItem
 shown_lock c = record { sequence = c.sequence; file_id = c.file_id; elements = c.elements.0.now }
 
-unfoldable pub lock_call_at : List ℕ → Result LockItem SmbBad
-lock_call_at body = when_fixed 10 48 24 body
-    (part_at 24 (24 * u16_at 2 body) body >>= λ elements. Ok (record { sequence = u32_at 4 body; file_id = file_id_at 8 body; elements = elements }))
-
-unfoldable pub lock_call : LockItem → List ℕ
-lock_call c = joined (little_endian w16 48 ∷ little_endian w16 (length c.elements / 24) ∷ little_endian w32 c.sequence
-    ∷ little_endian w64 c.file_id.persistent ∷ little_endian w64 c.file_id.volatile ∷ c.elements ∷ [])
-
-pub record LockFits (c : LockItem) : Type 0 where
-  pub sequence : c.sequence < 2 ^ 32
-  pub file_id : FileIdFits c.file_id
+unfoldable pub lock_call : Form LockItem
+lock_call = form 48 24 (array 24 (λ c. c.elements) λ elements. u32 (λ c. c.sequence) λ sequence. file_id (λ c. c.file_id) λ id. made (record { sequence = sequence; file_id = id; elements = elements }))
 
 -- a range (MS-SMB2 2.2.26.1), and the ranges in their order
 unfoldable pub element_at : List ℕ → LockElement

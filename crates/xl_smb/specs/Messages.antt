@@ -1,11 +1,13 @@
 -- Whole messages, each all of a frame. A message without flag 1 is a request.
 use Rattle.std.specs.Prelude.{◌≡◌, ℕ, ◌-◌, ◌^◌, true, false, ◌==◌, List, ◌++◌, drop, Result, Ok, if◌then◌else◌}
 use Rattle.xl_base.specs.Codec.{◌>>=◌}
-use Rattle.xl_smb.specs.Places.{zeros}
+use Rattle.xl_layout.specs.Places.{zeros}
+use Rattle.xl_layout.specs.Forms.{size_found, Body, either_body}
+use Rattle.xl_smb.specs.Bodies.{form_at, body_at}
 use Rattle.xl_smb.specs.Heads.{command_of, is_set, is_async, head_of, is_notice, head, HeadFits}
-use Rattle.xl_smb.specs.Breaks.{notice_at, notice, NoticeFits}
+use Rattle.xl_smb.specs.Breaks.{notice_form, notice, NoticeFits}
 use Rattle.xl_smb.specs.Calls.{CallItem, shown_call, call_at, call_text, command_of_call, CallFits, CallHas}
-use Rattle.xl_smb.specs.Replies.{ReplyItem, Error, shown_reply, success_at, error_at, reply_text, Answers, ReplyFits, ReplyHas}
+use Rattle.xl_smb.specs.Replies.{ReplyItem, Error, shown_reply, success_body, error_body, reply_text, Answers, ReplyFits, ReplyHas}
 use Rattle.xl_smb.specs.declared.breaks.Notice.{Notice}
 use Rattle.xl_smb.specs.declared.fault.SmbBad.{SmbBad}
 use Rattle.xl_smb.specs.declared.head.Route.TheVariants.{Tree}
@@ -27,15 +29,18 @@ shown (message.Notice n) = Told n
 -- ---- reading
 
 -- a reply has its command's form at status 0, and the error form at another (SMB-6)
+abbrev pub reply_body : ℕ → SmbHead → Body ReplyItem
+reply_body size h = either_body (h.status == 0) (success_body size (command_of h.command)) error_body
+
 unfoldable pub reply_at : SmbHead → List ℕ → List ℕ → Result ReplyItem SmbBad
-reply_at h frame body = if h.status == 0 then success_at (command_of h.command) frame body else error_at h.command body
+reply_at h frame body = body_at (reply_body (size_found body) h) h.command frame body
 
 -- what a header and the body behind it tell
 unfoldable pub told_at : SmbHead → List ℕ → List ℕ → Result MessageItem SmbBad
 told_at h frame body =
-    if is_notice h then (notice_at body >>= λ n. Ok (Told n))
+    if is_notice h then (form_at (notice_form (size_found body)) 18 frame body >>= λ n. Ok (Told n))
     else if is_set 1 h.flags then (reply_at h frame body >>= λ r. Ok (Reply h r))
-    else call_at (command_of h.command) frame body >>= λ c. Ok (Call h c)
+    else call_at h.command frame body >>= λ c. Ok (Call h c)
 
 unfoldable pub message_at : List ℕ → Result MessageItem SmbBad
 message_at frame = head_of frame >>= λ h. told_at h frame (drop 64 frame)
@@ -50,7 +55,7 @@ spelling (Call h c) = head h ++ call_text c
 spelling (Reply h r) = head h ++ reply_text r
 spelling (Told n) = head notice_head ++ notice n
 
--- what fits its fields, which each value in memory does
+-- what fits its fields
 abbrev pub Fits : MessageItem → Type 0
 Fits (Call h c) = HeadFits h × CallFits c
 Fits (Reply h r) = HeadFits h × ReplyFits r

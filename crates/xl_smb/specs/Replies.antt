@@ -1,19 +1,17 @@
 -- Replies, by their command and status.
-use Rattle.std.specs.Prelude.{◌≡◌, ℕ, ◌<◌, ◌^◌, Bool, true, false, List, [], ◌∷◌, length, Option, Some, None, Result, Ok}
-use Rattle.std.specs.Int.{w16}
-use Rattle.xl_base.specs.Codec.{little_endian, ◌>>=◌}
-use Rattle.xl_smb.specs.Places.{joined, zeros}
-use Rattle.xl_smb.specs.Bodies.{when_fixed}
-use Rattle.xl_smb.specs.Sessions.{NegotiateReplyItem, shown_negotiate_reply, negotiate_reply_at, negotiate_reply, NegotiateReplyFits, SetupReplyItem, shown_setup_reply, setup_reply_at, setup_reply, SetupReplyFits, tree_reply_at, tree_reply, TreeReplyFits, empty_at, empty}
-use Rattle.xl_smb.specs.Creates.{CreateReplyItem, shown_create_reply, create_reply_at, create_reply, CreateReplyFits, CreateReplyHas}
-use Rattle.xl_smb.specs.Locks.{close_reply_at, close_reply, CloseReplyFits}
-use Rattle.xl_smb.specs.Breaks.{break_at, break_text, BreakFits}
+use Rattle.std.specs.Prelude.{◌≡◌, ℕ, ◌<◌, ◌^◌, Bool, true, false, List, length, Option, Some, None}
+use Rattle.xl_layout.specs.Layouts.{made, reserved}
+use Rattle.xl_layout.specs.Forms.{Form, Body, unread, reads, Said, nothing, says, said, SaidFits}
+use Rattle.xl_smb.specs.Bodies.{form}
+use Rattle.xl_smb.specs.Sessions.{NegotiateReplyItem, shown_negotiate_reply, negotiate_reply, SetupReplyItem, shown_setup_reply, setup_reply, tree_reply, empty}
+use Rattle.xl_smb.specs.Creates.{CreateReplyItem, shown_create_reply, create_reply, CreateReplyHas}
+use Rattle.xl_smb.specs.Locks.{close_reply}
+use Rattle.xl_smb.specs.Breaks.{break_form, break_said}
 use Rattle.xl_smb.specs.declared.breaks.Break.{Break}
 use Rattle.xl_smb.specs.declared.reply.SmbReply.{SmbReply}
 use Rattle.xl_smb.specs.declared.reply.SmbReply.TheVariants as reply
 use Rattle.xl_smb.specs.declared.command.Command.{Command}
 use Rattle.xl_smb.specs.declared.command.Command.TheVariants as command
-use Rattle.xl_smb.specs.declared.fault.SmbBad.{SmbBad}
 use Rattle.xl_smb.specs.declared.lock.CloseReply.{CloseReply}
 use Rattle.xl_smb.specs.declared.session.TreeConnectReply.{TreeConnectReply}
 
@@ -46,46 +44,53 @@ shown_reply (reply.OplockBreak b) = OplockBreak b
 shown_reply reply.Error = Error
 shown_reply reply.Other = Other
 
--- ---- reading: the body is what stands behind the header
+-- ---- the body of each command, if it begins with this size
 
--- at status 0; of CANCEL and of a command that is not known the body is not looked at (SMB-6)
-unfoldable pub success_at : Option Command → List ℕ → List ℕ → Result ReplyItem SmbBad
-success_at (Some command.Negotiate) frame body = negotiate_reply_at frame body >>= λ r. Ok (Negotiate r)
-success_at (Some command.SessionSetup) frame body = setup_reply_at frame body >>= λ r. Ok (SessionSetup r)
-success_at (Some command.Logoff) frame body = empty_at command.Logoff body >>= λ _. Ok Logoff
-success_at (Some command.TreeConnect) frame body = tree_reply_at body >>= λ r. Ok (TreeConnect r)
-success_at (Some command.TreeDisconnect) frame body = empty_at command.TreeDisconnect body >>= λ _. Ok TreeDisconnect
-success_at (Some command.Create) frame body = create_reply_at frame body >>= λ r. Ok (Create r)
-success_at (Some command.Close) frame body = close_reply_at body >>= λ r. Ok (Close r)
-success_at (Some command.Lock) frame body = empty_at command.Lock body >>= λ _. Ok Lock
-success_at (Some command.Cancel) frame body = Ok Other
-success_at (Some command.Echo) frame body = empty_at command.Echo body >>= λ _. Ok Echo
-success_at (Some command.OplockBreak) frame body = break_at body >>= λ b. Ok (OplockBreak b)
-success_at None frame body = Ok Other
+-- at status 0; of CANCEL and of a command that is not known it is not looked at (SMB-6)
+abbrev pub success_body : ℕ → Option Command → Body ReplyItem
+success_body size (Some command.Negotiate) = reads Negotiate negotiate_reply
+success_body size (Some command.SessionSetup) = reads SessionSetup setup_reply
+success_body size (Some command.Logoff) = reads (λ _. Logoff) empty
+success_body size (Some command.TreeConnect) = reads TreeConnect tree_reply
+success_body size (Some command.TreeDisconnect) = reads (λ _. TreeDisconnect) empty
+success_body size (Some command.Create) = reads Create create_reply
+success_body size (Some command.Close) = reads Close close_reply
+success_body size (Some command.Lock) = reads (λ _. Lock) empty
+success_body size (Some command.Cancel) = unread Other
+success_body size (Some command.Echo) = reads (λ _. Echo) empty
+success_body size (Some command.OplockBreak) = reads OplockBreak (break_form size)
+success_body size None = unread Other
 
--- at another status: the error form, 8 bytes and its data, which is not looked at (MS-SMB2 2.2.2) (SMB-3)
-unfoldable pub error_at : ℕ → List ℕ → Result ReplyItem SmbBad
-error_at command body = when_fixed command 9 8 body (Ok Error)
+-- at another status: the error form, 8 bytes and its data, which is not looked at; one zero byte stands for no data
+-- (MS-SMB2 2.2.2) (SMB-3)
+unfoldable pub error : Form (Unit {0})
+error = form 9 8 (reserved 7 (made tt))
 
--- ---- spelling
+abbrev pub error_body : Body ReplyItem
+error_body = reads (λ _. Error) error
 
--- one zero byte stands for no data
-unfoldable pub error : List ℕ
-error = joined (little_endian w16 9 ∷ zeros 7 ∷ [])
+-- ---- what a reply is told by
+
+abbrev pub reply_said : ReplyItem → Said
+reply_said (Negotiate r) = says negotiate_reply r
+reply_said (SessionSetup r) = says setup_reply r
+reply_said Logoff = says empty tt
+reply_said (TreeConnect r) = says tree_reply r
+reply_said TreeDisconnect = says empty tt
+reply_said (Create r) = says create_reply r
+reply_said (Close r) = says close_reply r
+reply_said Lock = says empty tt
+reply_said Echo = says empty tt
+reply_said (OplockBreak b) = break_said b
+reply_said Error = says error tt
+reply_said Other = nothing
 
 abbrev pub reply_text : ReplyItem → List ℕ
-reply_text (Negotiate r) = negotiate_reply r
-reply_text (SessionSetup r) = setup_reply r
-reply_text Logoff = empty
-reply_text (TreeConnect r) = tree_reply r
-reply_text TreeDisconnect = empty
-reply_text (Create r) = create_reply r
-reply_text (Close r) = close_reply r
-reply_text Lock = empty
-reply_text Echo = empty
-reply_text (OplockBreak b) = break_text b
-reply_text Error = error
-reply_text Other = []
+reply_text r = said (reply_said r)
+
+-- what fits its fields
+abbrev pub ReplyFits : ReplyItem → Type 0
+ReplyFits r = SaidFits (reply_said r)
 
 -- whether a command has a reply of its own at status 0
 abbrev pub has_reply : Option Command → Bool
@@ -108,22 +113,7 @@ Answers c (OplockBreak b) = c ≡ Some command.OplockBreak
 Answers c Error = ⊥
 Answers c Other = has_reply c ≡ false
 
--- what fits its fields, which each value in memory does
-abbrev pub ReplyFits : ReplyItem → Type 0
-ReplyFits (Negotiate r) = NegotiateReplyFits r
-ReplyFits (SessionSetup r) = SetupReplyFits r
-ReplyFits Logoff = Unit {0}
-ReplyFits (TreeConnect r) = TreeReplyFits r
-ReplyFits TreeDisconnect = Unit {0}
-ReplyFits (Create r) = CreateReplyFits r
-ReplyFits (Close r) = CloseReplyFits r
-ReplyFits Lock = Unit {0}
-ReplyFits Echo = Unit {0}
-ReplyFits (OplockBreak b) = BreakFits b
-ReplyFits Error = Unit {0}
-ReplyFits Other = Unit {0}
-
--- what it takes beside that to be spelled
+-- what it takes of a reply to be spelled, beside numbers that fit their fields
 abbrev pub ReplyHas : ReplyItem → Type 0
 ReplyHas (Negotiate r) = length r.buffer < 2 ^ 16
 ReplyHas (SessionSetup r) = length r.buffer < 2 ^ 16

@@ -1,18 +1,17 @@
 //! OPLOCK_BREAK: acknowledgements, their replies, and the notices that ask for them.
-ghost use Rattle.std.specs.Prelude.{◌≡◌, ◌++◌, ◌≤◌, length, OnOk};
+ghost use Rattle.std.specs.Prelude.{◌≡◌, ℕ, List, ◌++◌, OnOk};
 ghost use Rattle.xl_base.specs.Results.{Gives};
-ghost use Rattle.xl_smb.specs.Breaks.{break_at, oplock_text, lease_text, break_text, BreakFits, notice_at, lease_notice, LeaseNoticeFits, notice, NoticeFits};
-ghost use Rattle.xl_smb.specs.Files.{FileIdFits};
-ghost use Rattle.xl_smb.specs.Leases.{LeaseFits};
+ghost use Rattle.xl_layout.specs.Forms.{size_found, form_text, FormFits, said, SaidFits};
+ghost use Rattle.xl_smb.specs.Bodies.{form_at};
+ghost use Rattle.xl_smb.specs.Breaks.{oplock_break, lease_break, break_form, break_said, oplock_notice, lease_notice, notice_form, notice, NoticeFits};
 
+use crate::body::{check_fixed, size_found};
 use crate::command::Command;
 use crate::fault::SmbBad;
 use crate::file::{FileId, file_id_at};
 use crate::lease::Lease;
-use crate::place::{
-    bytes_at, check_fixed, put_all, size_found, u16_bytes, u32_at, u32_bytes, u64_at, u64_bytes,
-};
 use std::alloc::AllocError;
+use xl_layout::{bytes_at, put_all, u16_bytes, u32_at, u32_bytes, u64_at, u64_bytes};
 
 /// What a client keeps after a break, and, in the reply, what it now holds.
 #[derive(Clone, Copy)]
@@ -47,9 +46,9 @@ pub struct LeaseNotice {
 }
 
 /// An acknowledgement or the reply to one, which have the same form.
-#[tactic(auto, unfolding(crate::specs::Breaks::break_at))]
+#[tactic(auto, unfolding(xl_layout::specs::Forms::form_read, crate::specs::Breaks::oplock_break, crate::specs::Breaks::lease_break))]
 pub(crate) fn break_at(body: &[u8]) -> Result<Break, SmbBad>
-    ensures { Gives (λ held. held) result (break_at body.now) }
+    ensures { (frame : List ℕ) → Gives (λ held. held) result (form_at (break_form (size_found body.now)) 18 frame body.now) }
 {
     if size_found(body) == 36 {
         check_fixed(Command::OplockBreak.number(), 36, 36, body)?;
@@ -65,9 +64,9 @@ pub(crate) fn break_at(body: &[u8]) -> Result<Break, SmbBad>
 }
 
 /// A notice, by its body.
-#[tactic(auto, unfolding(crate::specs::Breaks::notice_at))]
+#[tactic(auto, unfolding(xl_layout::specs::Forms::form_read, crate::specs::Breaks::oplock_notice, crate::specs::Breaks::lease_notice))]
 pub(crate) fn notice_at(body: &[u8]) -> Result<Notice, SmbBad>
-    ensures { Gives (λ told. told) result (notice_at body.now) }
+    ensures { (frame : List ℕ) → Gives (λ told. told) result (form_at (notice_form (size_found body.now)) 18 frame body.now) }
 {
     if size_found(body) == 44 {
         check_fixed(Command::OplockBreak.number(), 44, 44, body)?;
@@ -83,27 +82,28 @@ pub(crate) fn notice_at(body: &[u8]) -> Result<Notice, SmbBad>
 }
 
 /// Writes the form of an oplock's break, which acknowledgements, replies and notices share.
-#[tactic(auto, unfolding(crate::specs::Breaks::oplock_text))]
+#[tactic(auto, unfolding(xl_layout::specs::Forms::form_text, crate::specs::Breaks::oplock_break, crate::specs::Breaks::oplock_notice))]
 fn put_oplock(out: &mut Vec<u8>, level: u8, file_id: FileId) -> Result<(), AllocError>
-    ensures ok { OnOk result (out.new.items ≡ out.old.items ++ oplock_text level file_id) }
-    ensures fits { FileIdFits file_id }
+    ensures held { OnOk result (out.new.items ≡ out.old.items ++ form_text oplock_break (Break.Oplock level file_id)) }
+    ensures told { OnOk result (out.new.items ≡ out.old.items ++ form_text oplock_notice (Notice.Oplock level file_id)) }
+    ensures fits { FormFits oplock_break (Break.Oplock level file_id) × FormFits oplock_notice (Notice.Oplock level file_id) }
 {
     put_all(
         out,
         &[
             &u16_bytes(24),
-            &[level, 0],
-            &[0; 4],
+            &[level],
+            &[0; 5],
             &u64_bytes(file_id.persistent),
             &u64_bytes(file_id.volatile),
         ],
     )
 }
 
-#[tactic(auto, unfolding(crate::specs::Breaks::lease_text))]
+#[tactic(auto, unfolding(xl_layout::specs::Forms::form_text, crate::specs::Breaks::lease_break))]
 fn put_lease(out: &mut Vec<u8>, lease: Lease) -> Result<(), AllocError>
-    ensures ok { OnOk result (out.new.items ≡ out.old.items ++ lease_text lease) }
-    ensures fits { LeaseFits lease }
+    ensures ok { OnOk result (out.new.items ≡ out.old.items ++ form_text lease_break (Break.Lease lease)) }
+    ensures fits { FormFits lease_break (Break.Lease lease) }
 {
     put_all(
         out,
@@ -118,10 +118,10 @@ fn put_lease(out: &mut Vec<u8>, lease: Lease) -> Result<(), AllocError>
     )
 }
 
-#[tactic(auto, unfolding(crate::specs::Breaks::lease_notice))]
+#[tactic(auto, unfolding(xl_layout::specs::Forms::form_text, crate::specs::Breaks::lease_notice))]
 fn put_lease_notice(out: &mut Vec<u8>, told: LeaseNotice) -> Result<(), AllocError>
-    ensures ok { OnOk result (out.new.items ≡ out.old.items ++ lease_notice told) }
-    ensures fits { LeaseNoticeFits told }
+    ensures ok { OnOk result (out.new.items ≡ out.old.items ++ form_text lease_notice (Notice.Lease told)) }
+    ensures fits { FormFits lease_notice (Notice.Lease told) }
 {
     put_all(
         out,
@@ -139,8 +139,8 @@ fn put_lease_notice(out: &mut Vec<u8>, told: LeaseNotice) -> Result<(), AllocErr
 
 /// Writes an acknowledgement or the reply to one.
 pub(crate) fn put_break(out: &mut Vec<u8>, held: Break) -> Result<(), AllocError>
-    ensures ok { OnOk result (out.new.items ≡ out.old.items ++ break_text held) }
-    ensures fits { BreakFits held }
+    ensures ok { OnOk result (out.new.items ≡ out.old.items ++ said (break_said held)) }
+    ensures fits { SaidFits (break_said held) }
 {
     match held {
         Break::Oplock(level, file_id) => put_oplock(out, level, file_id),

@@ -1,7 +1,10 @@
 //! Requests.
 ghost use Rattle.std.specs.Prelude.{◌≡◌, ◌++◌, Some, OnOk};
 ghost use Rattle.xl_base.specs.Results.{Gives};
-ghost use Rattle.xl_smb.specs.Calls.{shown_call, call_at, call_text, CallFits, CallHas};
+ghost use Rattle.xl_layout.specs.Forms.{size_found};
+ghost use Rattle.xl_smb.specs.Bodies.{body_at};
+ghost use Rattle.xl_smb.specs.Heads.{number_of};
+ghost use Rattle.xl_smb.specs.Calls.{shown_call, call_body, call_text, CallFits, CallHas};
 
 use crate::breaks::{Break, break_at, put_break};
 use crate::command::Command;
@@ -46,13 +49,12 @@ pub enum SmbCall<'a> {
 }
 
 /// The request of a command. The body is what stands behind the header.
-#[tactic(auto, unfolding(crate::specs::Calls::call_at))]
 pub(crate) fn call_at<'a>(
     command: Command,
     frame: &'a [u8],
     body: &'a [u8],
 ) -> Result<SmbCall<'a>, SmbBad>
-    ensures { Gives shown_call result (call_at (Some command) frame.now body.now) }
+    ensures { Gives shown_call result (body_at (call_body (size_found body.now) (Some command)) (number_of command) frame.now body.now) }
 {
     match command {
         Command::Negotiate => Ok(SmbCall::Negotiate(negotiate_call_at(body)?)),

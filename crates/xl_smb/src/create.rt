@@ -1,16 +1,20 @@
 //! CREATE.
-ghost use Rattle.std.specs.Prelude.{◌≡◌, ◌++◌, ◌<◌, ◌≤◌, ◌^◌, true, length, OnOk};
+ghost use Rattle.std.specs.Prelude.{◌≡◌, ◌++◌, ◌<◌, ◌^◌, true, false, Some, length, OnOk, IfOk, IfErr};
 ghost use Rattle.xl_base.specs.Results.{Gives};
-ghost use Rattle.xl_smb.specs.Creates.{shown_create_call, create_call_at, create_call, padding, contexts_place, CreateCallFits, CreateCallHas, contexts_at, shown_create_reply, create_reply_at, create_reply, CreateReplyFits, CreateReplyHas};
+ghost use Rattle.xl_layout.specs.Places.{bytes_at};
+ghost use Rattle.xl_layout.specs.Layouts.{stands, padding, place_if_any};
+ghost use Rattle.xl_layout.specs.Forms.{form_text, FormFits};
+ghost use Rattle.xl_smb.specs.Bodies.{form_at};
+ghost use Rattle.xl_smb.specs.Creates.{shown_create_call, create_call, CreateCallHas, shown_create_reply, create_reply, CreateReplyHas};
+ghost use Rattle.xl_smb.specs.Leases.{are_contexts};
 
+use crate::body::{check_fixed, part_at};
 use crate::command::Command;
 use crate::fault::SmbBad;
 use crate::file::{FileId, FileStatus, file_id_at, status_at};
 use crate::lease::{Contexts, are_contexts};
-use crate::place::{
-    check_fixed, part_at, put_all, u16_at, u16_bytes, u32_at, u32_bytes, u64_bytes,
-};
 use std::alloc::AllocError;
+use xl_layout::{put_all, u16_at, u16_bytes, u32_at, u32_bytes, u64_bytes};
 
 /// What a client asks with CREATE, which opens a file (MS-SMB2 2.2.13).
 #[derive(Clone, Copy)]
@@ -47,9 +51,9 @@ pub struct CreateReply<'a> {
 }
 
 /// The contexts at a place of the frame, each of which lies within them.
-#[tactic(auto, unfolding(crate::specs::Creates::contexts_at))]
 fn contexts_at(frame: &[u8], start: u32, count: u32) -> Result<&[u8], SmbBad>
-    ensures { Gives (λ list. list.now) result (contexts_at start count frame.now) }
+    ensures ok { IfOk result (λ list. (stands (Some are_contexts) start count frame.now ≡ true) × (list.now ≡ bytes_at count start frame.now)) }
+    ensures err { IfErr result (λ e. (stands (Some are_contexts) start count frame.now ≡ false) × (e ≡ SmbBad.Offset)) }
 {
     let list = part_at(frame, start, count)?;
     if !are_contexts(list) {
@@ -58,9 +62,9 @@ fn contexts_at(frame: &[u8], start: u32, count: u32) -> Result<&[u8], SmbBad>
     Ok(list)
 }
 
-#[tactic(auto, unfolding(crate::specs::Creates::create_call_at))]
+#[tactic(auto, unfolding(xl_layout::specs::Forms::form_read, crate::specs::Creates::create_call))]
 pub(crate) fn create_call_at<'a>(frame: &'a [u8], body: &[u8]) -> Result<CreateCall<'a>, SmbBad>
-    ensures { Gives shown_create_call result (create_call_at frame.now body.now) }
+    ensures { Gives shown_create_call result (form_at create_call 5 frame.now body.now) }
 {
     check_fixed(Command::Create.number(), 57, 56, body)?;
     let name = part_at(
@@ -80,9 +84,9 @@ pub(crate) fn create_call_at<'a>(frame: &'a [u8], body: &[u8]) -> Result<CreateC
     })
 }
 
-#[tactic(auto, unfolding(crate::specs::Creates::create_reply_at))]
+#[tactic(auto, unfolding(xl_layout::specs::Forms::form_read, crate::specs::Creates::create_reply))]
 pub(crate) fn create_reply_at<'a>(frame: &'a [u8], body: &[u8]) -> Result<CreateReply<'a>, SmbBad>
-    ensures { Gives shown_create_reply result (create_reply_at frame.now body.now) }
+    ensures { Gives shown_create_reply result (form_at create_reply 5 frame.now body.now) }
 {
     check_fixed(Command::Create.number(), 89, 88, body)?;
     let contexts = contexts_at(frame, u32_at(body, 80), u32_at(body, 84))?;
@@ -95,44 +99,46 @@ pub(crate) fn create_reply_at<'a>(frame: &'a [u8], body: &[u8]) -> Result<Create
     })
 }
 
-/// How many zeros stand between a name and the contexts behind it, which begin at a multiple of 8; none if there are
-/// no contexts.
-#[tactic(auto, unfolding(crate::specs::Creates::padding))]
-fn padding(name: usize, contexts: usize) -> usize
-    ensures is { result ≡ padding name contexts }
+/// How many zeros stand before contexts of this length, which begin at a multiple of 8 from this place on; none if there
+/// are no contexts.
+#[tactic(auto, unfolding(xl_layout::specs::Layouts::padding))]
+fn padding(start: usize, contexts: usize) -> usize
+    ensures is { result ≡ padding start contexts }
     ensures short { result < 8 }
 {
     if contexts == 0 {
         return 0;
     }
-    (8 - name % 8) % 8
+    (8 - start % 8) % 8
 }
 
 /// Where the contexts begin that stand behind so many bytes of the frame, 0 if there are none.
-#[tactic(auto, unfolding(crate::specs::Creates::contexts_place))]
+#[tactic(auto, unfolding(xl_layout::specs::Layouts::place_if_any))]
 fn contexts_place(before: usize, contexts: usize) -> u32
     requires { before < 2 ^ 32 }
-    ensures { result ≡ contexts_place before contexts }
+    ensures { result ≡ place_if_any before contexts }
 {
     if contexts == 0 { 0 } else { before as u32 }
 }
 
 /// Writes a CREATE request.
-#[tactic(auto, unfolding(crate::specs::Creates::create_call))]
+#[tactic(auto, unfolding(xl_layout::specs::Forms::form_text, crate::specs::Creates::create_call))]
 pub(crate) fn put_create_call(out: &mut Vec<u8>, call: CreateCall<'_>) -> Result<(), AllocError>
     requires { CreateCallHas (shown_create_call call) }
-    ensures ok { OnOk result (out.new.items ≡ out.old.items ++ create_call (shown_create_call call.entry)) }
-    ensures fits { CreateCallFits (shown_create_call call.entry) }
+    ensures ok { OnOk result (out.new.items ≡ out.old.items ++ form_text create_call (shown_create_call call.entry)) }
+    ensures fits { FormFits create_call (shown_create_call call.entry) }
 {
     let Contexts(contexts) = call.contexts;
-    let padding = padding(call.name.len(), contexts.len());
-    let place = contexts_place(120 + call.name.len() + padding, contexts.len());
+    let start = 120 + call.name.len();
+    let padding = padding(start, contexts.len());
+    let place = contexts_place(start + padding, contexts.len());
     let zeros = [0; 8];
     put_all(
         out,
         &[
             &u16_bytes(57),
-            &[0, call.oplock_level],
+            &[0],
+            &[call.oplock_level],
             &[0; 20],
             &u32_bytes(call.desired_access),
             &[0; 4],
@@ -151,11 +157,11 @@ pub(crate) fn put_create_call(out: &mut Vec<u8>, call: CreateCall<'_>) -> Result
 }
 
 /// Writes a CREATE reply.
-#[tactic(auto, unfolding(crate::specs::Creates::create_reply))]
+#[tactic(auto, unfolding(xl_layout::specs::Forms::form_text, crate::specs::Creates::create_reply))]
 pub(crate) fn put_create_reply(out: &mut Vec<u8>, reply: CreateReply<'_>) -> Result<(), AllocError>
     requires { CreateReplyHas (shown_create_reply reply) }
-    ensures ok { OnOk result (out.new.items ≡ out.old.items ++ create_reply (shown_create_reply reply.entry)) }
-    ensures fits { CreateReplyFits (shown_create_reply reply.entry) }
+    ensures ok { OnOk result (out.new.items ≡ out.old.items ++ form_text create_reply (shown_create_reply reply.entry)) }
+    ensures fits { FormFits create_reply (shown_create_reply reply.entry) }
 {
     let Contexts(contexts) = reply.contexts;
     let status = reply.status;
@@ -163,7 +169,8 @@ pub(crate) fn put_create_reply(out: &mut Vec<u8>, reply: CreateReply<'_>) -> Res
         out,
         &[
             &u16_bytes(89),
-            &[reply.oplock_level, 0],
+            &[reply.oplock_level],
+            &[0],
             &u32_bytes(reply.action),
             &u64_bytes(status.created),
             &u64_bytes(status.accessed),

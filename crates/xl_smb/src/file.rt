@@ -2,7 +2,7 @@
 ghost use Rattle.std.specs.Prelude.{◌≡◌, ◌+◌, ◌≤◌, length};
 ghost use Rattle.xl_smb.specs.Files.{file_id_at, status_at};
 
-use crate::place::{u32_at, u64_at};
+use xl_layout::{u32_at, u64_at};
 
 /// The name of an open (MS-SMB2 2.2.14.1).
 #[derive(Clone, Copy)]
@@ -32,7 +32,6 @@ pub struct FileStatus {
     pub attributes: u32,
 }
 
-#[tactic(auto, unfolding(crate::specs::Files::file_id_at))]
 pub(crate) fn file_id_at(body: &[u8], place: usize) -> FileId
     requires { place + 16 ≤ length body.now }
     ensures { result ≡ file_id_at place body.now }
@@ -43,7 +42,6 @@ pub(crate) fn file_id_at(body: &[u8], place: usize) -> FileId
     }
 }
 
-#[tactic(auto, unfolding(crate::specs::Files::status_at))]
 pub(crate) fn status_at(body: &[u8]) -> FileStatus
     requires { 60 ≤ length body.now }
     ensures { result ≡ status_at body.now }

@@ -1,11 +1,11 @@
 //! The header of a message.
 ghost use Rattle.std.specs.Prelude.{◌≡◌, ◌≤◌, ◌++◌, length, OnOk};
 ghost use Rattle.xl_base.specs.Results.{Gives};
-ghost use Rattle.xl_smb.specs.Heads.{is_set, is_notice, has_mark, route_at, head_at, head_of, route, head, RouteFits, HeadFits};
+ghost use Rattle.xl_smb.specs.Heads.{is_set, is_notice, has_mark, route_of, head_at, head_of, route, head, RouteFits, HeadFits};
 
 use crate::fault::SmbBad;
-use crate::place::{bytes_at, put_all, u16_at, u16_bytes, u32_at, u32_bytes, u64_at, u64_bytes};
 use std::alloc::AllocError;
+use xl_layout::{bytes_at, put_all, u16_at, u16_bytes, u32_at, u32_bytes, u64_at, u64_bytes};
 
 /// What a message belongs to, by the form of its header.
 #[derive(Clone, Copy)]
@@ -80,15 +80,15 @@ pub(crate) fn is_notice(head: &SmbHead) -> bool
         && matches!(head.route, Route::Tree(0))
 }
 
-#[tactic(auto, unfolding(crate::specs::Heads::route_at))]
-fn route_at(frame: &[u8]) -> Route
-    requires { 64 ≤ length frame.now }
-    ensures { result ≡ route_at frame.now }
+/// The tree or the pending request of eight bytes.
+fn route_of(flags: u32, bytes: &[u8]) -> Route
+    requires { 8 ≤ length bytes.now }
+    ensures { result ≡ route_of flags bytes.now }
 {
-    if is_set(2, u32_at(frame, 16)) {
-        Route::Async(u64_at(frame, 32))
+    if is_set(2, flags) {
+        Route::Async(u64_at(bytes, 0))
     } else {
-        Route::Tree(u32_at(frame, 36))
+        Route::Tree(u32_at(bytes, 4))
     }
 }
 
@@ -109,20 +109,22 @@ pub fn read_head(frame: &[u8]) -> Result<SmbHead, SmbBad>
 }
 
 /// The header of a frame.
-#[tactic(auto, unfolding(crate::specs::Heads::head_at))]
+#[tactic(auto, unfolding(crate::specs::Heads::head_at, crate::specs::Heads::head_fields))]
 fn head_at(frame: &[u8]) -> SmbHead
     requires { 64 ≤ length frame.now }
     ensures { result ≡ head_at frame.now }
 {
+    let flags = u32_at(frame, 16);
+    let route: [u8; 8] = bytes_at(frame, 32);
     SmbHead {
         credit_charge: u16_at(frame, 6),
         status: u32_at(frame, 8),
         command: u16_at(frame, 12),
         credits: u16_at(frame, 14),
-        flags: u32_at(frame, 16),
+        flags,
         next_command: u32_at(frame, 20),
         message_id: u64_at(frame, 24),
-        route: route_at(frame),
+        route: route_of(flags, &route),
         session_id: u64_at(frame, 40),
         signature: bytes_at(frame, 48),
     }
@@ -144,7 +146,7 @@ fn route_bytes(to: Route) -> [u8; 8]
 }
 
 /// Writes a header.
-#[tactic(auto, unfolding(crate::specs::Heads::head))]
+#[tactic(auto, unfolding(crate::specs::Heads::head, crate::specs::Heads::head_fields))]
 pub(crate) fn put_head(out: &mut Vec<u8>, h: SmbHead) -> Result<(), AllocError>
     ensures ok { OnOk result (out.new.items ≡ out.old.items ++ head h) }
     ensures fits { HeadFits h }

@@ -1,13 +1,13 @@
 //! Leases and the contexts of CREATE that carry them.
 ghost use Rattle.std.specs.Prelude.{◌≡◌, ◌≤◌, ◌++◌, true, length, drop, option_map, Some, IfSome, OnOk, IfOk};
 ghost use Rattle.xl_base.specs.Results.{Gives};
-ghost use Rattle.xl_smb.specs.Leases.{shown_context, context_at, are_contexts, is_named, find, lease_at, lease_of, lease_context, LeaseFits};
+ghost use Rattle.xl_layout.specs.Layouts.{Fit};
+ghost use Rattle.xl_smb.specs.Leases.{shown_context, context_at, are_contexts, is_named, find, lease_fields, lease_at, lease_of, lease_context};
 
+use crate::body::part_at;
 use crate::fault::SmbBad;
-use crate::place::{
-    bytes_at, part_at, put_all, u16_at, u16_bytes, u32_at, u32_bytes, u64_at, u64_bytes,
-};
 use std::alloc::{AllocError, Global};
+use xl_layout::{bytes_at, put_all, u16_at, u16_bytes, u32_at, u32_bytes, u64_at, u64_bytes};
 
 /// A lease, as CREATE asks for it and is answered (MS-SMB2 2.2.13.2.8, 2.2.14.2.10), and as its break is acknowledged.
 #[derive(Clone, Copy)]
@@ -56,7 +56,7 @@ impl<'a> Contexts<'a> {
 }
 
 /// The context at the front of a list.
-#[tactic(auto, unfolding(crate::specs::Leases::context_at))]
+#[tactic(auto, unfolding(crate::specs::Leases::context_at, crate::specs::Leases::context_fields))]
 fn context_at(list: &[u8]) -> Result<Context<'_>, SmbBad>
     ensures is { Gives shown_context result (context_at list.now) }
     ensures long { OnOk result (16 ≤ length list.now) }
@@ -82,7 +82,7 @@ fn after(list: &[u8], next: u32) -> &[u8]
 }
 
 /// Whether each context lies within the list.
-#[tactic(auto, using(crate::proofs::LeaseLaws::chain_step, crate::proofs::LeaseLaws::chain_last, crate::proofs::LeaseLaws::chain_bad))]
+#[tactic(auto, using(crate::proofs::LeaseLaws::walk_next, crate::proofs::LeaseLaws::walk_end, crate::proofs::LeaseLaws::walk_none))]
 pub(crate) fn are_contexts(list: &[u8]) -> bool
     ensures { result ≡ are_contexts list.now }
 {
@@ -97,7 +97,7 @@ pub(crate) fn are_contexts(list: &[u8]) -> bool
 }
 
 /// The data of the first context of this name and this length.
-#[tactic(auto, using(crate::proofs::LeaseLaws::find_this, crate::proofs::LeaseLaws::find_step, crate::proofs::LeaseLaws::find_last, crate::proofs::LeaseLaws::find_bad))]
+#[tactic(auto, using(crate::proofs::LeaseLaws::walk_found, crate::proofs::LeaseLaws::walk_next, crate::proofs::LeaseLaws::walk_end, crate::proofs::LeaseLaws::walk_none))]
 fn first_of<'a>(list: &'a [u8], name: &[u8], size: usize) -> Option<&'a [u8]>
     ensures found { option_map (λ content. content.now) result ≡ find name.now size list.now }
     ensures sized { IfSome result (λ content. length content.now ≡ size) }
@@ -140,7 +140,7 @@ fn lease_at(content: &[u8]) -> Lease
 #[tactic(auto, unfolding(crate::specs::Leases::lease_context))]
 fn put_lease_context(out: &mut Vec<u8>, lease: Lease) -> Result<(), AllocError>
     ensures ok { OnOk result (out.new.items ≡ out.old.items ++ lease_context lease) }
-    ensures fits { LeaseFits lease }
+    ensures fits { Fit lease_fields lease }
 {
     put_all(
         out,

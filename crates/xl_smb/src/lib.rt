@@ -5,6 +5,7 @@
 //! borrowed from the frame.
 #![tactic(auto)]
 
+mod body;
 mod breaks;
 mod call;
 mod command;
@@ -15,7 +16,6 @@ mod head;
 mod lease;
 mod lock;
 mod message;
-mod place;
 mod reply;
 mod session;
 

@@ -1,16 +1,17 @@
 //! CLOSE and LOCK.
-ghost use Rattle.std.specs.Prelude.{◌≡◌, ℕ, ◌*◌, ◌+◌, ◌/◌, ◌<◌, ◌≤◌, ◌++◌, length, slice_index_or, OnOk, IsTrue, ◌↔◌};
+ghost use Rattle.std.specs.Prelude.{◌≡◌, ℕ, List, ◌<◌, ◌≤◌, ◌++◌, length, slice_index_or, OnOk, IsTrue, ◌↔◌};
 ghost use Rattle.xl_base.specs.Results.{Gives};
-ghost use Rattle.xl_smb.specs.Bodies.{IsCounted};
-ghost use Rattle.xl_smb.specs.Locks.{close_call_at, close_call, CloseCallFits, close_reply_at, close_reply, CloseReplyFits, shown_lock, lock_call_at, lock_call, LockFits, element_at};
+ghost use Rattle.xl_layout.specs.Layouts.{IsCounted};
+ghost use Rattle.xl_layout.specs.Forms.{form_text, FormFits};
+ghost use Rattle.xl_smb.specs.Bodies.{form_at};
+ghost use Rattle.xl_smb.specs.Locks.{close_call, close_reply, shown_lock, lock_call, element_at};
 
+use crate::body::{check_fixed, part_at};
 use crate::command::Command;
 use crate::fault::SmbBad;
 use crate::file::{FileId, FileStatus, file_id_at, status_at};
-use crate::place::{
-    check_fixed, part_at, put_all, u16_at, u16_bytes, u32_at, u32_bytes, u64_at, u64_bytes,
-};
 use std::alloc::AllocError;
+use xl_layout::{put_all, u16_at, u16_bytes, u32_at, u32_bytes, u64_at, u64_bytes};
 
 /// What a client asks with CLOSE (MS-SMB2 2.2.15).
 #[derive(Clone, Copy)]
@@ -60,7 +61,7 @@ impl LockElements<'_> {
     ghost use Rattle.xl_smb.specs.Locks.{elements_of};
 
     /// How many ranges there are.
-    #[tactic(auto, using(crate::proofs::PlaceLaws::each_length))]
+    #[tactic(auto, using(xl_layout::proofs::PlaceLaws::each_length))]
     pub fn len(&self) -> usize
         ensures { result ≡ length (elements_of self.now.0.now) }
     {
@@ -68,7 +69,7 @@ impl LockElements<'_> {
     }
 
     /// Whether there is no range.
-    #[tactic(auto, using(crate::proofs::PlaceLaws::each_length))]
+    #[tactic(auto, using(xl_layout::proofs::PlaceLaws::each_length))]
     pub fn is_empty(&self) -> bool
         ensures { IsTrue result ↔ (length (elements_of self.now.0.now) ≡ 0) }
     {
@@ -76,7 +77,7 @@ impl LockElements<'_> {
     }
 
     /// The range of this index, counted from 0.
-    #[tactic(auto, using(crate::proofs::PlaceLaws::each_length, crate::proofs::PlaceLaws::each_at))]
+    #[tactic(auto, using(xl_layout::proofs::PlaceLaws::each_length, xl_layout::proofs::PlaceLaws::each_at))]
     pub fn at(&self, index: usize) -> LockElement
         requires { index < length (elements_of self.now.0.now) }
         ensures { (d : LockElement) → slice_index_or (elements_of self.now.0.now) index d ≡ result }
@@ -97,9 +98,9 @@ fn element_at(bytes: &[u8]) -> LockElement
     }
 }
 
-#[tactic(auto, unfolding(crate::specs::Locks::close_call_at))]
+#[tactic(auto, unfolding(xl_layout::specs::Forms::form_read, crate::specs::Locks::close_call))]
 pub(crate) fn close_call_at(body: &[u8]) -> Result<CloseCall, SmbBad>
-    ensures { Gives (λ call. call) result (close_call_at body.now) }
+    ensures { (frame : List ℕ) → Gives (λ call. call) result (form_at close_call 6 frame body.now) }
 {
     check_fixed(Command::Close.number(), 24, 24, body)?;
     Ok(CloseCall {
@@ -108,9 +109,9 @@ pub(crate) fn close_call_at(body: &[u8]) -> Result<CloseCall, SmbBad>
     })
 }
 
-#[tactic(auto, unfolding(crate::specs::Locks::close_reply_at))]
+#[tactic(auto, unfolding(xl_layout::specs::Forms::form_read, crate::specs::Locks::close_reply))]
 pub(crate) fn close_reply_at(body: &[u8]) -> Result<CloseReply, SmbBad>
-    ensures { Gives (λ reply. reply) result (close_reply_at body.now) }
+    ensures { (frame : List ℕ) → Gives (λ reply. reply) result (form_at close_reply 6 frame body.now) }
 {
     check_fixed(Command::Close.number(), 60, 60, body)?;
     Ok(CloseReply {
@@ -119,9 +120,9 @@ pub(crate) fn close_reply_at(body: &[u8]) -> Result<CloseReply, SmbBad>
     })
 }
 
-#[tactic(auto, unfolding(crate::specs::Locks::lock_call_at))]
+#[tactic(auto, unfolding(xl_layout::specs::Forms::form_read, crate::specs::Locks::lock_call))]
 pub(crate) fn lock_call_at(body: &[u8]) -> Result<LockCall<'_>, SmbBad>
-    ensures { Gives shown_lock result (lock_call_at body.now) }
+    ensures { (frame : List ℕ) → Gives shown_lock result (form_at lock_call 10 frame body.now) }
 {
     check_fixed(Command::Lock.number(), 48, 24, body)?;
     let elements = part_at(body, 24, 24 * u32::from(u16_at(body, 2)))?;
@@ -133,10 +134,10 @@ pub(crate) fn lock_call_at(body: &[u8]) -> Result<LockCall<'_>, SmbBad>
 }
 
 /// Writes a CLOSE request.
-#[tactic(auto, unfolding(crate::specs::Locks::close_call))]
+#[tactic(auto, unfolding(xl_layout::specs::Forms::form_text, crate::specs::Locks::close_call))]
 pub(crate) fn put_close_call(out: &mut Vec<u8>, call: CloseCall) -> Result<(), AllocError>
-    ensures ok { OnOk result (out.new.items ≡ out.old.items ++ close_call call) }
-    ensures fits { CloseCallFits call }
+    ensures ok { OnOk result (out.new.items ≡ out.old.items ++ form_text close_call call) }
+    ensures fits { FormFits close_call call }
 {
     put_all(
         out,
@@ -151,10 +152,10 @@ pub(crate) fn put_close_call(out: &mut Vec<u8>, call: CloseCall) -> Result<(), A
 }
 
 /// Writes a CLOSE reply.
-#[tactic(auto, unfolding(crate::specs::Locks::close_reply))]
+#[tactic(auto, unfolding(xl_layout::specs::Forms::form_text, crate::specs::Locks::close_reply))]
 pub(crate) fn put_close_reply(out: &mut Vec<u8>, reply: CloseReply) -> Result<(), AllocError>
-    ensures ok { OnOk result (out.new.items ≡ out.old.items ++ close_reply reply) }
-    ensures fits { CloseReplyFits reply }
+    ensures ok { OnOk result (out.new.items ≡ out.old.items ++ form_text close_reply reply) }
+    ensures fits { FormFits close_reply reply }
 {
     let status = reply.status;
     put_all(
@@ -175,11 +176,11 @@ pub(crate) fn put_close_reply(out: &mut Vec<u8>, reply: CloseReply) -> Result<()
 }
 
 /// Writes a LOCK request.
-#[tactic(auto, unfolding(crate::specs::Locks::lock_call))]
+#[tactic(auto, unfolding(xl_layout::specs::Forms::form_text, crate::specs::Locks::lock_call))]
 pub(crate) fn put_lock_call(out: &mut Vec<u8>, call: LockCall<'_>) -> Result<(), AllocError>
     requires { IsCounted 24 (shown_lock call).elements }
-    ensures ok { OnOk result (out.new.items ≡ out.old.items ++ lock_call (shown_lock call.entry)) }
-    ensures fits { LockFits (shown_lock call.entry) }
+    ensures ok { OnOk result (out.new.items ≡ out.old.items ++ form_text lock_call (shown_lock call.entry)) }
+    ensures fits { FormFits lock_call (shown_lock call.entry) }
 {
     let LockElements(elements) = call.elements;
     let count = (elements.len() / 24) as u16;

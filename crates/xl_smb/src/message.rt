@@ -2,12 +2,14 @@
 ghost use Rattle.std.specs.Prelude.{◌≡◌, ◌++◌, length, Ok, OnOk, IfOk};
 ghost use Rattle.std.specs.Result.{result_err};
 ghost use Rattle.xl_base.specs.Results.{Gives};
+ghost use Rattle.xl_layout.specs.Forms.{size_found};
+ghost use Rattle.xl_smb.specs.Bodies.{body_at};
 ghost use Rattle.xl_smb.specs.Calls.{shown_call, call_at};
 ghost use Rattle.xl_smb.specs.Faults.{fault_of};
 ghost use Rattle.xl_smb.specs.Heads.{command_of, head_at};
 ghost use Rattle.xl_smb.specs.Lengths.{message_length};
 ghost use Rattle.xl_smb.specs.Messages.{MessageItem, IsOf, shown, reply_at, told_at, message_at, notice_head, spelling, Fits, HasSpelling};
-ghost use Rattle.xl_smb.specs.Replies.{shown_reply, success_at};
+ghost use Rattle.xl_smb.specs.Replies.{shown_reply, success_body};
 
 use crate::breaks::{Notice, notice_at, put_notice};
 use crate::call::{SmbCall, call_at, put_call};
@@ -29,9 +31,9 @@ pub enum SmbMessage<'a> {
     Notice(Notice),
 }
 
-#[tactic(auto, unfolding(crate::specs::Calls::call_at))]
+#[tactic(auto, using(crate::proofs::HeadLaws::numbered), unfolding(crate::specs::Calls::call_at))]
 fn call_of<'a>(command: u16, frame: &'a [u8], body: &'a [u8]) -> Result<SmbCall<'a>, SmbBad>
-    ensures { Gives shown_call result (call_at (command_of command) frame.now body.now) }
+    ensures { Gives shown_call result (call_at command frame.now body.now) }
 {
     match Command::of(command) {
         Some(command) => call_at(command, frame, body),
@@ -39,9 +41,9 @@ fn call_of<'a>(command: u16, frame: &'a [u8], body: &'a [u8]) -> Result<SmbCall<
     }
 }
 
-#[tactic(auto, unfolding(crate::specs::Replies::success_at))]
+#[tactic(auto, using(crate::proofs::HeadLaws::numbered))]
 fn success_of<'a>(command: u16, frame: &'a [u8], body: &'a [u8]) -> Result<SmbReply<'a>, SmbBad>
-    ensures { Gives shown_reply result (success_at (command_of command) frame.now body.now) }
+    ensures { Gives shown_reply result (body_at (success_body (size_found body.now) (command_of command)) command frame.now body.now) }
 {
     match Command::of(command) {
         Some(command) => success_at(command, frame, body),
@@ -143,7 +145,7 @@ fn put_message(out: &mut Vec<u8>, message: SmbMessage<'_>) -> Result<(), AllocEr
 /// whether it is a reply and which form the header has, its command is that of what it asks or answers, a reply is of
 /// the error form just if its status isn't 0, and none has a notice's header; each length fits its number, ranges and
 /// dialects are whole, and contexts lie within their list.
-#[tactic(auto, using(crate::proofs::MessageLaws::message_again, crate::proofs::LengthLaws::message_has))]
+#[tactic(auto, using(crate::proofs::MessageLaws::message_again, crate::proofs::MessageLaws::message_has))]
 pub fn write(alloc: Global, message: &SmbMessage<'_>) -> Result<Vec<u8>, AllocError>
     requires { HasSpelling (shown message.now) }
     ensures spelled { IfOk result (λ frame. frame.items ≡ spelling (shown message.now)) }

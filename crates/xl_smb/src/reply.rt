@@ -1,19 +1,23 @@
 //! Replies.
-ghost use Rattle.std.specs.Prelude.{◌≡◌, ◌++◌, Some, OnOk};
+ghost use Rattle.std.specs.Prelude.{◌≡◌, ℕ, List, ◌++◌, Some, OnOk};
 ghost use Rattle.xl_base.specs.Results.{Gives};
-ghost use Rattle.xl_smb.specs.Replies.{shown_reply, success_at, error_at, error, reply_text, ReplyFits, ReplyHas};
+ghost use Rattle.xl_layout.specs.Forms.{size_found, form_text, FormFits};
+ghost use Rattle.xl_smb.specs.Bodies.{body_at};
+ghost use Rattle.xl_smb.specs.Heads.{number_of};
+ghost use Rattle.xl_smb.specs.Replies.{shown_reply, success_body, error, error_body, reply_text, ReplyFits, ReplyHas};
 
+use crate::body::check_fixed;
 use crate::breaks::{Break, break_at, put_break};
 use crate::command::Command;
 use crate::create::{CreateReply, create_reply_at, put_create_reply};
 use crate::fault::SmbBad;
 use crate::lock::{CloseReply, close_reply_at, put_close_reply};
-use crate::place::{check_fixed, put_all, u16_bytes};
 use crate::session::{
     NegotiateReply, SessionSetupReply, TreeConnectReply, check_empty, negotiate_reply_at,
     put_empty, put_negotiate_reply, put_setup_reply, put_tree_reply, setup_reply_at, tree_reply_at,
 };
 use std::alloc::AllocError;
+use xl_layout::{put_all, u16_bytes};
 
 /// What a reply answers, by its command at status 0.
 #[derive(Clone, Copy)]
@@ -45,13 +49,12 @@ pub enum SmbReply<'a> {
 }
 
 /// The reply of a command at status 0. The body is what stands behind the header.
-#[tactic(auto, unfolding(crate::specs::Replies::success_at))]
 pub(crate) fn success_at<'a>(
     command: Command,
     frame: &'a [u8],
     body: &'a [u8],
 ) -> Result<SmbReply<'a>, SmbBad>
-    ensures { Gives shown_reply result (success_at (Some command) frame.now body.now) }
+    ensures { Gives shown_reply result (body_at (success_body (size_found body.now) (Some command)) (number_of command) frame.now body.now) }
 {
     match command {
         Command::Negotiate => Ok(SmbReply::Negotiate(negotiate_reply_at(frame, body)?)),
@@ -81,18 +84,19 @@ pub(crate) fn success_at<'a>(
 }
 
 /// The reply of a command, by its number, at another status.
-#[tactic(auto, unfolding(crate::specs::Replies::error_at))]
+#[tactic(auto, unfolding(xl_layout::specs::Forms::form_read, crate::specs::Replies::error))]
 pub(crate) fn error_at<'a>(command: u16, body: &[u8]) -> Result<SmbReply<'a>, SmbBad>
-    ensures { Gives shown_reply result (error_at command body.now) }
+    ensures { (frame : List ℕ) → Gives shown_reply result (body_at error_body command frame body.now) }
 {
     check_fixed(command, 9, 8, body)?;
     Ok(SmbReply::Error)
 }
 
 /// Writes the error form, whose data is one zero byte.
-#[tactic(auto, unfolding(crate::specs::Replies::error))]
+#[tactic(auto, unfolding(xl_layout::specs::Forms::form_text, crate::specs::Replies::error))]
 fn put_error(out: &mut Vec<u8>) -> Result<(), AllocError>
-    ensures { OnOk result (out.new.items ≡ out.old.items ++ error) }
+    ensures ok { OnOk result (out.new.items ≡ out.old.items ++ form_text error tt) }
+    ensures fits { FormFits error tt }
 {
     put_all(out, &[&u16_bytes(9), &[0; 7]])
 }

@@ -1,17 +1,18 @@
 //! NEGOTIATE, SESSION_SETUP and TREE_CONNECT, and the commands whose messages have no field.
-ghost use Rattle.std.specs.Prelude.{◌≡◌, ◌==◌, ◌++◌, ◌<◌, ◌^◌, length, OnOk, IsTrue, ◌↔◌};
+ghost use Rattle.std.specs.Prelude.{◌≡◌, ℕ, List, ◌==◌, ◌++◌, ◌<◌, ◌^◌, length, OnOk, IsTrue, ◌↔◌};
 ghost use Rattle.std.specs.List.{list_any};
 ghost use Rattle.xl_base.specs.Results.{Gives};
-ghost use Rattle.xl_smb.specs.Bodies.{IsCounted};
-ghost use Rattle.xl_smb.specs.Sessions.{shown_negotiate_call, negotiate_call_at, negotiate_call, NegotiateCallFits, shown_negotiate_reply, negotiate_reply_at, negotiate_reply, NegotiateReplyFits, shown_setup_call, setup_call_at, setup_call, SetupCallFits, shown_setup_reply, setup_reply_at, setup_reply, SetupReplyFits, path_at, tree_call, tree_reply_at, tree_reply, TreeReplyFits, empty_at, empty};
+ghost use Rattle.xl_layout.specs.Layouts.{IsCounted};
+ghost use Rattle.xl_layout.specs.Forms.{form_text, FormFits};
+ghost use Rattle.xl_smb.specs.Bodies.{form_at};
+ghost use Rattle.xl_smb.specs.Heads.{number_of};
+ghost use Rattle.xl_smb.specs.Sessions.{shown_negotiate_call, negotiate_call, shown_negotiate_reply, negotiate_reply, shown_setup_call, setup_call, shown_setup_reply, setup_reply, tree_call, tree_reply, empty};
 
+use crate::body::{check_fixed, part_at};
 use crate::command::Command;
 use crate::fault::SmbBad;
-use crate::place::{
-    bytes_at, check_fixed, part_at, put_all, u16_at, u16_bytes, u32_at, u32_bytes, u64_at,
-    u64_bytes,
-};
 use std::alloc::AllocError;
+use xl_layout::{bytes_at, put_all, u16_at, u16_bytes, u32_at, u32_bytes, u64_at, u64_bytes};
 
 /// The dialects that a client offers, two bytes each, lowest byte first.
 #[derive(Clone, Copy)]
@@ -94,7 +95,7 @@ impl Dialects<'_> {
     ghost use Rattle.xl_smb.specs.Sessions.{dialects_of};
 
     /// How many dialects there are.
-    #[tactic(auto, using(crate::proofs::PlaceLaws::each_length))]
+    #[tactic(auto, using(xl_layout::proofs::PlaceLaws::each_length))]
     pub fn len(&self) -> usize
         ensures { result ≡ length (dialects_of self.now.0.now) }
     {
@@ -102,7 +103,7 @@ impl Dialects<'_> {
     }
 
     /// Whether there is no dialect.
-    #[tactic(auto, using(crate::proofs::PlaceLaws::each_length))]
+    #[tactic(auto, using(xl_layout::proofs::PlaceLaws::each_length))]
     pub fn is_empty(&self) -> bool
         ensures { IsTrue result ↔ (length (dialects_of self.now.0.now) ≡ 0) }
     {
@@ -110,7 +111,7 @@ impl Dialects<'_> {
     }
 
     /// Whether a dialect is among them.
-    #[tactic(auto, using(crate::proofs::PlaceLaws::whole_more, crate::proofs::PlaceLaws::whole_none))]
+    #[tactic(auto, using(xl_layout::proofs::PlaceLaws::whole_more, xl_layout::proofs::PlaceLaws::whole_none))]
     pub fn contains(&self, dialect: u16) -> bool
         ensures { result ≡ list_any (λ offered. offered == dialect) (dialects_of self.now.0.now) }
     {
@@ -125,9 +126,9 @@ impl Dialects<'_> {
     }
 }
 
-#[tactic(auto, unfolding(crate::specs::Sessions::negotiate_call_at))]
+#[tactic(auto, unfolding(xl_layout::specs::Forms::form_read, crate::specs::Sessions::negotiate_call))]
 pub(crate) fn negotiate_call_at(body: &[u8]) -> Result<NegotiateCall<'_>, SmbBad>
-    ensures { Gives shown_negotiate_call result (negotiate_call_at body.now) }
+    ensures { (frame : List ℕ) → Gives shown_negotiate_call result (form_at negotiate_call 0 frame body.now) }
 {
     check_fixed(Command::Negotiate.number(), 36, 36, body)?;
     let dialects = part_at(body, 36, 2 * u32::from(u16_at(body, 2)))?;
@@ -139,12 +140,12 @@ pub(crate) fn negotiate_call_at(body: &[u8]) -> Result<NegotiateCall<'_>, SmbBad
     })
 }
 
-#[tactic(auto, unfolding(crate::specs::Sessions::negotiate_reply_at))]
+#[tactic(auto, unfolding(xl_layout::specs::Forms::form_read, crate::specs::Sessions::negotiate_reply))]
 pub(crate) fn negotiate_reply_at<'a>(
     frame: &'a [u8],
     body: &[u8],
 ) -> Result<NegotiateReply<'a>, SmbBad>
-    ensures { Gives shown_negotiate_reply result (negotiate_reply_at frame.now body.now) }
+    ensures { Gives shown_negotiate_reply result (form_at negotiate_reply 0 frame.now body.now) }
 {
     check_fixed(Command::Negotiate.number(), 65, 64, body)?;
     let buffer = part_at(
@@ -166,12 +167,12 @@ pub(crate) fn negotiate_reply_at<'a>(
     })
 }
 
-#[tactic(auto, unfolding(crate::specs::Sessions::setup_call_at))]
+#[tactic(auto, unfolding(xl_layout::specs::Forms::form_read, crate::specs::Sessions::setup_call))]
 pub(crate) fn setup_call_at<'a>(
     frame: &'a [u8],
     body: &[u8],
 ) -> Result<SessionSetupCall<'a>, SmbBad>
-    ensures { Gives shown_setup_call result (setup_call_at frame.now body.now) }
+    ensures { Gives shown_setup_call result (form_at setup_call 1 frame.now body.now) }
 {
     check_fixed(Command::SessionSetup.number(), 25, 24, body)?;
     let buffer = part_at(
@@ -187,12 +188,12 @@ pub(crate) fn setup_call_at<'a>(
     })
 }
 
-#[tactic(auto, unfolding(crate::specs::Sessions::setup_reply_at))]
+#[tactic(auto, unfolding(xl_layout::specs::Forms::form_read, crate::specs::Sessions::setup_reply))]
 pub(crate) fn setup_reply_at<'a>(
     frame: &'a [u8],
     body: &[u8],
 ) -> Result<SessionSetupReply<'a>, SmbBad>
-    ensures { Gives shown_setup_reply result (setup_reply_at frame.now body.now) }
+    ensures { Gives shown_setup_reply result (form_at setup_reply 1 frame.now body.now) }
 {
     check_fixed(Command::SessionSetup.number(), 9, 8, body)?;
     let buffer = part_at(
@@ -207,9 +208,9 @@ pub(crate) fn setup_reply_at<'a>(
 }
 
 /// The path of a TREE_CONNECT request (MS-SMB2 2.2.9).
-#[tactic(auto, unfolding(crate::specs::Sessions::path_at))]
+#[tactic(auto, unfolding(xl_layout::specs::Forms::form_read, crate::specs::Sessions::tree_call))]
 pub(crate) fn path_at<'a>(frame: &'a [u8], body: &[u8]) -> Result<&'a [u8], SmbBad>
-    ensures { Gives (λ path. path.now) result (path_at frame.now body.now) }
+    ensures { Gives (λ path. path.now) result (form_at tree_call 3 frame.now body.now) }
 {
     check_fixed(Command::TreeConnect.number(), 9, 8, body)?;
     part_at(
@@ -219,9 +220,9 @@ pub(crate) fn path_at<'a>(frame: &'a [u8], body: &[u8]) -> Result<&'a [u8], SmbB
     )
 }
 
-#[tactic(auto, unfolding(crate::specs::Sessions::tree_reply_at))]
+#[tactic(auto, unfolding(xl_layout::specs::Forms::form_read, crate::specs::Sessions::tree_reply))]
 pub(crate) fn tree_reply_at(body: &[u8]) -> Result<TreeConnectReply, SmbBad>
-    ensures { Gives (λ reply. reply) result (tree_reply_at body.now) }
+    ensures { (frame : List ℕ) → Gives (λ reply. reply) result (form_at tree_reply 3 frame body.now) }
 {
     check_fixed(Command::TreeConnect.number(), 16, 16, body)?;
     Ok(TreeConnectReply {
@@ -233,14 +234,14 @@ pub(crate) fn tree_reply_at(body: &[u8]) -> Result<TreeConnectReply, SmbBad>
 }
 
 /// Writes a NEGOTIATE request.
-#[tactic(auto, unfolding(crate::specs::Sessions::negotiate_call))]
+#[tactic(auto, unfolding(xl_layout::specs::Forms::form_text, crate::specs::Sessions::negotiate_call))]
 pub(crate) fn put_negotiate_call(
     out: &mut Vec<u8>,
     call: NegotiateCall<'_>,
 ) -> Result<(), AllocError>
     requires { IsCounted 2 (shown_negotiate_call call).dialects }
-    ensures ok { OnOk result (out.new.items ≡ out.old.items ++ negotiate_call (shown_negotiate_call call.entry)) }
-    ensures fits { NegotiateCallFits (shown_negotiate_call call.entry) }
+    ensures ok { OnOk result (out.new.items ≡ out.old.items ++ form_text negotiate_call (shown_negotiate_call call.entry)) }
+    ensures fits { FormFits negotiate_call (shown_negotiate_call call.entry) }
 {
     let Dialects(dialects) = call.dialects;
     let guid = call.client_guid;
@@ -261,14 +262,14 @@ pub(crate) fn put_negotiate_call(
 }
 
 /// Writes a NEGOTIATE reply.
-#[tactic(auto, unfolding(crate::specs::Sessions::negotiate_reply))]
+#[tactic(auto, unfolding(xl_layout::specs::Forms::form_text, crate::specs::Sessions::negotiate_reply))]
 pub(crate) fn put_negotiate_reply(
     out: &mut Vec<u8>,
     reply: NegotiateReply<'_>,
 ) -> Result<(), AllocError>
     requires { length (shown_negotiate_reply reply).buffer < 2 ^ 16 }
-    ensures ok { OnOk result (out.new.items ≡ out.old.items ++ negotiate_reply (shown_negotiate_reply reply.entry)) }
-    ensures fits { NegotiateReplyFits (shown_negotiate_reply reply.entry) }
+    ensures ok { OnOk result (out.new.items ≡ out.old.items ++ form_text negotiate_reply (shown_negotiate_reply reply.entry)) }
+    ensures fits { FormFits negotiate_reply (shown_negotiate_reply reply.entry) }
 {
     let guid = reply.server_guid;
     put_all(
@@ -294,20 +295,21 @@ pub(crate) fn put_negotiate_reply(
 }
 
 /// Writes a SESSION_SETUP request.
-#[tactic(auto, unfolding(crate::specs::Sessions::setup_call))]
+#[tactic(auto, unfolding(xl_layout::specs::Forms::form_text, crate::specs::Sessions::setup_call))]
 pub(crate) fn put_setup_call(
     out: &mut Vec<u8>,
     call: SessionSetupCall<'_>,
 ) -> Result<(), AllocError>
     requires { length (shown_setup_call call).buffer < 2 ^ 16 }
-    ensures ok { OnOk result (out.new.items ≡ out.old.items ++ setup_call (shown_setup_call call.entry)) }
-    ensures fits { SetupCallFits (shown_setup_call call.entry) }
+    ensures ok { OnOk result (out.new.items ≡ out.old.items ++ form_text setup_call (shown_setup_call call.entry)) }
+    ensures fits { FormFits setup_call (shown_setup_call call.entry) }
 {
     put_all(
         out,
         &[
             &u16_bytes(25),
-            &[call.flags, call.security_mode],
+            &[call.flags],
+            &[call.security_mode],
             &[0; 8],
             &u16_bytes(88),
             &u16_bytes(call.buffer.len() as u16),
@@ -318,14 +320,14 @@ pub(crate) fn put_setup_call(
 }
 
 /// Writes a SESSION_SETUP reply.
-#[tactic(auto, unfolding(crate::specs::Sessions::setup_reply))]
+#[tactic(auto, unfolding(xl_layout::specs::Forms::form_text, crate::specs::Sessions::setup_reply))]
 pub(crate) fn put_setup_reply(
     out: &mut Vec<u8>,
     reply: SessionSetupReply<'_>,
 ) -> Result<(), AllocError>
     requires { length (shown_setup_reply reply).buffer < 2 ^ 16 }
-    ensures ok { OnOk result (out.new.items ≡ out.old.items ++ setup_reply (shown_setup_reply reply.entry)) }
-    ensures fits { SetupReplyFits (shown_setup_reply reply.entry) }
+    ensures ok { OnOk result (out.new.items ≡ out.old.items ++ form_text setup_reply (shown_setup_reply reply.entry)) }
+    ensures fits { FormFits setup_reply (shown_setup_reply reply.entry) }
 {
     put_all(
         out,
@@ -340,10 +342,11 @@ pub(crate) fn put_setup_reply(
 }
 
 /// Writes a TREE_CONNECT request for this path.
-#[tactic(auto, unfolding(crate::specs::Sessions::tree_call))]
+#[tactic(auto, unfolding(xl_layout::specs::Forms::form_text, crate::specs::Sessions::tree_call))]
 pub(crate) fn put_tree_call(out: &mut Vec<u8>, path: &[u8]) -> Result<(), AllocError>
     requires { length path.now < 2 ^ 16 }
-    ensures { OnOk result (out.new.items ≡ out.old.items ++ tree_call path.now) }
+    ensures ok { OnOk result (out.new.items ≡ out.old.items ++ form_text tree_call path.now) }
+    ensures fits { FormFits tree_call path.now }
 {
     put_all(
         out,
@@ -358,16 +361,17 @@ pub(crate) fn put_tree_call(out: &mut Vec<u8>, path: &[u8]) -> Result<(), AllocE
 }
 
 /// Writes a TREE_CONNECT reply.
-#[tactic(auto, unfolding(crate::specs::Sessions::tree_reply))]
+#[tactic(auto, unfolding(xl_layout::specs::Forms::form_text, crate::specs::Sessions::tree_reply))]
 pub(crate) fn put_tree_reply(out: &mut Vec<u8>, reply: TreeConnectReply) -> Result<(), AllocError>
-    ensures ok { OnOk result (out.new.items ≡ out.old.items ++ tree_reply reply) }
-    ensures fits { TreeReplyFits reply }
+    ensures ok { OnOk result (out.new.items ≡ out.old.items ++ form_text tree_reply reply) }
+    ensures fits { FormFits tree_reply reply }
 {
     put_all(
         out,
         &[
             &u16_bytes(16),
-            &[reply.share_type, 0],
+            &[reply.share_type],
+            &[0],
             &u32_bytes(reply.flags),
             &u32_bytes(reply.capabilities),
             &u32_bytes(reply.maximal_access),
@@ -376,17 +380,18 @@ pub(crate) fn put_tree_reply(out: &mut Vec<u8>, reply: TreeConnectReply) -> Resu
 }
 
 /// Sees that the body of a message without fields is whole.
-#[tactic(auto, unfolding(crate::specs::Sessions::empty_at))]
+#[tactic(auto, unfolding(xl_layout::specs::Forms::form_read, crate::specs::Sessions::empty))]
 pub(crate) fn check_empty(command: Command, body: &[u8]) -> Result<(), SmbBad>
-    ensures { Gives (λ done. done) result (empty_at command body.now) }
+    ensures { (frame : List ℕ) → Gives (λ done. done) result (form_at empty (number_of command) frame body.now) }
 {
     check_fixed(command.number(), 4, 4, body)
 }
 
 /// Writes the body of a message without fields.
-#[tactic(auto, unfolding(crate::specs::Sessions::empty))]
+#[tactic(auto, unfolding(xl_layout::specs::Forms::form_text, crate::specs::Sessions::empty))]
 pub(crate) fn put_empty(out: &mut Vec<u8>) -> Result<(), AllocError>
-    ensures { OnOk result (out.new.items ≡ out.old.items ++ empty) }
+    ensures ok { OnOk result (out.new.items ≡ out.old.items ++ form_text empty tt) }
+    ensures fits { FormFits empty tt }
 {
     put_all(out, &[&u16_bytes(4), &[0; 2]])
 }

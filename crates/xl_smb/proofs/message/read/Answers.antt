@@ -1,5 +1,5 @@
 use Rattle.std.proofs.Common.{arith}
-use Rattle.xl_smb.proofs.FoundLaws.{message_found, message_fault, message_only}
+use Rattle.xl_smb.proofs.MessageLaws.{message_found, message_fault, message_only}
 use Rattle.xl_smb.proofs.message.read.Goals as goal
 
 pub returns-clause-fault : goal.returns-clause-fault

@@ -1,7 +1,7 @@
 use Rattle.std.proofs.Common.{◌/◌, length, arith}
 use Rattle.std.proofs.lemmas.Grind.{common_steps}
 use Rattle.xl_smb.specs.Locks.{element_at}
-use Rattle.xl_smb.proofs.PlaceLaws.{each_length, each_at}
+use Rattle.xl_layout.proofs.PlaceLaws.{each_length, each_at}
 use Rattle.xl_smb.proofs.lock.LockElements.at.Goals as goal
 
 pub returns : goal.returns
