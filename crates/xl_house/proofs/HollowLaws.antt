@@ -23,13 +23,14 @@ use Rattle.xl_smb_state.specs.declared.row.Waiting.{Waiting}
 use Rattle.xl_cache.specs.BreakPlans.{is_running}
 use Rattle.xl_matrix.specs.declared.claim.Claim.{Claim}
 use Rattle.xl_matrix.specs.declared.claim.Extent.{Extent}
+use Rattle.xl_matrix.specs.declared.claim.What.{What}
 use Rattle.xl_wait.specs.declared.waiter.Rooms.{Rooms}
 use Rattle.xl_wait.specs.declared.waiter.Waiter.{Waiter}
 use Rattle.xl_core.proofs.GoodLaws.{begun_good}
 use Rattle.xl_core.proofs.HollowLaws.{nothing_kept, waiter_dropped}
 use Rattle.xl_core.specs.Deeds.{Deed, Asks, queue_after, any_ends_break}
 use Rattle.xl_core.specs.Leases.{Lease, ended}
-use Rattle.xl_core.specs.Places.{IsChangedBy}
+use Rattle.xl_core.specs.Places.{stands, IsChangedBy}
 use Rattle.xl_core.specs.Smallest.{all_room, smallest_lock}
 use Rattle.xl_core.specs.State.{CoreState, started}
 use Rattle.xl_core.specs.declared.ask.Act.TheVariants.{Test}
@@ -50,7 +51,7 @@ use Rattle.xl_house.specs.Machine.{heard}
 use Rattle.xl_house.specs.State.{Whole, as_found, rooms_of}
 use Rattle.xl_house.specs.Telling.{TurnTaken}
 use Rattle.xl_house.specs.Timed.{leases_after}
-use Rattle.xl_house.proofs.LawfulLaws.{begun_waits}
+use Rattle.xl_house.proofs.LawfulLaws.{begun_held, begun_waits}
 use Rattle.xl_house.proofs.MachineLaws.{heard_good}
 use Rattle.xl_house.proofs.DoneLaws.{rounds_are}
 use Rattle.xl_house.proofs.SettleLaws.{turns_are}
@@ -59,7 +60,7 @@ pub nothing_kept_in : (n stores number : ℕ) (bytes : List ℕ) (outs : List Ou
     → t.core.claims ≡ [] → IsLawful n s (record { event = Message number bytes; stores = stores; outs = outs }) t → ⊥
 nothing_kept_in n stores number bytes outs s t stable clock times begun does none lawful =
     nothing_kept n stable clock times t.core none
-    (subst (λ (x : CoreState). IsChangedBy n x (Asks all_room smallest_lock ∷ []) t.core) begun (subst (λ (ds : List Deed). IsChangedBy n (found s) ds t.core) does lawful.0))
+    (subst (λ (x : CoreState). IsChangedBy n x (Asks all_room smallest_lock ∷ []) t.core) begun (subst (λ (ds : List Deed). IsChangedBy n (found s) ds t.core) does (λ p. lawful.0 p ∙ ap (λ (had : List What). stands n (found s) (deeds n s (Message number bytes)) p had) (sym (begun_held s.core p)))))
 
 pub waiter_dropped_in : (n stores number : ℕ) (bytes : List ℕ) (outs : List Out) (s t : Whole) (left : Rooms) (a : Ask) (w : Waiter) (extent : Extent) (exclusive : Bool) → a.act ≡ Test extent exclusive → deeds n s (Message number bytes) ≡ Asks left a ∷ []
     → s.core.waiters ≡ w ∷ [] → t.core.waiters ≡ [] → IsWaiting n s (record { event = Message number bytes; stores = stores; outs = outs }) t → ⊥

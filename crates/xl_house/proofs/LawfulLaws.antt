@@ -23,7 +23,7 @@ use Rattle.xl_core.specs.BreakAnswers.{due}
 use Rattle.xl_core.specs.Deeds.{all_done, queue_after, any_ends_break, KeepNames}
 use Rattle.xl_core.specs.Dues.{AreDue}
 use Rattle.xl_core.specs.Leases.{ended}
-use Rattle.xl_core.specs.Places.{Place, ByteOf, ShareOf, RangesOf, CacheOf, held_at, IsChangedBy}
+use Rattle.xl_core.specs.Places.{Place, ByteOf, ShareOf, RangesOf, CacheOf, held_at, stands}
 use Rattle.xl_core.proofs.DeedCaches.{deeds_keep_break}
 use Rattle.xl_core.proofs.DeedLists.{deeds_make, deeds_queue, deeds_names, deeds_due}
 use Rattle.xl_core.proofs.DueLaws.{none_due}
@@ -33,17 +33,18 @@ use Rattle.xl_house.specs.Done.{rounds, deeds, messages}
 use Rattle.xl_house.specs.Own.{own_of}
 use Rattle.xl_house.specs.Free.{IsFree}
 use Rattle.xl_house.specs.Journals.{IsLegal, is_restart}
-use Rattle.xl_house.specs.Lawful.{Always, IsLawful, IsLawfulBy, IsWaiting, IsWaitingBy, IsGuarding, IsKept, IsKeptBy, IsOnTime, IsOnTimeBy, IsComplete, IsCaused, IsCausedBy, IsTold}
+use Rattle.xl_house.specs.Lawful.{Always, IsLawful, IsLawfulBy, IsLeftBy, IsWaiting, IsWaitingBy, IsGuarding, IsKept, IsKeptBy, IsOnTime, IsOnTimeBy, IsComplete, IsCaused, IsCausedBy, IsTold}
 use Rattle.xl_house.specs.Machine.{Turn, step}
 use Rattle.xl_house.specs.State.{Whole, as_found, start_of}
 use Rattle.xl_house.specs.Timed.{leases_after, clock_after}
 use Rattle.xl_house.proofs.DoneLaws.{left_is, deeds_taken, each_event, each_round, round_caused, all_sent}
-use Rattle.xl_house.proofs.MachineLaws.{step_is, step_free, begin_free}
+use Rattle.xl_house.proofs.EachEntry.{always}
+use Rattle.xl_house.proofs.MachineLaws.{step_is, step_free}
 use Rattle.xl_house.proofs.TimedLaws.{Running, times_in, left_times, own_clock, leases_are}
 
 -- ---- the core after an entry
 
-begun_held : (s : CoreState) (p : Place) → held_at (step_begun s) p ≡ held_at s p
+pub begun_held : (s : CoreState) (p : Place) → held_at (step_begun s) p ≡ held_at s p
 unfolding step_begun
 begun_held s (ByteOf file owner byte) = refl
 begun_held s (ShareOf file owner) = refl
@@ -58,17 +59,18 @@ begun_names : (s : CoreState) → (step_begun s).names ≡ s.names
 unfolding step_begun
 begun_names s = refl
 
-next_core : (n : ℕ) (s : Whole) (event : Event) → is_restart event ≡ false → (step n s event).next.core ≡ step_begun (all_done n (step_begun s.core) (deeds n s event))
+pub next_core : (n : ℕ) (s : Whole) (event : Event) → is_restart event ≡ false → (step n s event).next.core ≡ step_begun (all_done n (step_begun s.core) (deeds n s event))
 next_core n s event other = ap (λ (t : Turn). t.next.core) (step_is n s event other) ∙ ap step_begun (left_is n s event other)
 
 -- ---- one entry
 
-changed : (n : ℕ) (s : Whole) (event : Event) → is_restart event ≡ false → IsFree s → IsChangedBy n (step_begun s.core) (deeds n s event) (step n s event).next.core
+changed : (n : ℕ) (s : Whole) (event : Event) → is_restart event ≡ false → IsFree s → IsLeftBy n s (deeds n s event) (step n s event).next.core
 changed n s event other free = λ p.
     let found = step_begun s.core in
     ap (λ (t : CoreState). held_at t p) (next_core n s event other)
     ∙ begun_held (all_done n found (deeds n s event)) p
     ∙ deeds_make n found (deeds n s event) p (begun_good s.core free.good) (deeds_taken n s event other (begun_good s.core free.good))
+    ∙ ap (λ (had : List What). stands n found (deeds n s event) p had) (begun_held s.core p)
 
 begun_times : (s : CoreState) → times_in (step_begun s) ≡ times_in s
 unfolding step_begun
@@ -91,7 +93,7 @@ clocked n s event other free =
     ap (λ (x : Running). x.1) (next_times n s event other free) ∙ own_clock n (as_found s) event (begun_good s.core free.good) ∙ ap (λ (x : Running). clock_after event x.1) (begun_times s.core)
 
 lawfully : (n : ℕ) (s : Whole) (event : Event) → is_restart event ≡ false → IsFree s → (let t = (step n s event).next in
-    IsChangedBy n (step_begun s.core) (deeds n s event) t.core × (t.core.leases ≡ leases_after n (step_begun s.core) (deeds n s event) s.core.leases) × (t.core.clock ≡ clock_after event s.core.clock))
+    IsLeftBy n s (deeds n s event) t.core × (t.core.leases ≡ leases_after n (step_begun s.core) (deeds n s event) s.core.leases) × (t.core.clock ≡ clock_after event s.core.clock))
 lawfully n s event other free = (changed n s event other free, leased n s event other free, clocked n s event other free)
 
 emptied : (n : ℕ) (s : Whole) (p : Place) → held_at (step n s Restart).next.core p ≡ []
@@ -207,29 +209,6 @@ sends_by n s event = each_event (λ e. (step n s e).outs ≡ messages n s e) (λ
 
 -- ---- each entry
 
-lawful_from : (s : Whole) (es : List Entry) → IsFree s → Always IsLawful s es
-lawful_from s [] free = tt
-lawful_from s (e ∷ es) free = (lawful_by e.stores s e.event free, lawful_from (step e.stores s e.event).next es (step_free e.stores s e.event free))
-
-waiting_from : (s : Whole) (es : List Entry) → IsFree s → Always IsWaiting s es
-waiting_from s [] free = tt
-waiting_from s (e ∷ es) free = (waiting_by e.stores s e.event free, waiting_from (step e.stores s e.event).next es (step_free e.stores s e.event free))
-
-kept_from : (s : Whole) (es : List Entry) → IsFree s → Always IsKept s es
-kept_from s [] free = tt
-kept_from s (e ∷ es) free = (kept_by e.stores s e.event free, kept_from (step e.stores s e.event).next es (step_free e.stores s e.event free))
-
-complete_from : (s : Whole) (es : List Entry) → IsFree s → Always IsComplete s es
-complete_from s [] free = tt
-complete_from s (e ∷ es) free = ((due_by e.stores s e.event free, on_time_by e.stores s e.event free), complete_from (step e.stores s e.event).next es (step_free e.stores s e.event free))
-
-caused_from : (s : Whole) (es : List Entry) → IsFree s → Always IsCaused s es
-caused_from s [] free = tt
-caused_from s (e ∷ es) free = (
-  each_round (λ rs. AllByRecursion (λ r. IsCausedBy e.stores e.event r) rs) e.stores s e.event tt (round_caused e.stores (as_found s) e.event (begun_good s.core free.good), tt),
-  caused_from (step e.stores s e.event).next es (step_free e.stores s e.event free),
-)
-
 told_from : (s : Whole) (es : List Entry) → IsLegal s es → Always IsTold s es
 told_from s [] legal = tt
 told_from s (e ∷ es) legal = (legal.0.1 ∙ sends_by e.stores s e.event, told_from (step e.stores s e.event).next es legal.1)
@@ -237,19 +216,21 @@ told_from s (e ∷ es) legal = (legal.0.1 ∙ sends_by e.stores s e.event, told_
 -- ---- each journal
 
 pub always_lawful : (head : Head) (es : List Entry) → Always IsLawful (start_of head) es
-always_lawful head es = lawful_from (start_of head) es (begin_free head)
+always_lawful head es = always IsLawful (λ n s e free. lawful_by n s e.event free) head es
 
 pub always_waiting : (head : Head) (es : List Entry) → Always IsWaiting (start_of head) es
-always_waiting head es = waiting_from (start_of head) es (begin_free head)
+always_waiting head es = always IsWaiting (λ n s e free. waiting_by n s e.event free) head es
 
 pub always_kept : (head : Head) (es : List Entry) → Always IsKept (start_of head) es
-always_kept head es = kept_from (start_of head) es (begin_free head)
+always_kept head es = always IsKept (λ n s e free. kept_by n s e.event free) head es
 
 pub always_complete : (head : Head) (es : List Entry) → Always IsComplete (start_of head) es
-always_complete head es = complete_from (start_of head) es (begin_free head)
+always_complete head es = always IsComplete (λ n s e free. (due_by n s e.event free, on_time_by n s e.event free)) head es
 
 pub always_caused : (head : Head) (es : List Entry) → Always IsCaused (start_of head) es
-always_caused head es = caused_from (start_of head) es (begin_free head)
+always_caused head es =
+    always IsCaused
+    (λ n s e free. each_round (λ rs. AllByRecursion (λ r. IsCausedBy n e.event r) rs) n s e.event tt (round_caused n (as_found s) e.event (begun_good s.core free.good), tt)) head es
 
 pub always_told : (head : Head) (es : List Entry) → IsLegal (start_of head) es → Always IsTold (start_of head) es
 always_told head es legal = told_from (start_of head) es legal

@@ -46,6 +46,7 @@ use Rattle.xl_house.specs.Machine.{Turn, heard, step}
 use Rattle.xl_house.specs.State.{Whole, as_found, start_of, rooms_of}
 use Rattle.xl_house.specs.Telling.{TurnTaken, all_shown, framed, settled, taken, turns, turns_sent}
 use Rattle.xl_house.specs.declared.layers.Fronts.{Fronts}
+use Rattle.xl_house.proofs.OwedLaws.{gone_by}
 use Rattle.xl_house.proofs.AwaitedLaws.{Ready, heard_stand, settled_stand, shown_stand, stand_of, turn_tells}
 use Rattle.xl_house.proofs.PairedWaiterLaws.{Stand, same_stand}
 use Rattle.xl_house.proofs.LawfulLaws.{begun_waits}
@@ -203,6 +204,7 @@ pub step_serves : (n : ℕ) (s : Whole) (event : Event) → IsFree s → Ready s
 step_serves n s event free ready awaiting = (
   step_awaits n s event free ready awaiting,
   each_event (λ e. AreServed (step n s e).next (rounds n s e)) (λ e other. step_grants n s e other free ready awaiting) (no_rounds n s (step n s Restart).next) event,
+  gone_by n s event ready.0,
 )
 
 -- at a start nobody waits

@@ -26,6 +26,7 @@ use Rattle.xl_front_smb.specs.Checks.{is_open_on}
 use Rattle.xl_front_smb.specs.Laws.{IsLeased}
 use Rattle.xl_house.specs.Done.{Round, rounds}
 use Rattle.xl_house.specs.Lawful.{Law}
+use Rattle.xl_house.specs.Owed.{IsGoneBy}
 use Rattle.xl_house.specs.State.{Whole}
 use Rattle.xl_house.specs.Telling.{TurnTaken, turn_sent, framed}
 
@@ -67,12 +68,13 @@ HaveOpens exports last turn = (party : Party) (id number : ℕ) (claim : Claim) 
 abbrev pub AreServed : Whole → List Round → Type 0
 AreServed t rs = AllByRecursion (λ r. AllByRecursion (λ turn. HaveOpens r.found.exports t.front.smb.state turn) r.turns) rs
 
--- who waits afterwards, and what was granted, by the event
+-- who waits afterwards, what was granted, and what a connection's end leaves, by the event
 abbrev pub IsServedBy : ℕ → Whole → Event → Whole → Type 0
-IsServedBy n s event t = IsAwaiting t × AreServed t (rounds n s event)
+IsServedBy n s event t = IsAwaiting t × AreServed t (rounds n s event) × IsGoneBy n s event
 
 -- After the entry each request of SMB that waits is a waiter of the core, and each waiter of an SMB open has its
 -- request. What a turn of the entry grants to an SMB open was waited for by a request of that open, which is there
--- after the entry, and the request is answered that it succeeded.
+-- after the entry, and the request is answered that it succeeded. The end of a connection of SMB leaves nothing of the
+-- opens that were under it.
 abbrev pub IsServed : Law
 IsServed n s e t = IsServedBy n s e.event t

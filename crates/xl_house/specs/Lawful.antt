@@ -16,7 +16,7 @@ use Rattle.xl_core.specs.BreakAnswers.{due}
 use Rattle.xl_core.specs.Deeds.{Deed, Asks, GivesBack, Weakens, Acks, Cancels, Ends, Closes, Serves, Draws, Advances, Lapses, Renews, Expires, all_done, queue_after, any_ends_break, KeepNames}
 use Rattle.xl_core.specs.Dues.{AreDue, AreInTurn}
 use Rattle.xl_core.specs.Leases.{ended}
-use Rattle.xl_core.specs.Places.{Place, held_at, IsChangedBy}
+use Rattle.xl_core.specs.Places.{Place, held_at, stands}
 use Rattle.xl_core.specs.declared.ask.Act.{Act}
 use Rattle.xl_core.specs.declared.ask.Act.TheVariants.{Unlock}
 use Rattle.xl_house.specs.Done.{Round, behind_own, rounds, deeds, messages}
@@ -41,11 +41,15 @@ found s = step_begun s.core
 
 -- ---- lawful
 
+-- at each place there is what the deeds, of the core as they find it, made of what was there before the entry
+abbrev pub IsLeftBy : ℕ → Whole → List Deed → CoreState → Type 0
+IsLeftBy n s ds t = (p : Place) → held_at t p ≡ stands n (found s) ds p (held_at s.core p)
+
 -- what is held afterwards, which leases run, and what the clock shows, by the event
 abbrev pub IsLawfulBy : ℕ → Whole → Event → Whole → Type 0
 IsLawfulBy n s Restart t = ((p : Place) → held_at t.core p ≡ []) × (t.core.leases ≡ []) × (t.core.clock ≡ s.core.clock)
 IsLawfulBy n s event t =
-    IsChangedBy n (found s) (deeds n s event) t.core × (t.core.leases ≡ leases_after n (found s) (deeds n s event) s.core.leases) × (t.core.clock ≡ clock_after event s.core.clock)
+    IsLeftBy n s (deeds n s event) t.core × (t.core.leases ≡ leases_after n (found s) (deeds n s event) s.core.leases) × (t.core.clock ≡ clock_after event s.core.clock)
 
 -- At each place there is what the last of the entry's deeds that reaches it made of it, and if none does, what was
 -- there. The leases are those that ran, except for what the deeds made of them: each client that one renews has its own

@@ -7,6 +7,16 @@ pub mod Shown
 pub mod Done
 pub mod Timed
 pub mod Lawful
+pub mod Owed
+pub mod Asking
+pub mod Replying
+pub mod Entries
+pub mod Fitting
+pub mod Steady
+pub mod Wished
+pub mod Breaking
+pub mod Keeping
+pub mod Parties
 pub mod Awaited
 pub mod Journals
 pub mod Free

@@ -8,6 +8,12 @@ ghost use Rattle.xl_core.specs.Numbers.{numbers_of};
 ghost use Rattle.xl_front_nlm.specs.Short.{AreShort};
 ghost use Rattle.xl_smb_state.specs.Links.{AreDistinct, IsSound};
 ghost use Rattle.xl_house.specs.Awaited.{IsServed, IsServedBy};
+ghost use Rattle.xl_house.specs.Fitting.{IsFitting};
+ghost use Rattle.xl_house.specs.Steady.{IsSteady};
+ghost use Rattle.xl_house.specs.Entries.{IsWishing, IsBreaking, IsKeeping, IsPartied};
+ghost use Rattle.xl_house.specs.Owed.{IsOwed};
+ghost use Rattle.xl_house.specs.Replying.{IsReplied};
+ghost use Rattle.xl_house.specs.Asking.{IsAsking};
 ghost use Rattle.xl_house.specs.Free.{IsFree, AlwaysFree};
 ghost use Rattle.xl_house.specs.Housed.{Housed, is_spoiled, Holds, Stands};
 ghost use Rattle.xl_house.specs.Journals.{replay, IsLegal, IsOrderly, entry, is_restart, most_entries};
@@ -257,11 +263,20 @@ impl<K: Keeper> House<K> {
     /// - free: before the first entry and after each, any two held claims may be held together, and nobody who waits could be
     ///   served;
     /// - lawful: each entry leaves at each place, and of each lease, what its deeds made of it;
+    /// - steady: what is exported, the times and the stored record stay, and numbers are given out one by one;
+    /// - parties: each claim is held for a party that had something of its owner's there, asked for it, or waited for it;
     /// - waiting: those who waited go on to wait, except those whom the entry served, cancelled or ended;
     /// - kept_until_answered: while the break of a cache runs, the cache is held at its full kind, until its party
     ///   answers, gives it back, ends or expires, or the deadline passes;
+    /// - broken: a break begins only of a cache in the way of what was asked, and its answer is awaited;
+    /// - caches_kept: each cache stays, at its kind or a greater one, unless a deed ends it or the entry tells that it is gone;
     /// - complete: what nothing held stands against was granted, and what was due by a reading of the clock was done;
+    /// - fit: each deed is one that may be done where it is done;
+    /// - wished: a wish got one of its choices, the least kind with one of them and what its party had, or nothing;
+    /// - asking: an ask of a request of NLM is on the file that it names, a reclaim if it says so, and within the room for hosts;
+    /// - owed: a grant that its client refuses is given up;
     /// - caused: the deeds are those that the event may cause;
+    /// - replied: each call of ONC RPC has one reply, on its own connection and with its own xid;
     /// - told: what is sent follows from the deeds and their answers;
     /// - served: each request of SMB that waits has its waiter and each waiter its request, and a granted one has its open;
     /// - orderly: nothing is sent to a connection before its opening or after its end;
@@ -274,10 +289,19 @@ impl<K: Keeper> House<K> {
         ensures legal { IsLegal (start_of result.0.head) result.0.entries }
         ensures free { AlwaysFree (start_of result.0.head) result.0.entries }
         ensures lawful { Always IsLawful (start_of result.0.head) result.0.entries }
+        ensures steady { Always IsSteady (start_of result.0.head) result.0.entries }
+        ensures parties { Always IsPartied (start_of result.0.head) result.0.entries }
         ensures waiting { Always IsWaiting (start_of result.0.head) result.0.entries }
         ensures kept_until_answered { Always IsKept (start_of result.0.head) result.0.entries }
+        ensures broken { Always IsBreaking (start_of result.0.head) result.0.entries }
+        ensures caches_kept { Always IsKeeping (start_of result.0.head) result.0.entries }
         ensures complete { Always IsComplete (start_of result.0.head) result.0.entries }
+        ensures fit { Always IsFitting (start_of result.0.head) result.0.entries }
+        ensures wished { Always IsWishing (start_of result.0.head) result.0.entries }
+        ensures asking { Always IsAsking (start_of result.0.head) result.0.entries }
+        ensures owed { Always IsOwed (start_of result.0.head) result.0.entries }
         ensures caused { Always IsCaused (start_of result.0.head) result.0.entries }
+        ensures replied { Always IsReplied (start_of result.0.head) result.0.entries }
         ensures told { Always IsTold (start_of result.0.head) result.0.entries }
         ensures served { Always IsServed (start_of result.0.head) result.0.entries }
         ensures orderly { IsOrderly [] 0 result.0.entries }

@@ -1,21 +1,24 @@
 //! Laws of the house. The functions do nothing.
-ghost use Rattle.std.specs.Prelude.{◌≡◌, ℕ, nat_lt, Bool, true, List, [], ◌∷◌, Some, None};
+ghost use Rattle.std.specs.Prelude.{◌≡◌, ℕ, nat_lt, Bool, true, false, List, [], ◌∷◌, Option, Some, None, ◌==◌, find};
 ghost use Rattle.xl_base.specs.Lists.{IsIn};
 ghost use Rattle.xl_base.specs.Stable.{Stable};
-ghost use Rattle.xl_base.specs.declared.event.Event.TheVariants.{Message, Tick};
+ghost use Rattle.xl_base.specs.declared.event.Event.TheVariants.{Message, Tick, Called};
 ghost use Rattle.xl_base.specs.declared.event.Moment.{Moment};
 ghost use Rattle.xl_base.specs.declared.event.Out.{Out};
 ghost use Rattle.xl_base.specs.declared.journal.Entry.{Entry};
 ghost use Rattle.xl_base.specs.declared.name.Owner.{Owner};
 ghost use Rattle.xl_base.specs.declared.name.Party.{Party};
-ghost use Rattle.xl_cache.specs.BreakPlans.{is_running};
+ghost use Rattle.xl_cache.specs.BreakPlans.{is_running, is_obstacle};
+ghost use Rattle.xl_matrix.specs.declared.claim.CacheKind.{CacheKind};
 ghost use Rattle.xl_matrix.specs.declared.claim.Claim.{Claim};
 ghost use Rattle.xl_matrix.specs.declared.claim.Extent.{Extent};
+ghost use Rattle.xl_matrix.specs.declared.claim.Rwd.{Rwd};
 ghost use Rattle.xl_wait.specs.declared.waiter.Rooms.{Rooms};
 ghost use Rattle.xl_wait.specs.declared.waiter.Waiter.{Waiter};
-ghost use Rattle.xl_core.specs.Deeds.{Asks};
+ghost use Rattle.xl_core.specs.BreakAnswers.{may_be_left};
+ghost use Rattle.xl_core.specs.Deeds.{Asks, Weakens, Acks, Draws};
 ghost use Rattle.xl_core.specs.Leases.{Lease, ended};
-ghost use Rattle.xl_core.specs.Settle.{settle, waits_as};
+ghost use Rattle.xl_core.specs.Settle.{settle, share_has, waits_as};
 ghost use Rattle.xl_core.specs.Smallest.{all_room, smallest_lock};
 ghost use Rattle.xl_core.specs.State.{CoreState, started};
 ghost use Rattle.xl_core.specs.declared.ask.Act.{Act};
@@ -23,9 +26,36 @@ ghost use Rattle.xl_core.specs.declared.ask.Answer.{Answer};
 ghost use Rattle.xl_core.specs.declared.ask.Ask.{Ask};
 ghost use Rattle.xl_core.specs.declared.ask.Effect.{Effect};
 ghost use Rattle.xl_core.specs.declared.lease.Times.{Times};
-ghost use Rattle.xl_smb_state.specs.State.{open_of};
+ghost use Rattle.xl_smb_state.specs.State.{open_of, Lists};
+ghost use Rattle.xl_house.specs.Steady.{IsSteady};
+ghost use Rattle.xl_matrix.specs.declared.claim.What.{What};
+ghost use Rattle.xl_wait.specs.Waiting.{waits_on};
+ghost use Rattle.xl_core.specs.Places.{CacheOf, held_at};
+ghost use Rattle.xl_house.specs.Wished.{IsWished};
+ghost use Rattle.xl_table.specs.Flat.{blocks};
+ghost use Rattle.xl_core.specs.Askers.{asked_whats, asked_claims};
+ghost use Rattle.xl_core.specs.Blockers.{is_stopped};
+ghost use Rattle.xl_core.specs.Decide.{way, ask};
+ghost use Rattle.xl_house.specs.Breaking.{IsBroken, IsFirstOf, HasBegun};
+ghost use Rattle.xl_house.specs.Entries.{IsKeeping};
+ghost use Rattle.xl_names.specs.declared.name.Name.{Name};
+ghost use Rattle.xl_table.specs.Held.{is_cache};
+ghost use Rattle.xl_smb_state.specs.declared.row.Scope.{Scope};
+ghost use Rattle.xl_front_nlm.specs.Answers.{refuses};
+ghost use Rattle.xl_front_nlm.specs.Grants.{grant_of};
+ghost use Rattle.xl_front_nlm.specs.declared.call.GrantedCall.{GrantedCall};
+ghost use Rattle.xl_front_nlm.specs.declared.grant.Grant.{Grant};
+ghost use Rattle.xl_smb_laws.specs.OpenRights.{is_held_under};
+ghost use Rattle.xl_house.specs.Owed.{own_deeds, IsOwed, AreGone};
+ghost use Rattle.xl_base.specs.declared.event.Dest.TheVariants.{Conn};
+ghost use Rattle.xl_programs.specs.Sent.{sent_to};
+ghost use Rattle.xl_house.specs.Replying.{IsOneReply};
+ghost use Rattle.xl_house.specs.Parties.{IsHeldFor};
+ghost use Rattle.xl_nlm.specs.Items.{CallItem};
+ghost use Rattle.xl_house.specs.Asking.{reclaims, IsAskFor};
 ghost use Rattle.xl_house.specs.Awaited.{IsServed};
 ghost use Rattle.xl_house.specs.Done.{deeds};
+ghost use Rattle.xl_house.specs.Fitting.{IsFitting};
 ghost use Rattle.xl_house.specs.Free.{IsFree};
 ghost use Rattle.xl_house.specs.Lawful.{found, IsLawful, IsWaiting, IsKept, IsComplete};
 ghost use Rattle.xl_house.specs.Machine.{heard};
@@ -37,8 +67,20 @@ ghost use Rattle.xl_house.specs.State.{Whole, as_found, rooms_of};
 /// answered. If a client has a lease, a machine that drops all leases at another's ask has no lawful entry for that; at
 /// a reading of the clock that is later one that leaves the clock as it was has none, and one that leaves a lease that
 /// has ended has none that is complete. A machine that forgets all requests of SMB while an SMB open's waiter is there
-/// has no entry that is served, nor has one whose first turn grants a claim to an SMB open that isn't there afterwards.
-#[tactic(auto, using(crate::proofs::HollowLaws::waiter_dropped_in, crate::proofs::HollowLaws::cache_let_go_in, crate::proofs::HollowLaws::leases_dropped_in, crate::proofs::HollowLaws::clock_stands_in, crate::proofs::HollowLaws::lease_runs_on_in))]
+/// has no entry that is served, nor has one whose first turn grants a claim to an SMB open that isn't there afterwards. One that
+/// makes a share weaker so that it has more than before, or leaves more of a cache than its break does, has none of deeds that
+/// are fit.
+/// One that draws a number and gives out none has none that is steady.
+/// One that gives a greater cache than was chosen, or one though someone waits on the file, grants no wish rightly.
+/// One that lets a cache go at once that is to be given up first, breaks one to more than it is, breaks the only cache though it is
+/// in nobody's way, or turns an ask away for a cache of which no break runs, begins no break rightly; and one that drops a cache at
+/// another's ask and tells nobody has no entry that keeps the caches.
+/// One that does nothing for a grant that its client refuses has no entry that is owed; and one that leaves a share or a range of an
+/// open that went with its connection ends no connection rightly.
+/// One that replies on another connection replies to no call of ONC RPC rightly.
+/// One that comes to hold a claim as it draws a number holds it for nobody.
+/// One that makes a reclaim of an ask of NLM which says that it is none doesn't ask rightly.
+#[tactic(auto, using(crate::proofs::HollowLaws::waiter_dropped_in, crate::proofs::HollowLaws::cache_let_go_in, crate::proofs::HollowLaws::leases_dropped_in, crate::proofs::HollowLaws::clock_stands_in, crate::proofs::HollowLaws::lease_runs_on_in, crate::proofs::FittingLaws::share_widened_in, crate::proofs::FittingLaws::more_left_in, crate::proofs::SteadyLaws::numbers_stand_in, crate::proofs::WishedLaws::unchosen_is, crate::proofs::WishedLaws::beside_waiter_is, crate::proofs::BreakingLaws::gone_at_once_is, crate::proofs::BreakingLaws::raised_is, crate::proofs::BreakingLaws::uncaused_is, crate::proofs::BreakingLaws::unbroken_is, crate::proofs::EntryLaws::cache_dropped_in, crate::proofs::OwedLaws::refusal_dropped_in, crate::proofs::OwedLaws::left_behind_is, crate::proofs::ReplyingLaws::reply_astray_is, crate::proofs::PartiesLaws::for_nobody_is, crate::proofs::AskingLaws::always_reclaims_is))]
 pub fn hollow_machines_are_refused()
     ensures kept { (n stores number : ℕ) (bytes : List ℕ) (outs : List Out) (s t : Whole) (stable : Stable) (clock : Moment) (times : Times) → found s ≡ started stable clock times → deeds n s (Message number bytes) ≡ Asks all_room smallest_lock ∷ []
         → t.core.claims ≡ [] → IsLawful n s (record { event = Message number bytes; stores = stores; outs = outs }) t → ⊥ }
@@ -53,4 +95,24 @@ pub fn hollow_machines_are_refused()
     ensures forgotten { (n : ℕ) (s t : Whole) (e : Entry) (w : Waiter) (number : ℕ) → IsIn w t.core.waiters → waits_as number w ≡ true → t.front.smb.state.waiting ≡ [] → IsServed n s e t → ⊥ }
     ensures unmade { (n stores conn : ℕ) (bytes : List ℕ) (outs : List Out) (s t : Whole) (u : CoreState) (told : List Effect) (party : Party) (id number : ℕ) (claim : Claim) → IsFree s → settle n (rooms_of (heard n (as_found s) (Message conn bytes)).1) (heard n (as_found s) (Message conn bytes)).2 ≡ Some (told, u)
         → IsIn (Effect.Served party id (Answer.Granted claim)) told → claim.owner ≡ Owner.Open number → open_of number t.front.smb.state ≡ None → IsServed n s (record { event = Message conn bytes; stores = stores; outs = outs }) t → ⊥ }
+    ensures widened { (n stores number : ℕ) (bytes : List ℕ) (outs : List Out) (s t : Whole) (share : Claim) (access deny : Rwd) → deeds n s (Message number bytes) ≡ Weakens share access deny ∷ []
+        → share_has share.what access deny ≡ false → IsFitting n s (record { event = Message number bytes; stores = stores; outs = outs }) t → ⊥ }
+    ensures more_left { (n stores number : ℕ) (bytes : List ℕ) (outs : List Out) (s t : Whole) (cache : Claim) (to : Option CacheKind) → deeds n s (Message number bytes) ≡ Acks cache to ∷ []
+        → may_be_left cache.what to ≡ false → IsFitting n s (record { event = Message number bytes; stores = stores; outs = outs }) t → ⊥ }
+    ensures numbers { (n stores number : ℕ) (bytes : List ℕ) (outs : List Out) (s t : Whole) → deeds n s (Message number bytes) ≡ Draws ∷ [] → t.core.counter ≡ s.core.counter → IsSteady n s (record { event = Message number bytes; stores = stores; outs = outs }) t → ⊥ }
+    ensures unchosen { (s t : CoreState) (c : Claim) → held_at s (CacheOf c.file c.party) ≡ [] → held_at t (CacheOf c.file c.party) ≡ What.Cache CacheKind.RWH None ∷ [] → IsWished (CacheKind.R ∷ []) c s t → ⊥ }
+    ensures beside { (s t : CoreState) (c : Claim) → waits_on c.file s.waiters ≡ true → held_at s (CacheOf c.file c.party) ≡ [] → held_at t (CacheOf c.file c.party) ≡ What.Cache CacheKind.R None ∷ [] → IsWished (CacheKind.R ∷ []) c s t → ⊥ }
+    ensures gone_at_once { (s t : CoreState) (asked cache : Claim) (to : Option CacheKind) → cache.what ≡ What.Cache CacheKind.RWH None → held_at t (CacheOf cache.file cache.party) ≡ [] → IsBroken s t asked cache to → ⊥ }
+    ensures raised { (s t : CoreState) (asked cache : Claim) → cache.what ≡ What.Cache CacheKind.R None → IsBroken s t asked cache (Some CacheKind.RWH) → ⊥ }
+    ensures uncaused { (s t : CoreState) (asked cache : Claim) (to : Option CacheKind) → s.claims ≡ cache ∷ [] → blocks asked cache ≡ false → IsBroken s t asked cache to → ⊥ }
+    ensures unbroken { (left : Rooms) (s : CoreState) (a : Ask) (c cache : Claim) → IsFirstOf (asked_claims a (asked_whats a.act) s.names) c → a.reclaim ≡ false → a.awaits ≡ false → is_stopped s.waiters s c ≡ false
+        → IsIn cache (way left s a).1.claims → is_obstacle c (way left s a).1.claims cache ≡ true → is_running cache.what ≡ false → HasBegun left s a → ⊥ }
+    ensures cache_dropped { (n stores number : ℕ) (bytes : List ℕ) (outs : List Out) (s t : Whole) (left : Rooms) (a : Ask) (file : ℕ) (party : Party) → deeds n s (Message number bytes) ≡ Asks left a ∷ [] → (ask n left (found s) a).1 ≡ []
+        → held_at s.core (CacheOf file party) ≡ What.Cache CacheKind.RWH None ∷ [] → t.core.claims ≡ [] → IsKeeping n s (record { event = Message number bytes; stores = stores; outs = outs }) t → ⊥ }
+    ensures refusal_dropped { (n stores number : ℕ) (reply : Option (List ℕ)) (outs : List Out) (s t : Whole) (call : GrantedCall) (g : Grant) → find (λ c. c.number == number) s.front.nlm.calls ≡ Some call → refuses reply ≡ true → grant_of (found s).names call.claim ≡ Some g
+        → own_deeds n s (Called number reply) ≡ [] → IsOwed n s (record { event = Called number reply; stores = stores; outs = outs }) t → ⊥ }
+    ensures left_behind { (names : List Name) (conn number : ℕ) (l : Lists) (left : CoreState) (c : Claim) → is_held_under (Scope.Connection conn) (open_of number l) ≡ true → IsIn c left.claims → c.owner ≡ Owner.Open number → is_cache c.what ≡ false → AreGone names conn l left → ⊥ }
+    ensures reply_astray { (conn other xid : ℕ) (bytes : List ℕ) → (Conn other ≡ Conn conn → ⊥) → IsOneReply conn xid (sent_to other bytes) → ⊥ }
+    ensures for_nobody { (n : ℕ) (s : CoreState) (c : Claim) → s.claims ≡ [] → IsHeldFor n s Draws c → ⊥ }
+    ensures always_reclaims { (count hosts : ℕ) (call : CallItem) (left : Rooms) (a : Ask) → reclaims call ≡ false → a.reclaim ≡ true → IsAskFor count hosts call (Asks left a) → ⊥ }
 {}

@@ -5,6 +5,12 @@ ghost use Rattle.xl_base.specs.Outside.{Rose, Took, Ended, Added, Began};
 ghost use Rattle.xl_capture.specs.Capture.{captured, most_bytes};
 ghost use Rattle.xl_house.specs.Lawful.{Always, IsLawful, IsWaiting, IsKept, IsComplete, IsCaused, IsTold};
 ghost use Rattle.xl_house.specs.Awaited.{IsServed};
+ghost use Rattle.xl_house.specs.Fitting.{IsFitting};
+ghost use Rattle.xl_house.specs.Steady.{IsSteady};
+ghost use Rattle.xl_house.specs.Entries.{IsWishing, IsBreaking, IsKeeping, IsPartied};
+ghost use Rattle.xl_house.specs.Owed.{IsOwed};
+ghost use Rattle.xl_house.specs.Replying.{IsReplied};
+ghost use Rattle.xl_house.specs.Asking.{IsAsking};
 ghost use Rattle.xl_house.specs.Free.{AlwaysFree};
 ghost use Rattle.xl_house.specs.Housed.{Housed, is_spoiled};
 ghost use Rattle.xl_house.specs.Journals.{replay, IsLegal, IsOrderly, entries_of, most_entries};
@@ -471,7 +477,7 @@ fn make<O: Sink>(alloc: Global, seed: u32, count: u32, out: &mut O) -> Done
 ///
 /// The journal that comes back has each event that was stepped, with what was sent for it. The clauses from `legal` to
 /// `served` hold for it whatever the input is, and at every status.
-#[tactic(auto, using(xl_house::proofs::MachineLaws::begun_free, xl_house::proofs::LawfulLaws::always_lawful, xl_house::proofs::LawfulLaws::always_waiting, xl_house::proofs::LawfulLaws::always_kept, xl_house::proofs::LawfulLaws::always_complete, xl_house::proofs::LawfulLaws::always_caused, xl_house::proofs::LawfulLaws::always_told))]
+#[tactic(auto, using(xl_house::proofs::MachineLaws::begun_free, xl_house::proofs::LawfulLaws::always_lawful, xl_house::proofs::LawfulLaws::always_waiting, xl_house::proofs::LawfulLaws::always_kept, xl_house::proofs::LawfulLaws::always_complete, xl_house::proofs::FittingLaws::always_fitting, xl_house::proofs::LawfulLaws::always_caused, xl_house::proofs::LawfulLaws::always_told, xl_house::proofs::SteadyLaws::always_steady, xl_house::proofs::EntryLaws::always_wishing, xl_house::proofs::EntryLaws::always_breaking, xl_house::proofs::EntryLaws::always_keeping, xl_house::proofs::OwedLaws::always_owed, xl_house::proofs::ReplyingLaws::always_replied, xl_house::proofs::EntryLaws::always_partied, xl_house::proofs::AskingLaws::always_asking))]
 pub fn run<I: Source, O: Sink>(alloc: Global, words: &[String], input: &mut I, out: &mut O) -> Done
     ensures known { is_status result.status ≡ true }
 
@@ -529,22 +535,47 @@ pub fn run<I: Source, O: Sink>(alloc: Global, words: &[String], input: &mut I, o
 
     // lawful: an event changes an owner's bytes and shares only by what the owner did in it, was granted after a wait, or lost
     // with its lease or its connection; it changes a lease only by a renewal or the client's expiry.
+    // steady: an event finds the core as the one before left it, leaves what is exported, the times and the stored record, and
+    // gives out numbers one by one.
+    // parties: a claim is held for a party that had something of its owner's on the file, asked for it, or waited for it.
     // waiting: those who waited go on to wait in their order, except those whom the event served, cancelled or ended.
     // kept_until_answered: while the break of a cache runs, the cache is held at its full kind, and nothing is granted
     // that it guards against, until its party answers, gives it back, ends or expires, or the deadline passes.
+    // broken: a break begins only of an idle cache in the way of what is asked, to what the plan leaves; and no share or single
+    // range is turned away by a cache of which no break runs.
+    // caches_kept: each cache stays, at its kind or a greater one, unless it is given back, its break is answered or over, its party
+    // ends or expires, or it was for reading alone and the event tells that it is gone.
     // complete: a lock or a share is granted if nothing held stands against it and no limit is passed; if something does, it is
     // refused or waits. A reading of the clock ends each break and lets each client expire that is due by then.
+    // fit: what is given back is held, a share that is made weaker has no more than before, no more is left of a cache than its
+    // break leaves, and breaks and leases end only once their time has come.
+    // wished: a wish gets one of its choices, or the least kind in which one of them and what its party had lie, and nothing if
+    // someone waits on the file.
+    // asking: an ask of a request of NLM is on the exported file that it names, a reclaim exactly if it says so, and with the room that
+    // is left for hosts.
+    // owed: if a client refuses a lock whose grant it was sent, just that is unlocked.
     // caused: an event does only what such an event may do, and only for the clients that it names.
+    // replied: each call of ONC RPC that a record is has one reply, on its own connection and with its own xid.
     // told: what is sent follows from what the event did and what it was answered.
     ensures lawful { Always IsLawful (start_of result.journal.head) result.journal.entries }
+    ensures steady { Always IsSteady (start_of result.journal.head) result.journal.entries }
+    ensures parties { Always IsPartied (start_of result.journal.head) result.journal.entries }
     ensures waiting { Always IsWaiting (start_of result.journal.head) result.journal.entries }
     ensures kept_until_answered { Always IsKept (start_of result.journal.head) result.journal.entries }
+    ensures broken { Always IsBreaking (start_of result.journal.head) result.journal.entries }
+    ensures caches_kept { Always IsKeeping (start_of result.journal.head) result.journal.entries }
     ensures complete { Always IsComplete (start_of result.journal.head) result.journal.entries }
+    ensures fit { Always IsFitting (start_of result.journal.head) result.journal.entries }
+    ensures wished { Always IsWishing (start_of result.journal.head) result.journal.entries }
+    ensures asking { Always IsAsking (start_of result.journal.head) result.journal.entries }
+    ensures owed { Always IsOwed (start_of result.journal.head) result.journal.entries }
     ensures caused { Always IsCaused (start_of result.journal.head) result.journal.entries }
+    ensures replied { Always IsReplied (start_of result.journal.head) result.journal.entries }
     ensures told { Always IsTold (start_of result.journal.head) result.journal.entries }
 
     // Each request of SMB that waits has a waiter in the core, and each waiter of an SMB open has its request. If a CREATE or a
-    // LOCK that waited is granted, its open is there, and its final reply says that it succeeded.
+    // LOCK that waited is granted, its open is there, and its final reply says that it succeeded. The end of a connection of SMB leaves
+    // nothing of the opens that were under it.
     ensures served { Always IsServed (start_of result.journal.head) result.journal.entries }
 {
     match parse(alloc, words) {
