@@ -225,7 +225,7 @@ at_once ask held c none i t =
     ]
 
 -- a cache that keeps the handle never ends at once
-handle_is_slow : (what : What) (left : Option CacheKind) → keeps_handle_by what ≡ true → needs_answer_by what left ≡ true
+pub handle_is_slow : (what : What) (left : Option CacheKind) → keeps_handle_by what ≡ true → needs_answer_by what left ≡ true
 handle_is_slow (Share access deny) left h = h
 handle_is_slow (Range extent exclusive) left h = h
 handle_is_slow (Cache R running) left h = absurd (both_ways false refl h)

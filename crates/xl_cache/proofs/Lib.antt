@@ -1,5 +1,6 @@
 pub mod TargetLaws
 pub mod LevelLaws
+pub mod HolderLaws
 pub mod BreakPlanLaws
 pub mod BreakLaws
 pub mod WishLaws

@@ -82,11 +82,22 @@ break_of ask shares c = if is_in_the_way ask shares c then break_by c (need_of a
 abbrev pub is_awaited : Claim → List Claim → Claim → Bool
 is_awaited ask shares c = is_in_the_way ask shares c && is_running c.what
 
-abbrev pub plan_with : Claim → List Claim → List Claim → BreakPlan
-plan_with ask shares held = record { breaks = filter_map (break_of ask shares) held; awaited = find (is_awaited ask shares) held }
+-- a cache of this kind is held once the breaks have begun: its break runs already, or begins and needs an answer
+abbrev pub is_left_by : Need → What → Bool
+is_left_by need (Cache kind None) = needs_answer kind (target_of kind need)
+is_left_by need (Cache kind (Some running)) = true
+is_left_by need _ = false
 
--- the breaks that the ask begins, in the order of what is held, and the first cache there whose break it waits for; it is
--- computed whatever is held (CACHE-7)
+-- so is this one, which is in the way
+abbrev pub is_left : Claim → List Claim → Claim → Bool
+is_left ask shares c = is_in_the_way ask shares c && is_left_by (need_of ask shares c) c.what
+
+abbrev pub plan_with : Claim → List Claim → List Claim → BreakPlan
+plan_with ask shares held =
+    record { breaks = filter_map (break_of ask shares) held; awaited = find (is_awaited ask shares) held; left = find (is_left ask shares) held }
+
+-- the breaks that the ask begins, in the order of what is held, the first cache there whose break it waits for, and the
+-- first that is left once they have begun; it is computed whatever is held (CACHE-7)
 unfoldable pub planned : Claim → List Claim → BreakPlan
 planned ask held = plan_with ask (blocking_shares ask held) held
 

@@ -16,6 +16,9 @@ pub struct BreakPlan {
     pub breaks: Sequence<(Claim, Option<CacheKind>)>,
     /// The first held cache whose break runs already and whose answer the ask has to wait for, if there is one.
     pub awaited: Option<Claim>,
+    /// The first cache in the way that is held once the breaks have begun: one whose break runs already, or begins and
+    /// needs an answer; None if there is none.
+    pub left: Option<Claim>,
 }
 
 fn needs_answer(what: What, left: Option<CacheKind>) -> bool
@@ -33,7 +36,7 @@ fn has_to_be_answered(begun: &(Claim, Option<CacheKind>)) -> bool
     needs_answer(begun.0.what, begun.1)
 }
 
-fn first_slow(breaks: &[(Claim, Option<CacheKind>)]) -> Option<(Claim, Option<CacheKind>)>
+fn slow_among(breaks: &[(Claim, Option<CacheKind>)]) -> Option<(Claim, Option<CacheKind>)>
     ensures { result ≡ find is_slow breaks.now }
 {
     'breaks: for begun in breaks {
@@ -44,13 +47,20 @@ fn first_slow(breaks: &[(Claim, Option<CacheKind>)]) -> Option<(Claim, Option<Ca
     None
 }
 
+/// The first break of the plan that takes effect only once it is answered. It takes no memory.
+pub fn first_slow(plan: &BreakPlan) -> Option<(Claim, Option<CacheKind>)>
+    ensures { result ≡ find is_slow plan.now.breaks }
+{
+    slow_among(plan.breaks.as_slice())
+}
+
 #[tactic(auto, unfolding(crate::specs::BreakPlans::recalled_by))]
 fn find_recalled(plan: &BreakPlan) -> Option<Claim>
     ensures { result ≡ recalled_by plan.now }
 {
     match plan.awaited {
         Some(claim) => Some(claim),
-        None => match first_slow(plan.breaks.as_slice()) {
+        None => match slow_among(plan.breaks.as_slice()) {
             Some((claim, _)) => Some(claim),
             None => None,
         },

@@ -2,10 +2,12 @@
 ghost use Rattle.std.specs.Prelude.{◌≡◌, ◌&&◌, Bool, true, false, None, IfOk, IfSome, IsSome, filter, find};
 ghost use Rattle.std.specs.List.{AllByRecursion, filter_map, list_any};
 ghost use Rattle.xl_matrix.specs.Blocks.{is_share, is_range, is_cache, blocks};
-ghost use Rattle.xl_cache.specs.BreakPlans.{keeps_handle_by, is_running, is_oplock, keeps_open, is_covered, is_final, blocking_shares, covers, is_in_the_way, need_of, break_by, break_of, is_awaited, plan_with, planned, NamesAll, NamesOnly, MakesWay, IsFreeUnlessRecalled};
+ghost use Rattle.xl_cache.specs.BreakPlans.{keeps_handle_by, is_running, is_oplock, keeps_open, is_covered, is_final, blocking_shares, break_by, is_left_by, planned, NamesAll, NamesOnly, MakesWay, IsFreeUnlessRecalled};
+ghost use Rattle.xl_cache.specs.Holders.{is_keeper, is_final_beside, covers_beside, stands_so, need_so, break_so, is_awaited_beside, is_left_beside};
 
 use crate::break_plan::BreakPlan;
-use crate::need::{Need, target};
+use crate::holders::{Holders, holders_of, is_among};
+use crate::need::{Need, answer_needed, target};
 use std::alloc::{AllocError, Global};
 use xl_base::{Party, Sequence};
 use xl_matrix::{
@@ -22,7 +24,8 @@ fn has_handle_in(what: What) -> bool
     }
 }
 
-fn is_break_running(what: What) -> bool
+/// Whether what is claimed is a cache whose break runs.
+pub fn is_break_running(what: What) -> bool
     ensures { result ≡ is_running what }
 {
     match what {
@@ -72,6 +75,59 @@ pub fn is_final_blocker(ask: &Claim, held: &[Claim], claim: &Claim) -> bool
     is_blocked_by(ask, claim) && !is_a_cache(claim.what) && !is_share_covered(ask, held, claim)
 }
 
+/// The same of one claim, if those who keep a handle on a file are known.
+fn is_final_beside(ask: &Claim, keepers: &Holders, claim: &Claim) -> bool
+    ensures { result ≡ is_final_beside ask.now keepers.now.keys claim.now }
+{
+    is_blocked_by(ask, claim)
+        && !is_a_cache(claim.what)
+        && !(is_a_share(claim.what)
+            && !same_party(claim.party, ask.party)
+            && is_among(keepers, claim))
+}
+
+fn is_keeper(claim: &Claim) -> bool
+    ensures { result ≡ is_keeper claim.now }
+{
+    has_handle_in(claim.what)
+}
+
+fn list_keepers(alloc: Global, held: &[Claim]) -> Result<Vec<Claim>, AllocError>
+    ensures { IfOk result (λ v. v.items ≡ filter is_keeper held.now) }
+{
+    let mut keepers = Vec::new(alloc);
+    for claim in held {
+        if is_keeper(claim) {
+            keepers.push(*claim)?;
+        }
+    }
+    Ok(keepers)
+}
+
+fn list_final(
+    alloc: Global,
+    ask: &Claim,
+    keepers: &Holders,
+    held: &[Claim],
+) -> Result<Vec<Claim>, AllocError>
+    ensures { IfOk result (λ v. v.items ≡ filter (is_final_beside ask.now keepers.now.keys) held.now) }
+{
+    held.iter()
+        .filter(|claim| is_final_beside(ask, keepers, claim))
+        .copied()
+        .collect(alloc)
+}
+
+/// The held claims that block the ask for good (see `is_final_blocker`), in their order.
+pub fn final_blockers(alloc: Global, ask: &Claim, held: &[Claim]) -> Result<Vec<Claim>, AllocError>
+    ensures { IfOk result (λ v. v.items ≡ filter (is_final ask.now held.now) held.now) }
+{
+    let keepers = list_keepers(alloc, held)?;
+    let holders = holders_of(alloc, &keepers)?;
+    let blockers = list_final(alloc, ask, &holders, held)?;
+    Ok(blockers)
+}
+
 fn list_blocking_shares(
     alloc: Global,
     ask: &Claim,
@@ -85,33 +141,26 @@ fn list_blocking_shares(
         .collect(alloc)
 }
 
-fn keeps_one(shares: &[Claim], cache: &Claim) -> bool
-    ensures { result ≡ list_any (λ share. keeps_open share cache.now) shares.now }
+/// Whether the cache covers one of the shares that block the ask, if it is known who has these.
+fn does_cover(ask: &Claim, sharers: &Holders, cache: &Claim) -> bool
+    ensures { result ≡ covers_beside ask.now sharers.now.keys cache.now }
 {
-    shares.iter().any(|share| is_open_by(share, cache))
-}
-
-/// Whether the cache covers one of the shares, which block the ask.
-fn does_cover(ask: &Claim, shares: &[Claim], cache: &Claim) -> bool
-    ensures { result ≡ covers ask.now shares.now cache.now }
-{
-    !same_party(cache.party, ask.party) && keeps_one(shares, cache)
+    !same_party(cache.party, ask.party) && has_handle_in(cache.what) && is_among(sharers, cache)
 }
 
 /// Whether the claim is a cache that blocks the ask, or covers one of the shares that do.
-#[tactic(auto, unfolding(crate::specs::BreakPlans::is_in_the_way))]
-fn stands_in_the_way(ask: &Claim, shares: &[Claim], claim: &Claim) -> bool
-    ensures { result ≡ is_in_the_way ask.now shares.now claim.now }
+fn stands_in_the_way(ask: &Claim, covered: bool, claim: &Claim) -> bool
+    ensures { result ≡ stands_so ask.now covered claim.now }
 {
-    (is_a_cache(claim.what) && is_blocked_by(ask, claim)) || does_cover(ask, shares, claim)
+    (is_a_cache(claim.what) && is_blocked_by(ask, claim)) || covered
 }
 
-fn need_for(ask: &Claim, shares: &[Claim], claim: &Claim) -> Need
-    ensures { result ≡ need_of ask.now shares.now claim.now }
+fn need_for(ask: &Claim, covered: bool, claim: &Claim) -> Need
+    ensures { result ≡ need_so ask.now covered claim.now }
 {
     Need {
         range: is_a_range(ask.what),
-        covered: does_cover(ask, shares, claim),
+        covered,
         oplock: is_oplock_party(claim.party),
     }
 }
@@ -126,12 +175,12 @@ fn begin(claim: &Claim, need: Need, what: What) -> Option<(Claim, Option<CacheKi
 }
 
 /// The break of this claim that the ask begins, if it begins one.
-#[tactic(auto, unfolding(crate::specs::BreakPlans::break_of))]
-fn break_for(ask: &Claim, shares: &[Claim], claim: &Claim) -> Option<(Claim, Option<CacheKind>)>
-    ensures { result ≡ break_of ask.now shares.now claim.now }
+fn break_for(ask: &Claim, sharers: &Holders, claim: &Claim) -> Option<(Claim, Option<CacheKind>)>
+    ensures { result ≡ break_so ask.now (covers_beside ask.now sharers.now.keys claim.now) claim.now }
 {
-    if stands_in_the_way(ask, shares, claim) {
-        begin(claim, need_for(ask, shares, claim), claim.what)
+    let covered = does_cover(ask, sharers, claim);
+    if stands_in_the_way(ask, covered, claim) {
+        begin(claim, need_for(ask, covered, claim), claim.what)
     } else {
         None
     }
@@ -140,43 +189,75 @@ fn break_for(ask: &Claim, shares: &[Claim], claim: &Claim) -> Option<(Claim, Opt
 fn list_breaks(
     alloc: Global,
     ask: &Claim,
-    shares: &[Claim],
+    sharers: &Holders,
     held: &[Claim],
 ) -> Result<Vec<(Claim, Option<CacheKind>)>, AllocError>
-    ensures { IfOk result (λ v. v.items ≡ filter_map (break_of ask.now shares.now) held.now) }
+    ensures { IfOk result (λ v. v.items ≡ filter_map (λ c. break_so ask.now (covers_beside ask.now sharers.now.keys c) c) held.now) }
 {
     held.iter()
-        .filter_map(|claim| break_for(ask, shares, claim))
+        .filter_map(|claim| break_for(ask, sharers, claim))
         .collect(alloc)
 }
 
-fn has_to_wait_for(ask: &Claim, shares: &[Claim], claim: &Claim) -> bool
-    ensures { result ≡ is_awaited ask.now shares.now claim.now }
+fn has_to_wait_for(ask: &Claim, sharers: &Holders, claim: &Claim) -> bool
+    ensures { result ≡ is_awaited_beside ask.now sharers.now.keys claim.now }
 {
-    stands_in_the_way(ask, shares, claim) && is_break_running(claim.what)
+    let covered = does_cover(ask, sharers, claim);
+    stands_in_the_way(ask, covered, claim) && is_break_running(claim.what)
 }
 
-fn find_awaited(ask: &Claim, shares: &[Claim], held: &[Claim]) -> Option<Claim>
-    ensures { result ≡ find (is_awaited ask.now shares.now) held.now }
+fn find_awaited(ask: &Claim, sharers: &Holders, held: &[Claim]) -> Option<Claim>
+    ensures { result ≡ find (is_awaited_beside ask.now sharers.now.keys) held.now }
 {
     'held: for claim in held {
-        if has_to_wait_for(ask, shares, claim) {
+        if has_to_wait_for(ask, sharers, claim) {
             return Some(*claim);
         }
     }
     None
 }
 
-#[tactic(auto, unfolding(crate::specs::BreakPlans::planned))]
+fn is_left_by(need: Need, what: What) -> bool
+    ensures { result ≡ is_left_by need what }
+{
+    match what {
+        What::Cache(kind, None) => answer_needed(kind, target(kind, need)),
+        What::Cache(_, Some(_)) => true,
+        What::Share(_, _) | What::Range(_, _) => false,
+    }
+}
+
+/// Whether the claim is a cache in the way that is held once the breaks have begun.
+fn is_left(ask: &Claim, sharers: &Holders, claim: &Claim) -> bool
+    ensures { result ≡ is_left_beside ask.now sharers.now.keys claim.now }
+{
+    let covered = does_cover(ask, sharers, claim);
+    stands_in_the_way(ask, covered, claim) && is_left_by(need_for(ask, covered, claim), claim.what)
+}
+
+fn find_left(ask: &Claim, sharers: &Holders, held: &[Claim]) -> Option<Claim>
+    ensures { result ≡ find (is_left_beside ask.now sharers.now.keys) held.now }
+{
+    'held: for claim in held {
+        if is_left(ask, sharers, claim) {
+            return Some(*claim);
+        }
+    }
+    None
+}
+
 fn make_plan(alloc: Global, ask: &Claim, held: &[Claim]) -> Result<BreakPlan, AllocError>
     ensures { IfOk result (λ p. p ≡ planned ask.now held.now) }
 {
     let shares = list_blocking_shares(alloc, ask, held)?;
-    let breaks = list_breaks(alloc, ask, &shares, held)?;
-    let awaited = find_awaited(ask, &shares, held);
+    let sharers = holders_of(alloc, &shares)?;
+    let breaks = list_breaks(alloc, ask, &sharers, held)?;
+    let awaited = find_awaited(ask, &sharers, held);
+    let left = find_left(ask, &sharers, held);
     Ok(BreakPlan {
         breaks: Sequence::from_vec(breaks),
         awaited,
+        left,
     })
 }
 

@@ -40,12 +40,12 @@ use Rattle.xl_core.proofs.StateLaws.{good_claims, good_from}
 -- ---- what becomes of a claim
 
 -- it stays as it is, or is a cache of which a break runs from now on
-data Left (c d : Claim) : Type 0 where
+pub data Left (c d : Claim) : Type 0 where
   Stays : d ≡ c → Left c d
   Runs : (kind : CacheKind) (running : Break) → c.what ≡ Cache kind None → d ≡ with_what c (Cache kind (Some running)) → Left c d
 
 -- what begins is a break of a cache of which none runs
-begins : (ask : Claim) (shares : List Claim) (c : Claim) (b : Claim × Option CacheKind) → break_of ask shares c ≡ Some b → (kind : CacheKind) × (c.what ≡ Cache kind None)
+pub begins : (ask : Claim) (shares : List Claim) (c : Claim) (b : Claim × Option CacheKind) → break_of ask shares c ≡ Some b → (kind : CacheKind) × (c.what ≡ Cache kind None)
 begins ask shares c b e =
     let is = break_is_of ask shares c b e in
     by c.what refl (obstacle_is_cache ask shares c is.1) is.2
@@ -149,10 +149,10 @@ length_step f (c ∷ cs) = by (f c) (length_step f cs) where
 -- ---- the claims
 
 module _ (deadline : Moment) (ask : Claim) (held : List Claim) where
-  step : Claim → Option Claim
+  unfoldable pub step : Claim → Option Claim
   step c = once_begun deadline c (break_of ask (blocking_shares ask held) c)
 
-  stepped : (c d : Claim) → step c ≡ Some d → Left c d
+  pub stepped : (c d : Claim) → step c ≡ Some d → Left c d
   unfolding step
   stepped c d e = left_so deadline ask (blocking_shares ask held) c d e
 
@@ -193,7 +193,7 @@ module _ (deadline : Moment) (ask : Claim) (held : List Claim) where
   }
 
   -- the break that begins of a cache leaves what the table of targets says
-  target_is : (c : Claim) (b : Claim × Option CacheKind) (kind : CacheKind) → break_of ask (blocking_shares ask held) c ≡ Some b → c.what ≡ Cache kind None → b.1 ≡ target_of kind (need_of ask (blocking_shares ask held) c)
+  pub target_is : (c : Claim) (b : Claim × Option CacheKind) (kind : CacheKind) → break_of ask (blocking_shares ask held) c ≡ Some b → c.what ≡ Cache kind None → b.1 ≡ target_of kind (need_of ask (blocking_shares ask held) c)
   unfolding break_of
   target_is c b kind e at = by (is_in_the_way ask (blocking_shares ask held) c) e where
     need : Need
@@ -261,7 +261,7 @@ module _ (deadline : Moment) (ask : Claim) (held : List Claim) where
   no_share (Share access deny) b h = absurd (both_ways false refl h)
   no_share (Range extent exclusive) b h = absurd (both_ways false refl h)
 
-  shares_step : (cs : List Claim) → blocking_shares ask (filter_map step cs) ≡ blocking_shares ask cs
+  pub shares_step : (cs : List Claim) → blocking_shares ask (filter_map step cs) ≡ blocking_shares ask cs
   unfolding step
   shares_step [] = refl
   shares_step (c ∷ cs) = by (step c) refl (shares_step cs) where
@@ -275,7 +275,7 @@ module _ (deadline : Moment) (ask : Claim) (held : List Claim) where
           ap (λ (x : Claim). blocking_shares ask (x ∷ filter_map step cs)) is ∙ rw other rest
 
   -- of what is left none is to be broken
-  begins_none : (c d : Claim) → step c ≡ Some d → break_of ask (blocking_shares ask held) d ≡ None
+  pub begins_none : (c d : Claim) → step c ≡ Some d → break_of ask (blocking_shares ask held) d ≡ None
   unfolding step break_of
   begins_none c d e = by (break_of ask (blocking_shares ask held) c) refl e where
     shares : List Claim
@@ -299,7 +299,7 @@ module _ (deadline : Moment) (ask : Claim) (held : List Claim) where
               (running new one.0 now (is_in_the_way ask shares new))
         ]
 
-  none_to_begin : (cs : List Claim) → filter_map (break_of ask (blocking_shares ask held)) (filter_map step cs) ≡ []
+  pub none_to_begin : (cs : List Claim) → filter_map (break_of ask (blocking_shares ask held)) (filter_map step cs) ≡ []
   unfolding step
   none_to_begin [] = refl
   none_to_begin (c ∷ cs) = by (step c) refl (none_to_begin cs) where

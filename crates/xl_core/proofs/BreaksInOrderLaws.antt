@@ -3,7 +3,7 @@
 use Rattle.std.proofs.Common.{◌≡◌, ℕ, suc, add-one, drop, drop-cons, get_or, ◌+◌, ◌<◌, ◌≤◌, Bool, true, false, not, ◌&&◌, ◌||◌, ◌==◌, nat_lt, if◌then◌else◌, List, [], ◌∷◌, ◌++◌, map, length, inl, inr, Option, Some, None, refl, sym, ap, subst, ◌∙◌, arith}
 use Rattle.std.specs.Cmp.{IsStrictWeakOrder}
 use Rattle.std.specs.List.{AllByRecursion, cons_option, filter, filter_map, find, list_any}
-use Rattle.std.proofs.lemmas.Bool.{cases_Bool, both_ways, and_parts, and_right, or_left, or_right, eq-eqb, false_from_ne_true}
+use Rattle.std.proofs.lemmas.Bool.{cases_Bool, both_ways, and_parts, and_right, or_cases, or_left, or_right, or_parts, eq-eqb, false_from_ne_true}
 use Rattle.std.proofs.lemmas.Bool.Decides.{nat_tests}
 use Rattle.std.proofs.lemmas.Cmp.{nat_list_cmp_total}
 use Rattle.std.proofs.lemmas.List.{length-map}
@@ -17,7 +17,7 @@ use Rattle.xl_base.specs.declared.name.Party.{Party}
 use Rattle.xl_base.specs.declared.name.Party.TheVariants as parties
 use Rattle.xl_base.specs.declared.name.Protocol.{Protocol}
 use Rattle.xl_base.specs.declared.name.Protocol.TheVariants.{Nlm, Nfs, Smb}
-use Rattle.xl_cache.specs.BreakPlans.{is_in_the_way, blocking_shares, keeps_handle_by, keeps_open, is_covered, is_final, break_of, is_awaited, plan_with, planned, needs_answer_by, is_slow}
+use Rattle.xl_cache.specs.BreakPlans.{is_in_the_way, is_obstacle, blocking_shares, keeps_handle_by, keeps_open, is_covered, is_final, break_of, is_awaited, is_left, plan_with, planned, needs_answer_by, is_slow}
 use Rattle.xl_cache.specs.Targets.{needs_answer}
 use Rattle.xl_cache.proofs.BreakPlanLaws.{obstacle_is_cache, break_is_of}
 use Rattle.xl_matrix.specs.Equal.{same_claims, same_parties}
@@ -27,7 +27,7 @@ use Rattle.xl_matrix.specs.declared.claim.Claim.{Claim}
 use Rattle.xl_matrix.specs.declared.claim.What.{What}
 use Rattle.xl_matrix.specs.declared.claim.What.TheVariants.{Share, Range, Cache}
 use Rattle.xl_names.specs.declared.name.Name.{Name}
-use Rattle.xl_table.specs.Flat.{blocks, inserted, removed, changed, with_what}
+use Rattle.xl_table.specs.Flat.{blocks, may_obstruct, inserted, removed, changed, with_what}
 use Rattle.xl_table.specs.Held.{is_share, is_cache, IsSound}
 use Rattle.xl_table.specs.Order.{no_later, rank, owner_key, party_key, place_in_group, key_by, key, goes_first}
 use Rattle.xl_table.proofs.InsertLaws.{sound_changed_other}
@@ -399,32 +399,85 @@ way_there ask shares c there other =
     by false true = refl
     by false false = refl
 
-shares_here : (ask : Claim) (held : List Claim) → blocking_shares ask (filter (is_there ask) held) ≡ blocking_shares ask held
-shares_here ask held = filter_within (λ c. is_share c.what && blocks ask c) (is_there ask) held (λ c other. rw (blocks_there ask c other) (and_right (is_share c.what) false refl))
+handle_is_cache : (w : What) → is_cache w ≡ false → keeps_handle_by w ≡ false
+handle_is_cache (Share access deny) h = refl
+handle_is_cache (Range extent exclusive) h = refl
+handle_is_cache (Cache kind running) h = absurd (both_ways true h refl)
+
+-- a test that passes on the ask's file alone, and there for all that blocks the ask and for each cache
+record Keeps (ask : Claim) (q : Claim → Bool) : Type 0 where
+  here : (c : Claim) → q c ≡ true → is_there ask c ≡ true
+  free : (c : Claim) → q c ≡ false → blocks ask c ≡ false
+  uncached : (c : Claim) → q c ≡ false → is_there ask c ≡ true → is_cache c.what ≡ false
+
+module _ (ask : Claim) (q : Claim → Bool) (keeps : Keeps ask q) where
+  out_of_way : (held : List Claim) (c : Claim) → q c ≡ false → is_in_the_way ask (blocking_shares ask held) c ≡ false
+  out_of_way held c out =
+      elim (cases_Bool (is_there ask c)) [
+        | inr other ↦ way_there ask (blocking_shares ask held) c (shares_there ask held) other
+        | inl here ↦ false_from_ne_true (is_in_the_way ask (blocking_shares ask held) c) (λ (h : is_in_the_way ask (blocking_shares ask held) c ≡ true).
+            both_ways (is_cache c.what) (keeps.uncached c out here) (obstacle_is_cache ask (blocking_shares ask held) c h))
+      ]
+
+  kept_open : (c d : Claim) → q c ≡ true → q d ≡ false → keeps_open c d ≡ false
+  kept_open c d in_it out =
+      elim (cases_Bool (is_there ask d)) [
+        | inr other ↦ keeps_there ask c d (keeps.here c in_it) other
+        | inl here ↦ rw (handle_is_cache d.what (keeps.uncached d out here)) refl
+      ]
+
+  shares_kept : (held : List Claim) → blocking_shares ask (filter q held) ≡ blocking_shares ask held
+  shares_kept held = filter_within (λ c. is_share c.what && blocks ask c) q held (λ c out. rw (keeps.free c out) (and_right (is_share c.what) false refl))
+
+  planned_kept : (held : List Claim) → planned ask (filter q held) ≡ planned ask held
+  unfolding planned break_of
+  planned_kept held =
+      ap (λ (shares : List Claim). plan_with ask shares (filter q held)) (shares_kept held) ∙ (λ i. record { breaks = breaks i; awaited = awaited i; left = left i })
+    where
+      breaks : filter_map (break_of ask (blocking_shares ask held)) (filter q held) ≡ filter_map (break_of ask (blocking_shares ask held)) held
+      breaks = map_within (break_of ask (blocking_shares ask held)) q held (λ c out. rw (out_of_way held c out) refl)
+
+      awaited : find (is_awaited ask (blocking_shares ask held)) (filter q held) ≡ find (is_awaited ask (blocking_shares ask held)) held
+      awaited = find_within (is_awaited ask (blocking_shares ask held)) q held (λ c out. rw (out_of_way held c out) refl)
+
+      left : find (is_left ask (blocking_shares ask held)) (filter q held) ≡ find (is_left ask (blocking_shares ask held)) held
+      left = find_within (is_left ask (blocking_shares ask held)) q held (λ c out. rw (out_of_way held c out) refl)
+
+  final_kept : (held : List Claim) → filter (is_final ask (filter q held)) (filter q held) ≡ filter (is_final ask held) held
+  unfolding is_covered
+  final_kept held =
+      filter_alike (is_final ask (filter q held)) (is_final ask held) (filter q held)
+      (all_from (λ c. is_final ask (filter q held) c ≡ is_final ask held c) (filter q held) (λ c h.
+      ap (λ (b : Bool). blocks ask c && (not (is_cache c.what) && not (is_share c.what && (not (same_parties c.party ask.party) && b))))
+      (any_within (keeps_open c) q held (λ d out. kept_open c d (in_filter_from q c held h).1 out))))
+      ∙ filter_within (is_final ask held) q held (λ c out. rw (keeps.free c out) refl)
+
+on_file : (ask : Claim) → Keeps ask (is_there ask)
+on_file ask = record { here = λ c in_it. in_it; free = λ c other. blocks_there ask c other; uncached = λ c other here. absurd (both_ways (is_there ask c) other here) }
 
 pub planned_here : (ask : Claim) (held : List Claim) → planned ask (filter (λ c. c.file == ask.file) held) ≡ planned ask held
-unfolding planned break_of
-planned_here ask held =
-    ap (λ (shares : List Claim). plan_with ask shares (filter (is_there ask) held)) (shares_here ask held) ∙ (λ i. record { breaks = breaks i; awaited = awaited i })
-  where
-    shares : List Claim
-    shares = blocking_shares ask held
-
-    breaks : filter_map (break_of ask (blocking_shares ask held)) (filter (is_there ask) held) ≡ filter_map (break_of ask (blocking_shares ask held)) held
-    breaks = map_within (break_of ask (blocking_shares ask held)) (is_there ask) held (λ c other. rw (way_there ask (blocking_shares ask held) c (shares_there ask held) other) refl)
-
-    awaited : find (is_awaited ask (blocking_shares ask held)) (filter (is_there ask) held) ≡ find (is_awaited ask (blocking_shares ask held)) held
-    awaited = find_within (is_awaited ask (blocking_shares ask held)) (is_there ask) held (λ c other. rw (way_there ask (blocking_shares ask held) c (shares_there ask held) other) refl)
+planned_here ask held = planned_kept ask (is_there ask) (on_file ask) held
 
 -- and so do the blockers that no break moves
 pub final_here : (ask : Claim) (held : List Claim) → filter (is_final ask (filter (λ c. c.file == ask.file) held)) (filter (λ c. c.file == ask.file) held) ≡ filter (is_final ask held) held
-unfolding is_covered
-final_here ask held =
-    filter_alike (is_final ask (filter (is_there ask) held)) (is_final ask held) (filter (is_there ask) held)
-    (all_from (λ c. is_final ask (filter (is_there ask) held) c ≡ is_final ask held c) (filter (is_there ask) held) (λ c h.
-    ap (λ (b : Bool). blocks ask c && (not (is_cache c.what) && not (is_share c.what && (not (same_parties c.party ask.party) && b))))
-    (any_within (keeps_open c) (is_there ask) held (λ d other. keeps_there ask c d (in_filter_from (is_there ask) c held h).1 other))))
-    ∙ filter_within (is_final ask held) (is_there ask) held (λ c other. rw (blocks_there ask c other) refl)
+final_here ask held = final_kept ask (is_there ask) (on_file ask) held
+
+-- of these it looks at those that block the ask, and at the caches
+obstructs : (ask : Claim) → Keeps ask (may_obstruct ask)
+obstructs ask = record {
+  here = λ c in_it. elim (or_cases (blocks ask c) (is_there ask c && is_cache c.what) in_it) [ inl blocked ↦ blocks_here ask c blocked | inr cached ↦ (and_parts (is_there ask c) (is_cache c.what) cached).0 ];
+  free = λ c out. (or_parts (blocks ask c) (is_there ask c && is_cache c.what) out).0;
+  uncached = λ c out here. uncached c (is_there ask c) here (or_parts (blocks ask c) (is_there ask c && is_cache c.what) out).1;
+} where
+  uncached : (c : Claim) (b : Bool) → b ≡ true → (b && is_cache c.what) ≡ false → is_cache c.what ≡ false
+  uncached c true e h = h
+  uncached c false e h = absurd (both_ways false refl e)
+
+pub planned_against : (ask : Claim) (held : List Claim) → planned ask (filter (may_obstruct ask) held) ≡ planned ask held
+planned_against ask held = planned_kept ask (may_obstruct ask) (obstructs ask) held
+
+pub final_against : (ask : Claim) (held : List Claim) → filter (is_final ask (filter (may_obstruct ask) held)) (filter (may_obstruct ask) held) ≡ filter (is_final ask held) held
+final_against ask held = final_kept ask (may_obstruct ask) (obstructs ask) held
 
 -- ---- a file without caches
 
@@ -452,20 +505,21 @@ find_none : (p : Claim → Bool) (cs : List Claim) → ((c : Claim) → IsIn c c
 find_none p [] none = refl
 find_none p (c ∷ cs) none = rw (none c (inl refl)) (find_none p cs (λ d h. none d (inr h)))
 
--- no break begins there, and none is awaited
-pub none_planned : (ask : Claim) (held : List Claim) → list_any (λ c. (c.file == ask.file) && is_cache c.what) held ≡ false → planned ask held ≡ record { breaks = []; awaited = None }
+-- where nothing is in the way no break begins, and none is awaited
+pub unplanned : (ask : Claim) (held : List Claim) → ((c : Claim) → IsIn c held → is_obstacle ask held c ≡ false) → planned ask held ≡ record { breaks = []; awaited = None; left = None }
 unfolding planned break_of
-none_planned ask held none = λ i. record { breaks = breaks i; awaited = awaited i } where
+unplanned ask held none = λ i. record { breaks = breaks i; awaited = awaited i; left = left i } where
   breaks : filter_map (break_of ask (blocking_shares ask held)) held ≡ []
-  breaks = all_none (break_of ask (blocking_shares ask held)) held (λ c h. rw (no_way ask held c none h) refl)
+  breaks = all_none (break_of ask (blocking_shares ask held)) held (λ c h. rw (none c h) refl)
 
   awaited : find (is_awaited ask (blocking_shares ask held)) held ≡ None
-  awaited = find_none (is_awaited ask (blocking_shares ask held)) held (λ c h. rw (no_way ask held c none h) refl)
+  awaited = find_none (is_awaited ask (blocking_shares ask held)) held (λ c h. rw (none c h) refl)
 
-handle_is_cache : (w : What) → is_cache w ≡ false → keeps_handle_by w ≡ false
-handle_is_cache (Share access deny) h = refl
-handle_is_cache (Range extent exclusive) h = refl
-handle_is_cache (Cache kind running) h = absurd (both_ways true h refl)
+  left : find (is_left ask (blocking_shares ask held)) held ≡ None
+  left = find_none (is_left ask (blocking_shares ask held)) held (λ c h. rw (none c h) refl)
+
+pub none_planned : (ask : Claim) (held : List Claim) → list_any (λ c. (c.file == ask.file) && is_cache c.what) held ≡ false → planned ask held ≡ record { breaks = []; awaited = None; left = None }
+none_planned ask held none = unplanned ask held (λ c h. no_way ask held c none h)
 
 -- and all that blocks an ask blocks it for good
 pub all_final : (ask : Claim) (held : List Claim) → list_any (λ c. (c.file == ask.file) && is_cache c.what) held ≡ false → filter (is_final ask held) held ≡ filter (blocks ask) held

@@ -20,6 +20,8 @@ pub mod BreakAnswerLaws
 pub mod DueLaws
 pub mod DeadlineLaws
 pub mod AskBreaksLaws
+pub mod BreaksThenLaws
+pub mod PassageLaws
 pub mod CachePlaces
 pub mod ChangeLaws
 pub mod SettleLaws

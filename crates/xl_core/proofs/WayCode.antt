@@ -33,7 +33,7 @@ use Rattle.xl_matrix.specs.declared.claim.Rwd.{Rwd}
 use Rattle.xl_matrix.specs.declared.claim.What.TheVariants as whats
 use Rattle.xl_core.specs.Decide.{plea_of, way}
 use Rattle.xl_core.specs.declared.ask.Ask.{Ask}
-use Rattle.xl_core.proofs.GoodLaws.{known_one_party, ranges_no_cache, asked_way_good}
+use Rattle.xl_core.proofs.GoodLaws.{known_one_party, asked_way_good}
 use Rattle.xl_core.proofs.TurnLaws.{called_known}
 use Rattle.xl_core.proofs.WayLaws.{NoWay, Begins, way_is, way_good, way_names, known_no_cache}
 
@@ -53,10 +53,6 @@ no_way_first earlier p cs c rest s told is none quiet = ap (λ (ds : List Claim)
 
 pub begun_few : (c : Claim) (s t : CoreState) (told : List Effect) → IsGood s → breaks_begun c s ≡ (told, t) → t.counter ≤ s.counter + 16384
 begun_few c s t told good e = omega (arith, ap (λ (w : List Effect × CoreState). w.1.counter) e, begun_counter c s, recalls_few s c good)
-
--- who is called asks for no cache
-pub called_no_cache : (p : Parts) (called : Called) → IsGood (state_of p) → first_called (state_of p) [] p.queue ≡ Some called → AllByRecursion (λ c. is_cache c.what ≡ false) called.asked
-called_no_cache p called good e = known_no_cache p.names called.asked (called_known (state_of p) [] p.queue called good.waiters e).0
 
 -- once its way is made its claims still have one party
 pub called_alone_then : (p q : Parts) (called : Called) (told : List Effect) → IsGood (state_of p) → first_called (state_of p) [] p.queue ≡ Some called → ((earlier : List Waiter) → made_way earlier called.plea called.asked (state_of p) ≡ (told, state_of q))
@@ -86,11 +82,15 @@ no_way_for left s a told none quiet =
           e ∙ none_begun_there s c (subst (λ (f : ℕ). list_any (λ y. (y.file == f) && is_cache y.what) s.claims ≡ false) (sym here) none)
     ] ∙ (λ i. (sym quiet i, s))
 
-pub locks_asked : (a : Ask) (names : List Name) (ranges : List (Extent × Bool)) (claims : List Claim) → claims ≡ asked_claims a (map range_what ranges) names → AllByRecursion (λ c. is_cache c.what ≡ false) claims
-locks_asked a names ranges claims is = subst (λ (cs : List Claim). AllByRecursion (λ c. is_cache c.what ≡ false) cs) (sym is) (ranges_no_cache a names ranges)
-
 pub way_leaves_good : (left : Rooms) (s t : CoreState) (a : Ask) (told : List Effect) → IsGood s → way left s a ≡ (told, t) → IsGood t
 way_leaves_good left s t a told good e = subst (λ (w : List Effect × CoreState). IsGood w.1) e (asked_way_good left s a good)
+
+-- what is asked for is the same once its way is made, as no name is entered by that
+pub asked_share_then : (a : Ask) (access deny : Rwd) (claim : Claim) (old new : List Name) → a.act ≡ acts.Share access deny → claim ≡ asked_claim a (whats.Share access deny) old → new ≡ old → claim ∷ [] ≡ asked_claims a (asked_whats a.act) new
+asked_share_then a access deny claim old new act is names = ap (λ (c : Claim). c ∷ []) is ∙ (λ i. asked_claims a (asked_whats (sym act i)) (sym names i))
+
+pub asked_ranges_then : (a : Ask) (ranges : List (Extent × Bool)) (claims : List Claim) (old new : List Name) → a.act ≡ acts.Ranges ranges → claims ≡ asked_claims a (map range_what ranges) old → new ≡ old → claims ≡ asked_claims a (asked_whats a.act) new
+asked_ranges_then a ranges claims old new act is names = is ∙ (λ i. asked_claims a (asked_whats (sym act i)) (sym names i))
 
 -- the way that is made for an ask for a share is that of its one claim
 pub way_of_share : (left : Rooms) (s : CoreState) (a : Ask) (access deny : Rwd) (plea : Plea) (claim : Claim) → a.act ≡ acts.Share access deny → plea ≡ plea_of left s a → claim ≡ asked_claim a (whats.Share access deny) s.names

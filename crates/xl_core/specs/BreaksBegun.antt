@@ -7,6 +7,7 @@ use Rattle.xl_base.specs.declared.name.Party.{Party}
 use Rattle.xl_base.specs.declared.name.Party.TheVariants as parties
 use Rattle.xl_base.specs.declared.name.Protocol.TheVariants.{Nfs}
 use Rattle.xl_cache.specs.BreakPlans.{is_running, blocking_shares, break_of, planned, is_slow}
+use Rattle.xl_cache.specs.declared.break_plan.BreakPlan.{BreakPlan}
 use Rattle.xl_matrix.specs.Equal.{same_parties}
 use Rattle.xl_matrix.specs.declared.claim.CacheKind.{CacheKind}
 use Rattle.xl_matrix.specs.declared.claim.Claim.{Claim}
@@ -36,6 +37,22 @@ once_begun deadline c (Some begun) = if is_slow begun then Some (with_break c c.
 -- 10.4.4) (CACHE-2)
 unfoldable pub once_broken : Moment → Claim → List Claim → List Claim
 once_broken deadline ask held = filter_map (λ c. once_begun deadline c (break_of ask (blocking_shares ask held) c)) held
+
+-- the cache of this break while it runs
+abbrev pub as_broken : Moment → Claim × Option CacheKind → Claim
+as_broken deadline begun = with_break begun.0 begun.0.what begun.1 deadline
+
+-- the first cache of the plan that is held once its breaks have begun, as it is held then
+abbrev pub left_of : Moment → Option Claim → List (Claim × Option CacheKind) → Option Claim
+left_of deadline None breaks = None
+left_of deadline (Some c) breaks = if is_running c.what then Some c else option_map (as_broken deadline) (find is_slow breaks)
+
+abbrev pub left_then : Moment → BreakPlan → Option Claim
+left_then deadline p = left_of deadline p.left p.breaks
+
+-- what is left of the plan once its breaks have begun: none begins, and what is left is awaited
+abbrev pub plan_then : Moment → BreakPlan → BreakPlan
+plan_then deadline p = record { breaks = []; awaited = left_then deadline p; left = left_then deadline p }
 
 -- a cache of which no break runs
 abbrev pub is_idle : Claim → Bool

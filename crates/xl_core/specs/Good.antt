@@ -1,5 +1,5 @@
 -- What the core's state keeps at each free moment.
-use Rattle.std.specs.Prelude.{◌≡◌, ℕ, ◌≤◌, Bool, true, false, not, ◌&&◌, ◌==◌, if◌then◌else◌, List, [], ◌∷◌, ◌++◌, length, Option, Some, None}
+use Rattle.std.specs.Prelude.{◌≡◌, ℕ, ◌≤◌, Bool, true, false, not, ◌&&◌, ◌==◌, if◌then◌else◌, List, [], ◌∷◌, ◌++◌, length, Option, Some, None, is_some}
 use Rattle.std.specs.List.{AllByRecursion, filter, slice_get}
 use Rattle.xl_base.specs.Lists.{Pairwise}
 use Rattle.xl_base.specs.Stable.{same_protocol}
@@ -25,7 +25,9 @@ use Rattle.xl_table.specs.Held.{is_share, is_cache, may_own, IsKept, IsGrantable
 use Rattle.xl_wait.specs.declared.waiter.Waiter.{Waiter}
 use Rattle.xl_core.specs.State.{CoreState}
 use Rattle.xl_core.specs.Askers.{client_of, is_name, is_lease}
-use Rattle.xl_core.specs.Blockers.{is_stopped, all_run}
+use Rattle.xl_core.specs.Blockers.{is_stopped, first_broken, all_run}
+use Rattle.xl_core.specs.declared.blockers.Passage.{Passage}
+use Rattle.xl_core.specs.declared.blockers.Passage.TheVariants.{Barred, Open}
 use Rattle.xl_core.specs.Judge.{IsRow}
 use Rattle.xl_core.specs.Limits.{most_waiters}
 
@@ -147,6 +149,11 @@ AllBehind P earlier (w ∷ ws) = P earlier w × AllBehind P (earlier ++ w ∷ []
 -- waits for it, and else for the answers to breaks, all of which run.
 abbrev pub is_held_up : List Waiter → CoreState → Waiter → Claim → Bool
 is_held_up earlier s w c = is_blocked s.claims c && (if is_stopped earlier s c then w.blocking else all_run s.claims c)
+
+-- so it is where the way of its claim, which something blocks, stands so
+abbrev pub holds_back : Waiter → Passage → Bool
+holds_back w (Barred c) = w.blocking
+holds_back w (Open plan) = not (is_some (first_broken plan.breaks))
 
 -- the test holds of the first of these
 abbrev pub of_first : (Claim → Bool) → List Claim → Bool

@@ -12,7 +12,9 @@ use Rattle.xl_wait.specs.declared.waiter.Rooms.{Rooms}
 use Rattle.xl_wait.specs.declared.waiter.Waiter.{Waiter}
 use Rattle.xl_core.specs.State.{CoreState}
 use Rattle.xl_table.specs.Least.{least}
-use Rattle.xl_core.specs.Blockers.{blockers, is_stopped, cache_against}
+use Rattle.xl_core.specs.Blockers.{blockers, is_stopped, cache_in, cache_against}
+use Rattle.xl_core.specs.declared.blockers.Passage.{Passage}
+use Rattle.xl_core.specs.declared.blockers.Passage.TheVariants.{Barred, Open}
 use Rattle.xl_core.specs.Limits.{grant_limits, first_passed}
 use Rattle.xl_table.specs.Relock.{granted_claims}
 use Rattle.xl_core.specs.declared.ask.Answer.TheVariants.{Conflict, Recall, NoGrace, Full}
@@ -77,6 +79,11 @@ kept_off p c = if p.awaits then waits p.crowded else Told (Recall c)
 -- the caches in the way of the claim
 unfoldable pub check_caches : Plea → Claim → CoreState → Option Ruling
 check_caches p c s = option_map (kept_off p) (cache_against s.claims c)
+
+-- what stops a claim whose way stands so, unless a limit does
+abbrev pub stop_by : Plea → Passage → Option Ruling
+stop_by p (Barred c) = Some (stopped p c)
+stop_by p (Open plan) = option_map (kept_off p) (cache_in plan)
 
 -- the least limit that the claim passes (CORE-5)
 unfoldable pub check_room : Rooms → Plea → Claim → CoreState → Option Ruling

@@ -54,6 +54,6 @@ pub fn breaks_are_told()
 pub fn without_caches_nothing_begins()
     ensures none { (s : CoreState) (ask : Claim) → (planned ask s.claims).breaks ≡ [] → breaks_begun ask s ≡ ([], s) }
     ensures begun { (s : CoreState) (ask : Claim) → list_any (λ c. (c.file == ask.file) && is_cache c.what) s.claims ≡ false → breaks_begun ask s ≡ ([], s) }
-    ensures planned { (ask : Claim) (held : List Claim) → list_any (λ c. (c.file == ask.file) && is_cache c.what) held ≡ false → planned ask held ≡ record { breaks = []; awaited = None } }
+    ensures planned { (ask : Claim) (held : List Claim) → list_any (λ c. (c.file == ask.file) && is_cache c.what) held ≡ false → planned ask held ≡ record { breaks = []; awaited = None; left = None } }
     ensures for_good { (ask : Claim) (held : List Claim) → list_any (λ c. (c.file == ask.file) && is_cache c.what) held ≡ false → filter (is_final ask held) held ≡ filter (blocks ask) held }
 {}

@@ -1,10 +1,10 @@
 //! The breaks that an ask begins.
-ghost use Rattle.std.specs.Prelude.{◌≡◌, ◌+◌, ◌<◌, ◌^◌, List, length, map, filter, IfOk};
+ghost use Rattle.std.specs.Prelude.{◌≡◌, ◌+◌, ◌<◌, ◌^◌, List, length, map, IfOk};
 ghost use Rattle.xl_base.specs.Limits.{numbers_left};
 ghost use Rattle.xl_base.specs.Lists.{IsIn, sorted};
-ghost use Rattle.xl_cache.specs.BreakPlans.{planned, is_final};
+ghost use Rattle.xl_cache.specs.BreakPlans.{planned};
 ghost use Rattle.xl_table.specs.Held.{IsSound};
-ghost use Rattle.xl_core.specs.BreaksBegun.{told_before, is_recalled, recalls, call_of, last_of, begun_told, breaks_begun};
+ghost use Rattle.xl_core.specs.BreaksBegun.{with_break, told_before, is_recalled, recalls, call_of, last_of, begun_told, breaks_begun, left_then, plan_then};
 ghost use Rattle.xl_core.specs.BreaksInOrder.{row_of, begun_of, row_before, begun_in, all_begun, AreHeldThen};
 ghost use Rattle.xl_core.specs.Good.{IsGood};
 ghost use Rattle.xl_core.specs.Whole.{state_of};
@@ -14,43 +14,10 @@ use crate::lease::moment_after;
 use crate::parts::Parts;
 use std::alloc::{AllocError, Global};
 use xl_base::{Moment, Party, Protocol, Sequence};
-use xl_cache::{BreakPlan, answer_needed, is_final_blocker, plan_breaks};
+use xl_cache::{BreakPlan, answer_needed, first_slow, is_break_running};
 use xl_matrix::{Break, CacheKind, Claim, What};
 use xl_names::{Names, party_text};
 use xl_table::Table;
-
-// ---- what is planned
-
-/// The breaks that an ask begins, and whether it waits for one that runs.
-pub(crate) fn plan_for(alloc: Global, parts: &Parts, ask: &Claim) -> Result<BreakPlan, AllocError>
-    ensures { IfOk result (λ plan. planned ask.now parts.now.table ≡ plan) }
-{
-    let held = parts.table.of_file(alloc, ask.file)?;
-    let plan = plan_breaks(alloc, ask, &held)?;
-    Ok(plan)
-}
-
-fn final_among(alloc: Global, ask: &Claim, held: &[Claim]) -> Result<Vec<Claim>, AllocError>
-    ensures { IfOk result (λ v. v.items ≡ filter (is_final ask.now held.now) held.now) }
-{
-    held.iter()
-        .filter(|claim| is_final_blocker(ask, held, claim))
-        .copied()
-        .collect(alloc)
-}
-
-/// The held claims that block the ask for good: shares and ranges that are not covered, so that no break makes way.
-pub(crate) fn final_blockers(
-    alloc: Global,
-    parts: &Parts,
-    ask: &Claim,
-) -> Result<Vec<Claim>, AllocError>
-    ensures { IfOk result (λ v. v.items ≡ filter (is_final ask.now parts.now.table) parts.now.table) }
-{
-    let held = parts.table.of_file(alloc, ask.file)?;
-    let blockers = final_among(alloc, ask, &held)?;
-    Ok(blockers)
-}
 
 // ---- the effects
 
@@ -216,4 +183,55 @@ pub(crate) fn begin_breaks(
     begin_all(&mut parts.table, breaks, deadline);
     parts.counter = last;
     Ok(effects)
+}
+
+// ---- the plan then
+
+/// The cache while a break of it runs.
+fn with_break(cache: &Claim, to: Option<CacheKind>, deadline: Moment) -> Claim
+    ensures { result ≡ with_break cache.now cache.now.what to deadline }
+{
+    match cache.what {
+        What::Cache(kind, _) => Claim {
+            file: cache.file,
+            owner: cache.owner,
+            party: cache.party,
+            what: What::Cache(
+                kind,
+                Some(Break {
+                    target: to,
+                    deadline,
+                }),
+            ),
+        },
+        _ => *cache,
+    }
+}
+
+/// The first cache of the plan that is held once its breaks have begun, as it is held then.
+fn left_then(plan: &BreakPlan, deadline: Moment) -> Option<Claim>
+    ensures { result ≡ left_then deadline plan.now }
+{
+    let Some(cache) = plan.left else {
+        return None;
+    };
+    if is_break_running(cache.what) {
+        return Some(cache);
+    }
+    match first_slow(plan) {
+        Some((cache, to)) => Some(with_break(&cache, to, deadline)),
+        None => None,
+    }
+}
+
+/// What is left of the plan once its breaks have begun.
+pub(crate) fn plan_then(alloc: Global, plan: &BreakPlan, deadline: Moment) -> BreakPlan
+    ensures { result ≡ plan_then deadline plan.now }
+{
+    let left = left_then(plan, deadline);
+    BreakPlan {
+        breaks: Sequence::new(alloc),
+        awaited: left,
+        left,
+    }
 }

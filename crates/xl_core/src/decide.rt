@@ -8,6 +8,7 @@ ghost use Rattle.xl_table.specs.Held.{is_range, has_one_party, IsShareOrLock, Is
 ghost use Rattle.xl_table.specs.Relock.{most_claims};
 ghost use Rattle.xl_core.specs.Askers.{both_entered, asked_whats, asked_claims, IsFitAct, IsFit, IsOrdered, is_client, may_hold, may_hold_all};
 ghost use Rattle.xl_core.specs.Decide.{plea_of, waiter_of, waiting, claims_asked, tested, unlocked_bytes, unlocked_one, unlocked, wish_asked, decided, way, before_wish, does_wish, ask};
+ghost use Rattle.xl_core.specs.Blockers.{IsKnown};
 ghost use Rattle.xl_core.specs.Good.{IsGood};
 ghost use Rattle.xl_core.specs.Judge.{IsRow};
 ghost use Rattle.xl_core.specs.Whole.{state_of};
@@ -17,6 +18,7 @@ use crate::ask::{Act, Answer, Ask, Effect};
 use crate::askers::{
     asked_claim, asked_claims, asking_party, count_names, enter_both, known_claim,
 };
+use crate::blockers::Passage;
 use crate::judge::{Plea, Ruling, judge_all};
 use crate::limits::{passed_by_wait, passed_by_wish};
 use crate::parts::Parts;
@@ -96,7 +98,7 @@ fn wait(alloc: Global, parts: &mut Parts, ask: &Ask, claims: &[Claim]) -> Result
     Ok(Answer::Queued(id))
 }
 
-/// Answers an ask for these claims.
+/// Answers an ask for these claims. It may be known how the way of the first stands.
 #[tactic(auto, unfolding(crate::specs::Decide::claims_asked))]
 fn ask_claims(
     alloc: Global,
@@ -104,7 +106,9 @@ fn ask_claims(
     left: &Rooms,
     ask: &Ask,
     claims: &[Claim],
+    known: Option<Passage>,
 ) -> Result<Answer, AllocError>
+    requires known { IsKnown known (state_of parts.old) claims.now }
     requires client { is_client ask.now.owner ask.now.party ≡ true }
     requires row { IsRow claims.now }
     requires party { AllByRecursion (λ c. AllByRecursion (λ d. has_one_party c d ≡ true) parts.old.table) claims.now }
@@ -117,7 +121,7 @@ fn ask_claims(
         return Ok(Answer::NotHeld);
     };
     let plea = plea_of(parts, left, ask);
-    match judge_all(alloc, parts, left, &plea, claims)? {
+    match judge_all(alloc, parts, left, &plea, claims, known)? {
         Ruling::Gets => {
             enter_both(&mut parts.names, ask)?;
             Ok(Answer::Granted(*first))
@@ -231,7 +235,9 @@ fn ask_for(
     left: &Rooms,
     ask: &Ask,
     what: What,
+    known: Option<Passage>,
 ) -> Result<Answer, AllocError>
+    requires known { IsKnown known (state_of parts.old) (asked_claims ask.now (what ∷ []) parts.old.names) }
     requires client { is_client ask.now.owner ask.now.party ≡ true }
     requires own { may_hold ask.now.owner what ≡ true }
     requires real { IsShareOrLock what }
@@ -242,7 +248,7 @@ fn ask_for(
     ensures failed { parts.new.failed ≡ parts.old.failed }
 {
     let claims = [asked_claim(&parts.names, ask, what)];
-    ask_claims(alloc, parts, left, ask, &claims)
+    ask_claims(alloc, parts, left, ask, &claims, known)
 }
 
 /// Answers an ask for ranges.
@@ -252,7 +258,9 @@ fn ask_ranges(
     left: &Rooms,
     ask: &Ask,
     ranges: &[(Extent, bool)],
+    known: Option<Passage>,
 ) -> Result<Answer, AllocError>
+    requires known { IsKnown known (state_of parts.old) (asked_claims ask.now (asked_whats (Ranges ranges.now)) parts.old.names) }
     requires fit { IsFitAct ask.now.owner ask.now.blocking (Ranges ranges.now) }
     requires client { is_client ask.now.owner ask.now.party ≡ true }
     requires own { may_hold_all ask.now.owner ranges.now ≡ true }
@@ -263,7 +271,7 @@ fn ask_ranges(
     ensures failed { parts.new.failed ≡ parts.old.failed }
 {
     let claims = asked_claims(alloc, &parts.names, ask, ranges)?;
-    ask_claims(alloc, parts, left, ask, &claims)
+    ask_claims(alloc, parts, left, ask, &claims, known)
 }
 
 /// Answers a wish by itself.
@@ -286,14 +294,16 @@ fn wish_alone(parts: &mut Parts, left: &Rooms, ask: &Ask) -> Result<Answer, Allo
     Ok(Answer::Granted(claim))
 }
 
-/// Answers an ask, once its way is made.
+/// Answers an ask, once its way is made, of which it may be known how it stands.
 #[tactic(auto, unfolding(crate::specs::Decide::decided))]
 fn decided(
     alloc: Global,
     parts: &mut Parts,
     left: &Rooms,
     request: &Ask,
+    known: Option<Passage>,
 ) -> Result<Answer, AllocError>
+    requires known { IsKnown known (state_of parts.old) (asked_claims request.now (asked_whats request.now.act) parts.old.names) }
     requires fit { IsFit request.now }
     requires good { IsGood (state_of parts.old) }
     requires numbers { parts.old.counter + 1 < 2 ^ 32 }
@@ -303,9 +313,10 @@ fn decided(
 {
     match &request.act {
         Act::Share(access, deny) => {
-            ask_for(alloc, parts, left, request, What::Share(*access, *deny))
+            let what = What::Share(*access, *deny);
+            ask_for(alloc, parts, left, request, what, known)
         }
-        Act::Ranges(ranges) => ask_ranges(alloc, parts, left, request, ranges.as_slice()),
+        Act::Ranges(ranges) => { ask_ranges(alloc, parts, left, request, ranges.as_slice(), known) }
         Act::Test(extent, exclusive) => {
             let claim = known_claim(&parts.names, request, *extent, *exclusive);
             test(alloc, parts, request, &claim)
@@ -318,24 +329,26 @@ fn decided(
     }
 }
 
-/// Begins the breaks that an ask begins, and gives their effects.
+/// Begins the breaks that an ask begins, and gives their effects, and how its way stands then, if a cache stands on its
+/// file.
 #[tactic(auto, unfolding(crate::specs::Ways::made_way))]
 fn make_way_for(
     alloc: Global,
     parts: &mut Parts,
     left: &Rooms,
     request: &Ask,
-) -> Result<Sequence<Effect>, AllocError>
+) -> Result<(Sequence<Effect>, Option<Passage>), AllocError>
     requires fit { IsFit request.now }
     requires good { IsGood (state_of parts.old) }
     requires numbers { parts.old.counter + numbers_left < 2 ^ 32 }
-    ensures way { IfOk result (λ told. way left.now (state_of parts.old) request.now ≡ (told, state_of parts.new)) }
+    ensures way { IfOk result (λ r. way left.now (state_of parts.old) request.now ≡ (r.0, state_of parts.new)) }
+    ensures known { IfOk result (λ r. IsKnown r.1 (state_of parts.new) (asked_claims request.now (asked_whats request.now.act) parts.new.names)) }
     ensures few { OnOk result (parts.new.counter ≤ parts.old.counter + most_claims) }
     ensures made { parts.new.made ≡ parts.old.made }
     ensures failed { parts.new.failed ≡ parts.old.failed }
 {
     if !parts.table.has_cache(request.file) {
-        return Ok(Sequence::new(alloc));
+        return Ok((Sequence::new(alloc), None));
     }
     match &request.act {
         Act::Share(access, deny) => {
@@ -348,7 +361,7 @@ fn make_way_for(
             let plea = plea_of(parts, left, request);
             make_way(alloc, parts, &plea, &claims)
         }
-        _ => Ok(Sequence::new(alloc)),
+        _ => Ok((Sequence::new(alloc), None)),
     }
 }
 
@@ -373,8 +386,8 @@ pub(crate) fn answer(
     ensures made { parts.new.made ≡ parts.old.made }
     ensures failed { parts.new.failed ≡ parts.old.failed }
 {
-    let told = make_way_for(alloc, parts, left, request)?;
-    let answer = decided(alloc, parts, left, request)?;
+    let (told, known) = make_way_for(alloc, parts, left, request)?;
+    let answer = decided(alloc, parts, left, request, known)?;
     if does_wish(&request.act) {
         grant_for(alloc, parts, request.wish.as_slice(), answer)?;
     }

@@ -4,13 +4,14 @@ ghost use Rattle.std.specs.List.{AllByRecursion};
 ghost use Rattle.xl_table.specs.Held.{has_one_party, IsGrantable, IsKept};
 ghost use Rattle.xl_table.specs.Relock.{granted_claims, most_claims};
 ghost use Rattle.xl_wait.specs.declared.waiter.Waiter.{Waiter};
-ghost use Rattle.xl_core.specs.Judge.{check_grace, stopped, waits, check_held, kept_off, check_caches, check_room, at_once, judged, or_else, stop_of, first_stop, stop_left, IsRow, IsFew};
+ghost use Rattle.xl_core.specs.Blockers.{passage_of, IsKnown};
+ghost use Rattle.xl_core.specs.Judge.{check_grace, stopped, waits, check_held, kept_off, check_caches, check_room, at_once, judged, or_else, stop_of, stop_by, first_stop, stop_left, IsRow, IsFew};
 ghost use Rattle.xl_core.specs.Whole.{state_of};
 ghost use Rattle.xl_core.specs.declared.judge.Ruling.{Ruling};
 ghost use Rattle.xl_core.specs.declared.judge.Ruling.TheVariants.{Gets, Waits};
 
 use crate::ask::Answer;
-use crate::blockers::{cache_against, least_blocker};
+use crate::blockers::{Passage, cache_in, look};
 use crate::limits::passed_by_grant;
 use crate::parts::Parts;
 use std::alloc::{AllocError, Global};
@@ -79,22 +80,6 @@ fn stopped(plea: &Plea, blocker: Claim) -> Ruling
     }
 }
 
-/// What is held against the claim, and no break moves it.
-#[tactic(auto, unfolding(crate::specs::Judge::check_held))]
-fn check_held(
-    alloc: Global,
-    parts: &Parts,
-    plea: &Plea,
-    claim: &Claim,
-) -> Result<Option<Ruling>, AllocError>
-    ensures ruling { (earlier : List Waiter) → IfOk result (λ r. check_held earlier plea.now claim.now (state_of parts.now) ≡ r) }
-{
-    Ok(match least_blocker(alloc, parts, claim)? {
-        Some(blocker) => Some(stopped(plea, blocker)),
-        None => None,
-    })
-}
-
 /// Who is kept off by a cache waits for the answer to its break, if it awaits that.
 fn kept_off(plea: &Plea, cache: Claim) -> Ruling
     ensures ruling { result ≡ kept_off plea.now cache }
@@ -106,25 +91,22 @@ fn kept_off(plea: &Plea, cache: Claim) -> Ruling
     }
 }
 
-/// The caches in the way of the claim.
-#[tactic(auto, unfolding(crate::specs::Judge::check_caches))]
-fn check_caches(
-    alloc: Global,
-    parts: &Parts,
-    plea: &Plea,
-    claim: &Claim,
-) -> Result<Option<Ruling>, AllocError>
-    ensures ruling { IfOk result (λ r. check_caches plea.now claim.now (state_of parts.now) ≡ r) }
+/// What stops a claim whose way stands so, unless a limit does.
+fn stop_by(plea: &Plea, passage: &Passage) -> Option<Ruling>
+    ensures { result ≡ stop_by plea.now passage.now }
 {
-    Ok(match cache_against(alloc, parts, claim)? {
-        Some(cache) => Some(kept_off(plea, cache)),
-        None => None,
-    })
+    match passage {
+        Passage::Barred(blocker) => Some(stopped(plea, *blocker)),
+        Passage::Open(plan) => match cache_in(plan) {
+            Some(cache) => Some(kept_off(plea, cache)),
+            None => None,
+        },
+    }
 }
 
 /// What is held against the claim: what no break moves, or else a cache. Most often nothing is, or no cache stands on the file.
-#[tactic(auto, using(crate::proofs::RowLaws::nothing_held, crate::proofs::RowLaws::held_for_good))]
-fn check_claims(
+#[tactic(auto, using(crate::proofs::RowLaws::nothing_held, crate::proofs::RowLaws::held_for_good, crate::proofs::PassageLaws::stopped_so))]
+fn check_claim(
     alloc: Global,
     parts: &Parts,
     plea: &Plea,
@@ -138,10 +120,26 @@ fn check_claims(
     if !parts.table.has_cache(claim.file) {
         return Ok(Some(stopped(plea, blocker)));
     }
-    if let Some(ruling) = check_held(alloc, parts, plea, claim)? {
-        return Ok(Some(ruling));
+    let passage = look(alloc, parts, claim)?;
+    Ok(stop_by(plea, &passage))
+}
+
+/// The same, by how the way of the claim stands, if that is known.
+#[tactic(auto, using(crate::proofs::PassageLaws::stopped_so))]
+fn check_known(
+    alloc: Global,
+    parts: &Parts,
+    plea: &Plea,
+    claim: &Claim,
+    known: Option<Passage>,
+) -> Result<Option<Ruling>, AllocError>
+    requires known { IfSome known (λ passage. passage ≡ passage_of [] (state_of parts.now) claim.now) }
+    ensures ruling { (earlier : List Waiter) (later : Option Ruling) → IfOk result (λ r. or_else (check_held earlier plea.now claim.now (state_of parts.now)) (or_else (check_caches plea.now claim.now (state_of parts.now)) later) ≡ or_else r later) }
+{
+    match known {
+        Some(passage) => Ok(stop_by(plea, &passage)),
+        None => check_claim(alloc, parts, plea, claim),
     }
-    check_caches(alloc, parts, plea, claim)
 }
 
 /// What is pleaded of the claims behind the first, of which none may wait (MS-SMB2 3.3.5.14.2).
@@ -185,7 +183,9 @@ fn judge_one(
     left: &Rooms,
     plea: &Plea,
     claim: &Claim,
+    known: Option<Passage>,
 ) -> Result<Option<Ruling>, AllocError>
+    requires known { IfSome known (λ passage. passage ≡ passage_of [] (state_of parts.old) claim.now) }
     requires grantable { IsGrantable claim.now }
     requires party { AllByRecursion (λ c. has_one_party claim.now c ≡ true) parts.old.table }
     ensures stop { (earlier : List Waiter) → IfOk result (λ r. stop_of earlier left.now plea.now claim.now (state_of parts.old) ≡ r) }
@@ -197,7 +197,7 @@ fn judge_one(
     ensures made { parts.new.made ≡ parts.old.made }
     ensures failed { parts.new.failed ≡ parts.old.failed }
 {
-    if let Some(ruling) = check_claims(alloc, parts, plea, claim)? {
+    if let Some(ruling) = check_known(alloc, parts, plea, claim, known)? {
         return Ok(Some(ruling));
     }
     let change = parts.table.granted(alloc, claim)?;
@@ -209,13 +209,16 @@ fn judge_one(
 }
 
 /// What stops the first of these claims that is stopped, each once those before it are held. All of them are held then, or none.
+/// It may be known how the way of the first stands; that of each other is looked at once those before it are held.
 fn judge_row(
     alloc: Global,
     parts: &mut Parts,
     left: &Rooms,
     plea: &Plea,
     claims: &[Claim],
+    known: Option<Passage>,
 ) -> Result<Option<Ruling>, AllocError>
+    requires known { IsKnown known (state_of parts.old) claims.now }
     requires row { IsRow claims.now }
     requires party { AllByRecursion (λ c. AllByRecursion (λ d. has_one_party c d ≡ true) parts.old.table) claims.now }
     ensures stop { (earlier : List Waiter) → IfOk result (λ r. first_stop earlier left.now plea.now claims.now (state_of parts.old) ≡ r) }
@@ -229,17 +232,18 @@ fn judge_row(
     let [claim, rest @ ..] = claims else {
         return Ok(None);
     };
-    if let Some(ruling) = judge_one(alloc, parts, left, plea, claim)? {
+    if let Some(ruling) = judge_one(alloc, parts, left, plea, claim, known)? {
         return Ok(Some(ruling));
     }
-    if let Some(ruling) = judge_row(alloc, parts, left, &at_once(plea), rest)? {
+    if let Some(ruling) = judge_row(alloc, parts, left, &at_once(plea), rest, None)? {
         parts.table.take_back(claim);
         return Ok(Some(ruling));
     }
     Ok(None)
 }
 
-/// What comes of a plea for these claims, of which there is one at least. Only what is held changes.
+/// What comes of a plea for these claims, of which there is one at least. It may be known how the way of the first stands.
+/// Only what is held changes.
 #[tactic(auto, unfolding(crate::specs::Judge::judged, crate::specs::Judge::check_row, crate::specs::Judge::record_name, crate::specs::Judge::enter_all))]
 pub(crate) fn judge_all(
     alloc: Global,
@@ -247,7 +251,9 @@ pub(crate) fn judge_all(
     left: &Rooms,
     plea: &Plea,
     claims: &[Claim],
+    known: Option<Passage>,
 ) -> Result<Ruling, AllocError>
+    requires known { IsKnown known (state_of parts.old) claims.now }
     requires row { IsRow claims.now }
     requires party { AllByRecursion (λ c. AllByRecursion (λ d. has_one_party c d ≡ true) parts.old.table) claims.now }
     ensures judged { (n : ℕ) (earlier : List Waiter) → IfOk result (λ r. judged n earlier left.now plea.now claims.now (state_of parts.old) ≡ (r, [], state_of parts.new)) }
@@ -262,7 +268,7 @@ pub(crate) fn judge_all(
     if let Some(ruling) = check_grace(parts, plea) {
         return Ok(ruling);
     }
-    if let Some(ruling) = judge_row(alloc, parts, left, plea, claims)? {
+    if let Some(ruling) = judge_row(alloc, parts, left, plea, claims, known)? {
         return Ok(ruling);
     }
     Ok(Ruling::Gets)

@@ -2,14 +2,14 @@
 ghost use Rattle.std.specs.Prelude.{◌≡◌, ◌+◌, ◌<◌, ◌^◌, ℕ, List, [], ◌∷◌, Ok, None, option_copied, option_map, IfOk};
 ghost use Rattle.xl_base.specs.Limits.{numbers_left};
 ghost use Rattle.xl_wait.specs.declared.waiter.Waiter.{Waiter};
-ghost use Rattle.xl_core.specs.Good.{AllBehind, is_held_up, holds_up, IsGood};
+ghost use Rattle.xl_core.specs.Good.{AllBehind, holds_back, is_held_up, holds_up, IsGood};
 ghost use Rattle.xl_core.specs.Settle.{plea_again, all_of, turned, settle, called_of, first_called};
 ghost use Rattle.xl_core.specs.Unsettled.{stays_up, first_free, called_at, IsHeldUp, AreHeldUp};
 ghost use Rattle.xl_core.specs.declared.unsettled.Unsettled.TheVariants.{Files};
 ghost use Rattle.xl_core.specs.Whole.{state_of};
 
 use crate::ask::{Answer, Effect};
-use crate::blockers::{all_run, is_stopped};
+use crate::blockers::{Passage, first_broken, look};
 use crate::judge::{Plea, Ruling, judge_all};
 use crate::parts::Parts;
 use crate::unsettled::{Unsettled, is_among, only_file};
@@ -50,6 +50,17 @@ fn plea_again(parts: &Parts, waiter: &Waiter) -> Plea
     }
 }
 
+/// Whether the waiter waits on where the way of its claim stands so: barred, if it waits for that, or open with no break to
+/// begin.
+fn holds_back(waiter: &Waiter, passage: &Passage) -> bool
+    ensures { result ≡ holds_back waiter.now passage.now }
+{
+    match passage {
+        Passage::Barred(_) => waiter.blocking,
+        Passage::Open(plan) => first_broken(plan.breaks.as_slice()).is_none(),
+    }
+}
+
 /// Whether something held blocks the claim: for good, if the waiter waits for that, or caches alone, all of whose
 /// breaks run.
 fn is_held_up(
@@ -63,10 +74,11 @@ fn is_held_up(
     if !parts.table.is_blocked(claim) {
         return Ok(false);
     }
-    if !parts.table.has_cache(claim.file) || is_stopped(alloc, parts, claim)? {
+    if !parts.table.has_cache(claim.file) {
         return Ok(waiter.blocking);
     }
-    all_run(alloc, parts, claim)
+    let passage = look(alloc, parts, claim)?;
+    Ok(holds_back(waiter, &passage))
 }
 
 /// Whether the first claim that the waiter asks for is held up.
@@ -254,7 +266,14 @@ pub(crate) fn settle(
     let Some(called) = next_called(alloc, parts, unsettled)? else {
         return Ok(None);
     };
-    let begun = make_way(alloc, parts, &called.plea, called.asked.as_slice())?;
-    let ruling = judge_all(alloc, parts, left, &called.plea, called.asked.as_slice())?;
+    let (begun, known) = make_way(alloc, parts, &called.plea, called.asked.as_slice())?;
+    let ruling = judge_all(
+        alloc,
+        parts,
+        left,
+        &called.plea,
+        called.asked.as_slice(),
+        known,
+    )?;
     Ok(Some(serve(alloc, parts, &called, ruling, begun)?))
 }

@@ -11,7 +11,8 @@ use Rattle.xl_matrix.specs.declared.claim.What.{What}
 use Rattle.xl_matrix.specs.declared.claim.What.TheVariants.{Share, Range, Cache}
 use Rattle.xl_matrix.specs.Blocks.{is_met}
 use Rattle.xl_matrix.specs.Matrix.{compat, fit_by}
-use Rattle.xl_table.specs.Flat.{blocks, is_blocked, locks_by, holder_from}
+use Rattle.xl_matrix.specs.Blocks.{is_cache}
+use Rattle.xl_table.specs.Flat.{blocks, is_blocked, may_obstruct, locks_by, holder_from}
 use Rattle.xl_table.specs.Clear.{is_clear}
 use Rattle.xl_table.specs.declared.bounds.Bounds.{Bounds}
 use Rattle.xl_table.specs.Bounds.{is_past, IsWithin, AreWithin}
@@ -70,6 +71,10 @@ past_one (Cache x y) w b h within = cc
 past_all : (asked : What) (b : Bounds) (cs : List Claim) → is_past asked b ≡ true → AreWithin b cs → AllByRecursion (λ c. is_clear asked c.what ≡ true) cs
 past_all asked b cs h all = all_weaker (λ c. IsWithin b c.what) (λ c. is_clear asked c.what ≡ true) cs (λ c within. past_one asked c.what b h within) all
 
+and_no : (a : Bool) → (a && false) ≡ false
+and_no true = refl
+and_no false = refl
+
 none_there : (ask : Claim) (cs : List Claim) → AllByRecursion (λ c. is_clear ask.what c.what ≡ true) cs → filter (λ held. blocks ask held) cs ≡ []
 none_there ask [] all = refl
 none_there ask (c ∷ cs) all = rw (clear_none ask c all.0) (none_there ask cs all.1)
@@ -83,6 +88,24 @@ pub past_is_none : (ask : Claim) (cs found : List Claim) (b : Bool) (bounds : Bo
 past_is_none ask cs found b bounds all e h =
     sym (ap (λ (ds : List Claim). found ++ ds) (none_there ask cs (past_all ask.what bounds cs (sym e ∙ h) all)) ∙ append-nil found)
 
+-- nor is one of them a cache
+clear_no_cache : (asked w : What) → is_clear asked w ≡ true → is_cache w ≡ false
+clear_no_cache (Range (Bytes first last) exclusive) (Range (Bytes start end) alone) h = refl
+clear_no_cache (Range (Bytes first last) exclusive) (Range (Empty offset) alone) h = refl
+clear_no_cache (Range (Bytes first last) exclusive) (Share x y) h = refl
+clear_no_cache (Range (Bytes first last) exclusive) (Cache x y) h = cc
+clear_no_cache (Range (Empty offset) exclusive) w h = cc
+clear_no_cache (Share x y) w h = cc
+clear_no_cache (Cache x y) w h = cc
+
+none_obstructs : (ask : Claim) (cs : List Claim) → AllByRecursion (λ c. is_clear ask.what c.what ≡ true) cs → filter (may_obstruct ask) cs ≡ []
+none_obstructs ask [] all = refl
+none_obstructs ask (c ∷ cs) all = rw (clear_none ask c all.0, clear_no_cache ask.what c.what all.0, and_no (c.file == ask.file)) (none_obstructs ask cs all.1)
+
+pub past_obstructs_none : (ask : Claim) (cs found : List Claim) (b : Bool) (bounds : Bounds) → AreWithin bounds cs → b ≡ is_past ask.what bounds → b ≡ true → found ≡ found ++ filter (may_obstruct ask) cs
+past_obstructs_none ask cs found b bounds all e h =
+    sym (ap (λ (ds : List Claim). found ++ ds) (none_obstructs ask cs (past_all ask.what bounds cs (sym e ∙ h) all)) ∙ append-nil found)
+
 pub past_is_free : (ask : Claim) (cs : List Claim) (b : Bool) (bounds : Bounds) → AreWithin bounds cs → b ≡ is_past ask.what bounds → b ≡ true → false ≡ is_blocked cs ask
 past_is_free ask cs b bounds all e h = sym (free_there ask cs (past_all ask.what bounds cs (sym e ∙ h) all))
 
@@ -93,10 +116,6 @@ unlocked_one byte (Range (Bytes start end) x) h = grind (arith, nat_tests)
 unlocked_one byte (Range (Empty offset) x) h = cc
 unlocked_one byte (Share p q) h = cc
 unlocked_one byte (Cache p q) h = cc
-
-and_no : (a : Bool) → (a && false) ≡ false
-and_no true = refl
-and_no false = refl
 
 none_locks : (least : Option Claim) (file byte : ℕ) (cs : List Claim) → AllByRecursion (λ c. is_clear (Range (Bytes byte byte) true) c.what ≡ true) cs → holder_from least file byte cs ≡ least
 none_locks least file byte [] all = refl

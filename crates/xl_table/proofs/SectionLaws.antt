@@ -19,7 +19,7 @@ use Rattle.xl_matrix.specs.Matrix.{compat}
 use Rattle.xl_matrix.proofs.EqualLaws.{eqb-sym}
 use Rattle.xl_table.specs.Order.{no_later, owner_key, place_in_group, key_by, key, goes_first}
 use Rattle.xl_table.specs.Files.{here}
-use Rattle.xl_table.specs.Flat.{is_own, blocks, is_blocked}
+use Rattle.xl_table.specs.Flat.{is_own, blocks, is_blocked, may_obstruct}
 use Rattle.xl_table.specs.Held.{is_range, is_share, is_cache, is_of, with_span, spans_of}
 use Rattle.xl_table.specs.Relock.{is_range_of, is_share_of}
 use Rattle.xl_table.specs.Sections.{group, starts, is_no_later_than, is_before, is_upto, spans_in}
@@ -287,6 +287,10 @@ blocks_there ask c other =
 
 pub blocks_on_file : (ask : Claim) (cs out list : List Claim) → list ≡ filter (λ held. blocks ask held) out → out ≡ filter (λ c. c.file == ask.file) cs → list ≡ filter (λ held. blocks ask held) cs
 blocks_on_file ask cs out list e is = e ∙ ap (λ (ds : List Claim). filter (λ held. blocks ask held) ds) is ∙ filter_within (λ held. blocks ask held) (λ c. c.file == ask.file) cs (blocks_there ask)
+
+pub obstacles_on_file : (ask : Claim) (cs out list : List Claim) → list ≡ filter (may_obstruct ask) out → out ≡ filter (λ c. c.file == ask.file) cs → list ≡ filter (may_obstruct ask) cs
+obstacles_on_file ask cs out list e is =
+    e ∙ ap (λ (ds : List Claim). filter (may_obstruct ask) ds) is ∙ filter_within (may_obstruct ask) (λ c. c.file == ask.file) cs (λ c other. rw (blocks_there ask c other, other) refl)
 
 pub blocked_on_file : (ask : Claim) (cs out : List Claim) → out ≡ filter (λ c. c.file == ask.file) cs → is_blocked out ask ≡ is_blocked cs ask
 blocked_on_file ask cs out is = ap (λ (ds : List Claim). is_blocked ds ask) is ∙ any_within (λ held. blocks ask held) (λ c. c.file == ask.file) cs (blocks_there ask)

@@ -1,5 +1,5 @@
 -- What a table of claims answers, on the flat list of its claims.
-use Rattle.std.specs.Prelude.{ℕ, Bool, false, ◌&&◌, ◌==◌, nat_le, List, [], ◌∷◌, Option, Some, None, if◌then◌else◌}
+use Rattle.std.specs.Prelude.{ℕ, Bool, false, ◌&&◌, ◌||◌, ◌==◌, nat_le, List, [], ◌∷◌, Option, Some, None, if◌then◌else◌}
 use Rattle.std.specs.List.{list_any}
 use Rattle.xl_base.specs.Lists.{placed}
 use Rattle.xl_base.specs.declared.event.Moment.{Moment}
@@ -10,6 +10,7 @@ use Rattle.xl_matrix.specs.declared.claim.Claim.{Claim}
 use Rattle.xl_matrix.specs.Extents.{has_byte}
 use Rattle.xl_matrix.specs.Equal.{same_claims}
 pub use Rattle.xl_matrix.specs.Blocks.{is_replaced, is_own, is_met, is_met_by_own}
+use Rattle.xl_matrix.specs.Blocks.{is_cache}
 unfoldable pub use Rattle.xl_matrix.specs.Blocks.{blocks}
 use Rattle.xl_table.specs.Order.{goes_first, no_later}
 
@@ -33,6 +34,10 @@ changed claim to held = inserted (with_what claim to) (removed claim held)
 -- something held blocks the claim
 abbrev pub is_blocked : List Claim → Claim → Bool
 is_blocked held claim = list_any (λ c. blocks claim c) held
+
+-- the held claim may stand in the ask's way: it blocks the ask, or is a cache on its file
+abbrev pub may_obstruct : Claim → Claim → Bool
+may_obstruct ask held = blocks ask held || ((held.file == ask.file) && is_cache held.what)
 
 -- the claim's break runs, and its answer is due
 abbrev pub due_by : What → ℕ → Bool

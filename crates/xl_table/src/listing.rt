@@ -4,7 +4,7 @@ ghost use Rattle.std.specs.List.{filter, list_any};
 ghost use Rattle.xl_matrix.specs.Equal.{same_parties};
 ghost use Rattle.xl_table.specs.Files.{joined, IsFiled};
 ghost use Rattle.xl_table.specs.Pages.{paged, AreFull};
-ghost use Rattle.xl_table.specs.Flat.{blocks, is_blocked, is_due};
+ghost use Rattle.xl_table.specs.Flat.{blocks, is_blocked, may_obstruct, is_due};
 ghost use Rattle.xl_table.specs.Held.{is_range, most_claims};
 ghost use Rattle.xl_table.specs.Leaving.{goes};
 ghost use Rattle.xl_table.specs.Clear.{lies_apart, is_clear};
@@ -17,7 +17,7 @@ use std::alloc::{AllocError, Global};
 use std::marker::Brand;
 use std::sync::ledger::{Blank, Ledger};
 use xl_base::{Moment, Party};
-use xl_matrix::{Claim, Extent, What, is_blocked_by, same_party};
+use xl_matrix::{Claim, Extent, What, is_a_cache, is_blocked_by, same_party};
 use xl_steps::Steps;
 
 /// Whether a range with bytes is claimed that has none of these.
@@ -143,6 +143,55 @@ pub(crate) fn list_blockers(
     ensures { IfOk result (λ v. v.items ≡ filter (λ held. blocks ask.now held) (joined lists.now)) }
 {
     list_blockers_by::<Brand>(alloc, lists, ask, Blank::new(1))
+}
+
+/// Whether the held claim blocks the ask, or is a cache on its file.
+fn may_obstruct(ask: &Claim, held: &Claim) -> bool
+    ensures { result ≡ may_obstruct ask.now held.now }
+{
+    blocks(ask, held) || (held.file == ask.file && is_a_cache(held.what))
+}
+
+/// Adds those of these claims that block the ask, and the caches on its file.
+pub(crate) fn push_obstacles(
+    found: &mut Vec<Claim>,
+    claims: &[Claim],
+    ask: &Claim,
+) -> Result<(), AllocError>
+    ensures { OnOk result (found.new.items ≡ found.old.items ++ filter (may_obstruct ask.now) claims.now) }
+{
+    for held in claims {
+        if may_obstruct(ask, held) {
+            found.push(*held)?;
+        }
+    }
+    Ok(())
+}
+
+/// Adds those of the claims in these pages.
+#[tactic(auto, using(crate::proofs::FileLaws::filtered_both))]
+fn push_obstacles_in(found: &mut Vec<Claim>, pages: &[Page], ask: &Claim) -> Result<(), AllocError>
+    ensures { OnOk result (found.new.items ≡ found.old.items ++ filter (may_obstruct ask.now) (paged pages.now)) }
+{
+    if let [page, rest @ ..] = pages {
+        page.push_obstacles(found, ask)?;
+        push_obstacles_in(found, rest, ask)?;
+    }
+    Ok(())
+}
+
+/// Those that block the ask, and the caches on its file.
+pub(crate) fn list_obstacles(
+    alloc: Global,
+    lists: &[OnFile],
+    ask: &Claim,
+) -> Result<Vec<Claim>, AllocError>
+    requires { IsFiled lists.now }
+    ensures { IfOk result (λ v. v.items ≡ filter (may_obstruct ask.now) (joined lists.now)) }
+{
+    let mut found = Vec::new(alloc);
+    push_obstacles_in(&mut found, on_file(lists, ask.file), ask)?;
+    Ok(found)
 }
 
 pub(crate) fn any_blocks(claims: &[Claim], ask: &Claim) -> bool

@@ -2,7 +2,7 @@
 ghost use Rattle.std.specs.Prelude.{◌≡◌, ℕ, ◌+◌, ◌<◌, ◌≤◌, ◌++◌, ◌∷◌, [], not, length, take, drop, IfOk, OnOk, OnErr, IfSome, slice_range};
 ghost use Rattle.std.specs.List.{filter, list_any, prefix_len, slice_get};
 ghost use Rattle.std.proofs.Math.ListN.{set};
-ghost use Rattle.xl_table.specs.Flat.{blocks, is_blocked, is_due, holder_from};
+ghost use Rattle.xl_table.specs.Flat.{blocks, is_blocked, may_obstruct, is_due, holder_from};
 ghost use Rattle.xl_table.specs.Leaving.{goes};
 ghost use Rattle.xl_table.specs.Pages.{passes, passes_side, ends};
 ghost use Rattle.xl_table.specs.Held.{is_cache};
@@ -14,7 +14,7 @@ use crate::change::{put_all, take_between};
 use crate::due::is_asleep;
 use crate::holding::holder_with;
 use crate::leaver::Leaver;
-use crate::listing::{any_blocks, drop_from, push_blockers, push_due};
+use crate::listing::{any_blocks, drop_from, push_blockers, push_due, push_obstacles};
 use crate::marks::Mark;
 use crate::ordering::{Side, key_of, side_of};
 use crate::relock::{begins_by, ends_before};
@@ -295,6 +295,21 @@ impl Page {
             return Ok(());
         }
         push_blockers(found, self.claims.as_slice(), ask, steps)?;
+        Ok(())
+    }
+
+    /// Adds those of the claims that block the ask, and the caches on its file.
+    pub(crate) fn push_obstacles(
+        &self,
+        found: &mut Vec<Claim>,
+        ask: &Claim,
+    ) -> Result<(), AllocError>
+        ensures { OnOk result (found.new.items ≡ found.old.items ++ filter (may_obstruct ask.now) self.now) }
+    {
+        if is_past(ask.what, self.bounds) {
+            return Ok(());
+        }
+        push_obstacles(found, self.claims.as_slice(), ask)?;
         Ok(())
     }
 

@@ -13,6 +13,7 @@ use crate::leaver::Leaver;
 use crate::leaving::{drop_leaver, list_party, next_left};
 use crate::listing::{
     is_blocked, keep_ranges, list_all, list_blockers, list_blockers_in, list_due, list_file,
+    list_obstacles,
 };
 use crate::placing::{is_held, put, replace, take_back, take_out};
 use crate::relock::spans_in;
@@ -90,7 +91,7 @@ impl Table {
     ghost use Rattle.xl_matrix.specs.Equal.{same_parties};
     ghost use Rattle.xl_table.specs.Order.{no_later};
     ghost use Rattle.xl_matrix.specs.Owners.{posix};
-    ghost use Rattle.xl_table.specs.Flat.{inserted, removed, changed, blocks, is_blocked, is_due, locks, range_key, holder};
+    ghost use Rattle.xl_table.specs.Flat.{inserted, removed, changed, blocks, is_blocked, may_obstruct, is_due, locks, range_key, holder};
     ghost use Rattle.xl_table.specs.Held.{is_range, is_share, is_cache, has_one_party, spans_of, IsGrantable, IsSound, IsKept};
     ghost use Rattle.xl_table.specs.Leaving.{goes, IsNextLeft};
     ghost use Rattle.xl_table.specs.Relock.{is_share_of, holds_byte, holds_range, relocked_in, granted_claims, most_claims};
@@ -158,6 +159,14 @@ impl Table {
         ensures few { steps.new ≤ steps.old + length (filter (λ held. held.file == ask.now.file) self.now) }
     {
         list_blockers_in(alloc, &self.lists, ask, steps)
+    }
+
+    /// The held claims that may stand in the ask's way: those that block it, and the caches on its file; in the table's
+    /// order.
+    pub fn obstacles(&self, alloc: Global, ask: &Claim) -> Result<Vec<Claim>, AllocError>
+        ensures { IfOk result (λ v. v.items ≡ filter (may_obstruct ask.now) self.now) }
+    {
+        list_obstacles(alloc, &self.lists, ask)
     }
 
     /// Whether something held blocks the ask. It takes no memory.

@@ -6,10 +6,10 @@ use std::alloc::{AllocError, Global};
 use std::str::Split;
 use xl_base::Sequence;
 use xl_cache::{
-    BreakPlan, CacheKind, Need, Wish, answer_needed, best, best_join, guards, is_final_blocker,
-    is_oplock_party, is_share_covered, join, kind_for, kind_in_lease, kinds_go_by_party,
-    lease_kinds_have_states, lease_state, leaves_what_all_leave, oplock_level, plan_breaks,
-    recalled, rest_within, target, wish_of_lease, wish_of_oplock,
+    BreakPlan, CacheKind, Need, Wish, answer_needed, best, best_join, final_blockers, guards,
+    is_final_blocker, is_oplock_party, is_share_covered, join, kind_for, kind_in_lease,
+    kinds_go_by_party, lease_kinds_have_states, lease_state, leaves_what_all_leave, oplock_level,
+    plan_breaks, recalled, rest_within, target, wish_of_lease, wish_of_oplock,
 };
 use xl_matrix::{Claim, What, is_a_cache, is_a_range, is_a_share, is_blocked_by, same_claim};
 
@@ -71,31 +71,33 @@ pub(super) fn is_target(row: &str) -> bool {
 }
 
 /// What is asked; what is held; the places there of the caches that are broken, with what is left; the place of the
-/// cache whose break runs already and is waited for; and the place of the one that is recalled. `open` and `lease` have
+/// cache whose break runs already and is waited for; the place of the one that is recalled; and that of the first that is held
+/// once the breaks have begun. `open` and `lease` have
 /// leases, `other` is an open without one.
 pub(super) const PLANS: &str = "\
-nfs share r -|other share rw -;other cache RWH|1>R|-|1
-nfs share r -|open share rw -;open cache RWH|1>RH|-|1
-nfs share r -|open share r r;open cache RWH|1>R|-|1
-nfs share w -|open share r w;open cache RH|1>R|-|1
-nfs share w -|open share r -;open cache RH||-|-
-nfs share w -|other share r w;other cache RW|1>R|-|1
-nfs share - -|other cache RW||-|-
-nfs lock 0 9|other cache R;open cache RH|0>- 1>-|-|1
-nfs lock 0 9|other cache R;open cache R|0>- 1>-|-|-
-nfs read 0 9|client cache read|0>-|-|0
-open share r -|client share w -;client cache write|1>-|-|1
-open share r -|client cache read||-|-
-open share w -|client cache read|0>-|-|0
-open share w -|client share r w;client cache read|1>-|-|1
-open share w -|lease cache RWH;client share r w;lease share r w|0>R|-|0
-open share w -|open cache RWH;open share rw -||-|-
-nlm lock 0 0|nlm read 0 9;other cache R|1>-|-|-
-nfs share r -|open break RWH 7||0|0
-nfs share w -|open share r w;open break RH 7||1|1
-nfs lock 0 9|other cache R;open break RWH 7;lease cache RH|0>- 2>-|1|1
-open share w -|away cache write||-|-
-open share w -|away share r w;client cache R||-|-";
+nfs share r -|other share rw -;other cache RWH|1>R|-|1|1
+nfs share r -|open share rw -;open cache RWH|1>RH|-|1|1
+nfs share r -|open share r r;open cache RWH|1>R|-|1|1
+nfs share w -|open share r w;open cache RH|1>R|-|1|1
+nfs share w -|open share r -;open cache RH||-|-|-
+nfs share w -|other share r w;other cache RW|1>R|-|1|1
+nfs share - -|other cache RW||-|-|-
+nfs lock 0 9|other cache R;open cache RH|0>- 1>-|-|1|1
+nfs lock 0 9|other cache R;open cache R|0>- 1>-|-|-|-
+nfs read 0 9|client cache read|0>-|-|0|0
+open share r -|client share w -;client cache write|1>-|-|1|1
+open share r -|client cache read||-|-|-
+open share w -|client cache read|0>-|-|0|0
+open share w -|client share r w;client cache read|1>-|-|1|1
+open share w -|lease cache RWH;client share r w;lease share r w|0>R|-|0|0
+open share w -|open cache RWH;open share rw -||-|-|-
+nlm lock 0 0|nlm read 0 9;other cache R|1>-|-|-|-
+nfs share r -|open break RWH 7||0|0|0
+nfs share w -|open share r w;open break RH 7||1|1|1
+nfs lock 0 9|other cache R;open break RWH 7;lease cache RH|0>- 2>-|1|1|1
+open share w -|away cache write||-|-|-
+open share w -|away share r w;client cache R||-|-|-
+nfs lock 0 9|other cache RH;open break RWH 7|0>-|1|1|0";
 
 fn claims_in(alloc: Global, rows: &str) -> Result<Vec<Claim>, AllocError> {
     let mut claims = Vec::new(alloc);
@@ -141,6 +143,7 @@ fn is_plan(held: &[Claim], plan: &BreakPlan, words: &mut Split<'_, char>) -> boo
     are_breaks(held, plan.breaks.as_slice(), next(words))
         && is_at(held, plan.awaited, next(words))
         && is_at(held, recalled(plan), next(words))
+        && is_at(held, plan.left, next(words))
 }
 
 pub(super) fn plans(alloc: Global, row: &str) -> Result<bool, AllocError> {
@@ -163,12 +166,17 @@ nfs share w -|open share r -;open cache RH|no|yes|no
 nfs lock 0 9|open lock 0 9;open cache RWH|yes|no|yes
 nfs lock 0 9|open cache RWH;open share r w|yes|no|no";
 
-fn is_blocker(ask: &Claim, held: &[Claim], words: &mut Split<'_, char>) -> bool {
+fn has_claim(claims: &[Claim], claim: &Claim) -> bool {
+    claims.iter().any(|other| same_claim(other, claim))
+}
+
+fn is_blocker(ask: &Claim, held: &[Claim], finals: &[Claim], words: &mut Split<'_, char>) -> bool {
     match held.first() {
         None => false,
         Some(first) => is_blocked_by(ask, first) == (next(words) == "yes")
             && is_share_covered(ask, held, first) == (next(words) == "yes")
-            && is_final_blocker(ask, held, first) == (next(words) == "yes"),
+            && is_final_blocker(ask, held, first) == (next(words) == "yes")
+            && has_claim(finals, first) == is_final_blocker(ask, held, first),
     }
 }
 
@@ -176,7 +184,8 @@ pub(super) fn blocks(alloc: Global, row: &str) -> Result<bool, AllocError> {
     let mut words = row.split('|');
     let ask = claim_in(next(&mut words));
     let held = claims_in(alloc, next(&mut words))?;
-    Ok(is_blocker(&ask, &held, &mut words))
+    let finals = final_blockers(alloc, &ask, &held)?;
+    Ok(is_blocker(&ask, &held, &finals, &mut words))
 }
 
 fn is_guarded(what: What) -> bool {

@@ -1,18 +1,25 @@
 use Rattle.std.proofs.Common.{rules, [], Ok, ap}
 use Rattle.xl_core.specs.Whole.{state_of}
 use Rattle.xl_core.proofs.DoorLaws.{head_rest, none_left, rest_row, rest_alone, came_behind, came_last, back_state, ahead_state}
+use Rattle.xl_core.proofs.PassageLaws.{known_first}
 use Rattle.xl_core.proofs.judge.+judge_row.Goals as goal
 
 pub returns-in_default-clause-state : goal.returns-in_default-clause-state
 returns-in_default-clause-state t c = none_left c.args.claims.now (state_of c.args.parts.now) c.in_default.len_below
+
+pub judge_one-requires-clause-known : goal.judge_one-requires-clause-known
+judge_one-requires-clause-known t c = known_first c.args.known (state_of c.args.parts.now) c.args.claims.now _ _ (head_rest c.args.claims.now _ c.in-len1-up.len_at_least) c.requires.known
 
 pub judge_row-requires : goal.judge_row-requires
 judge_row-requires t c =
     let is = head_rest c.args.claims.now _ c.in-len1-up.len_at_least in (
       search rules,
       (
-        rest_row c.args.claims.now _ _ is c.requires.row,
-        rest_alone c.args.parts.now c.judge_one.new.parts c.args.claims.now _ _ c.in_ok-ruling.field-0 is c.requires.row c.requires.party c.in_ok-ruling.ensures.state c.in_default-2.is,
+        tt,
+        (
+          rest_row c.args.claims.now _ _ is c.requires.row,
+          rest_alone c.args.parts.now c.judge_one.new.parts c.args.claims.now _ _ c.in_ok-ruling.field-0 is c.requires.row c.requires.party c.in_ok-ruling.ensures.state c.in_default-2.is,
+        ),
       ),
     )
 

@@ -1,13 +1,14 @@
-use Rattle.std.proofs.Common.{◌≡◌, true, false, [], List, ap, sym, subst, ◌∙◌}
+use Rattle.std.proofs.Common.{◌≡◌, true, [], List, ap, sym, subst, ◌∙◌}
 use Rattle.std.specs.List.{AllByRecursion}
 use Rattle.xl_matrix.specs.declared.claim.Claim.{Claim}
-use Rattle.xl_table.specs.Held.{is_cache, has_one_party}
+use Rattle.xl_table.specs.Held.{has_one_party}
+use Rattle.xl_core.specs.Blockers.{IsKnown}
 use Rattle.xl_core.specs.Judge.{IsRow, judged}
 use Rattle.xl_core.specs.Settle.{settle}
 use Rattle.xl_core.specs.Whole.{state_of}
 use Rattle.xl_core.specs.Ways.{made_way}
 use Rattle.xl_core.proofs.DoorLaws.{called_row}
-use Rattle.xl_core.proofs.WayCode.{called_no_cache, called_alone_then}
+use Rattle.xl_core.proofs.WayCode.{called_alone_then}
 use Rattle.xl_core.proofs.TurnLaws.{turn_is_found, none_is_found}
 use Rattle.xl_core.proofs.settling.settle.Goals as goal
 
@@ -17,11 +18,9 @@ returns-in_default-clause-turn c =
     λ n. none_is_found c.args.left.now (state_of c.args.parts.now) [] c.args.parts.now.queue
     (sym c.in_ok-called.ensures ∙ c.in_default.is) n
 
-pub make_way-requires-clause-locks : goal.make_way-requires-clause-locks
-make_way-requires-clause-locks c =
-    subst (λ (cs : List Claim). AllByRecursion (λ d. is_cache d.what ≡ false) cs) (sym c.as_slice.ensures)
-    (called_no_cache c.args.parts.now c.in-Some.called c.requires.good
-    (sym c.in_ok-called.ensures ∙ c.in-Some.is))
+pub judge_all-requires-clause-known : goal.judge_all-requires-clause-known
+judge_all-requires-clause-known c =
+    subst (λ (cs : List Claim). IsKnown c.in_ok-begun.known (state_of c.make_way.new.parts) cs) (c.as_slice.ensures ∙ sym c.as_slice-2.ensures) c.in_ok-begun.ensures.known
 
 pub judge_all-requires-clause-row : goal.judge_all-requires-clause-row
 judge_all-requires-clause-row c =
