@@ -21,7 +21,7 @@ use std::alloc::{AllocError, Global};
 use xl_base::{Keeper, Sequence};
 use xl_core::{Core, Effect};
 use xl_nfs::{NfsOp, NfsStatus, next_op};
-use xl_nfs_opens::{Done, ended_as, put_result};
+use xl_nfs_opens::{Done, Exported, ended_as, put_result};
 use xl_nfs_state::NfsState;
 use xl_rpc::{Xdr, XdrOut};
 
@@ -38,6 +38,15 @@ pub(crate) struct Progress {
     pub status: NfsStatus,
     /// What the core told of besides.
     pub effects: Sequence<Effect>,
+}
+
+/// So many operations, which stand at the head of these bytes.
+#[derive(Clone, Copy)]
+pub(crate) struct Ops<'a> {
+    /// The bytes.
+    pub bytes: Xdr<'a>,
+    /// How many they are.
+    pub count: u32,
 }
 
 /// Whether it is OK.
@@ -81,8 +90,7 @@ fn note(progress: &mut Progress, number: u32, done: Done) -> Result<bool, AllocE
 /// Does an operation; whether others are done behind it.
 fn do_op<K: Keeper>(
     alloc: Global,
-    files: &[Sequence<u8>],
-    others: u32,
+    exported: &Exported,
     state: &mut NfsState,
     core: &mut Core,
     keeper: &mut K,
@@ -92,7 +100,7 @@ fn do_op<K: Keeper>(
     requires ready { IsReady 4 core.old }
     requires fits { OpFits (shown_op op.now) }
     requires few { progress.old.count < most_ops }
-    ensures done { (n : ℕ) → OnOk result (MayBe n core.new → told_behind progress.old.effects (carried n core.old state.old (step_plan files.now others (course_of progress.old) core.old state.old (Runs (shown_op op.now)))) ≡ (course_of progress.new, progress.new.effects, state.new, core.new)) }
+    ensures done { (n : ℕ) → OnOk result (MayBe n core.new → told_behind progress.old.effects (carried n core.old state.old (step_plan exported.now.files.now exported.now.others (course_of progress.old) core.old state.old (Runs (shown_op op.now)))) ≡ (course_of progress.new, progress.new.effects, state.new, core.new)) }
     ensures more { IfOk result (λ more. more ≡ goes_on (course_of progress.new)) }
     ensures leaves { OnOk result (Leaves 4 core.old core.new) }
     ensures little { OnOk result (length progress.new.results ≤ length progress.old.results + most_result_bytes) }
@@ -100,16 +108,8 @@ fn do_op<K: Keeper>(
     ensures count { OnOk result (progress.new.count ≡ progress.old.count + 1) }
     ensures keeper { HandedOn keeper.old keeper.new }
 {
-    let done = serve(
-        alloc,
-        files,
-        others,
-        state,
-        core,
-        keeper,
-        progress.current,
-        op,
-    )?;
+    let current = progress.current;
+    let done = serve(alloc, exported, state, core, keeper, current, op)?;
     let more = note(progress, op.number(), done)?;
     Ok(more)
 }
@@ -147,44 +147,36 @@ fn refuse_rest(alloc: Global, progress: &mut Progress, rest: &Xdr) -> Result<(),
 #[tactic(auto, using(xl_plan::proofs::BudgetLaws::leaves_self, xl_plan::proofs::BudgetLaws::leaves_more, crate::proofs::EndingLaws::step_ready, crate::proofs::EndingLaws::steps_leave, xl_plan::proofs::BudgetLaws::may_before, crate::proofs::CourseLaws::course_none, crate::proofs::CourseLaws::course_unread, crate::proofs::CourseLaws::course_ends))]
 pub(crate) fn run_ops<K: Keeper>(
     alloc: Global,
-    files: &[Sequence<u8>],
-    others: u32,
+    exported: &Exported,
     state: &mut NfsState,
     core: &mut Core,
     keeper: &mut K,
     progress: &mut Progress,
-    args: &Xdr,
-    count: u32,
+    ops: &Ops,
 ) -> Result<(), AllocError>
-    requires ready { IsReady (4 * count) core.old }
-    requires few { progress.old.count + count ≤ most_ops }
-    ensures course { (n : ℕ) → OnOk result (MayBe n core.new → told_behind progress.old.effects (carried n core.old state.old (compound files.now others (course_of progress.old) core.old state.old (steps_in count args.now.rest.now))) ≡ (course_of progress.new, progress.new.effects, state.new, core.new)) }
-    ensures leaves { OnOk result (Leaves (4 * count) core.old core.new) }
-    ensures little { OnOk result (length progress.new.results ≤ length progress.old.results + 104 * count + most_result_bytes) }
+    requires ready { IsReady (4 * ops.now.count) core.old }
+    requires few { progress.old.count + ops.now.count ≤ most_ops }
+    ensures course { (n : ℕ) → OnOk result (MayBe n core.new → told_behind progress.old.effects (carried n core.old state.old (compound exported.now.files.now exported.now.others (course_of progress.old) core.old state.old (steps_in ops.now.count ops.now.bytes.rest.now))) ≡ (course_of progress.new, progress.new.effects, state.new, core.new)) }
+    ensures leaves { OnOk result (Leaves (4 * ops.now.count) core.old core.new) }
+    ensures little { OnOk result (length progress.new.results ≤ length progress.old.results + 104 * ops.now.count + most_result_bytes) }
     ensures keeper { HandedOn keeper.old keeper.new }
 {
-    if count == 0 {
+    if ops.count == 0 {
         return Ok(());
     }
-    let mut rest = *args;
+    let mut rest = ops.bytes;
     let Ok(op) = next_op(&mut rest) else {
-        refuse_rest(alloc, progress, args)?;
+        refuse_rest(alloc, progress, &ops.bytes)?;
         return Ok(());
     };
-    let more = do_op(alloc, files, others, state, core, keeper, progress, &op)?;
+    let more = do_op(alloc, exported, state, core, keeper, progress, &op)?;
     if !more {
         return Ok(());
     }
-    run_ops(
-        alloc,
-        files,
-        others,
-        state,
-        core,
-        keeper,
-        progress,
-        &rest,
-        count - 1,
-    )?;
+    let behind = Ops {
+        bytes: rest,
+        count: ops.count - 1,
+    };
+    run_ops(alloc, exported, state, core, keeper, progress, &behind)?;
     Ok(())
 }

@@ -13,12 +13,12 @@ use crate::confirming::set_client_id_confirm;
 use crate::handles::{get_fh, look_up, put_fh, put_root_fh};
 use crate::setting::set_client_id;
 use std::alloc::{AllocError, Global};
-use xl_base::{Keeper, Sequence};
+use xl_base::Keeper;
 use xl_core::Core;
 use xl_nfs::{NfsOp, NfsStatus};
 use xl_nfs_locks::{lock, lock_test, release, unlock};
 use xl_nfs_opens::{
-    Done, beside, close, deleg_return, ended_as, open_confirm, open_downgrade, open_file,
+    Done, Exported, beside, close, deleg_return, ended_as, open_confirm, open_downgrade, open_file,
 };
 use xl_nfs_state::NfsState;
 
@@ -26,8 +26,7 @@ use xl_nfs_state::NfsState;
 #[tactic(auto, unfolding(crate::specs::Steps::planned), using(xl_plan::proofs::BudgetLaws::leaves_self, xl_plan::proofs::BudgetLaws::leaves_more, xl_plan::proofs::BudgetLaws::ready_less))]
 pub(crate) fn serve<K: Keeper>(
     alloc: Global,
-    files: &[Sequence<u8>],
-    others: u32,
+    exported: &Exported,
     state: &mut NfsState,
     core: &mut Core,
     keeper: &mut K,
@@ -35,15 +34,15 @@ pub(crate) fn serve<K: Keeper>(
     op: &NfsOp,
 ) -> Result<Done, AllocError>
     requires ready { IsReady 4 core.old }
-    ensures done { (n : ℕ) → IfOk result (λ r. MayBe n core.new → carried n core.old state.old (planned files.now others core.old state.old current (shown_op op.now)) ≡ (r.0, r.1, r.2, state.new, core.new)) }
+    ensures done { (n : ℕ) → IfOk result (λ r. MayBe n core.new → carried n core.old state.old (planned exported.now.files.now exported.now.others core.old state.old current (shown_op op.now)) ≡ (r.0, r.1, r.2, state.new, core.new)) }
     ensures leaves { OnOk result (Leaves 4 core.old core.new) }
     ensures keeper { HandedOn keeper.old keeper.new }
 {
     match op {
         NfsOp::PutRootFh => Ok(beside(alloc, put_root_fh())),
-        NfsOp::PutFh(fh) => Ok(beside(alloc, put_fh(files.len(), current, fh))),
+        NfsOp::PutFh(fh) => Ok(beside(alloc, put_fh(exported.files.len(), current, fh))),
         NfsOp::GetFh => Ok(beside(alloc, get_fh(current))),
-        NfsOp::Lookup(name) => Ok(beside(alloc, look_up(files, current, name))),
+        NfsOp::Lookup(name) => Ok(beside(alloc, look_up(exported.files, current, name))),
         NfsOp::SetClientId(args) => {
             let done = set_client_id(alloc, state, core, current, args)?;
             Ok(done)
@@ -57,7 +56,7 @@ pub(crate) fn serve<K: Keeper>(
             Ok(done)
         }
         NfsOp::Illegal(_) => Ok(ended_as(alloc, NfsStatus::OpIllegal, current)),
-        NfsOp::Open(args) => open_file(alloc, files, others, state, core, keeper, current, args),
+        NfsOp::Open(args) => open_file(alloc, exported, state, core, keeper, current, args),
         NfsOp::OpenConfirm(args) => {
             let done = open_confirm(alloc, state, core, current, args)?;
             Ok(done)

@@ -18,17 +18,29 @@ ghost use Rattle.xl_nfs_opens.specs.Short.{Leaves};
 ghost use Rattle.xl_front_nfs.specs.State.{FrontNfs};
 ghost use Rattle.xl_front_nfs.specs.Steps.{begun, steps_in};
 
-use crate::compound::{Progress, run_ops};
+use crate::compound::{Ops, Progress, run_ops};
 use crate::front::NfsFront;
 use std::alloc::{AllocError, Global};
 use xl_base::{Exports, Keeper, Out, Sequence};
 use xl_core::{Core, Effect};
 use xl_nfs::{CompoundHead, NfsStatus, read_head};
+use xl_nfs_opens::Exported;
 use xl_programs::{Program, Request, refusal, sent_to};
 use xl_rpc::{Verdict, Xdr, XdrOut, write_reply};
 
 /// How many operations a COMPOUND has at most.
 const MOST_OPS: u32 = 64;
+
+/// A COMPOUND whose head is read, of this request.
+#[derive(Clone, Copy)]
+struct Call<'a> {
+    /// The request's number.
+    xid: u32,
+    /// The head.
+    head: CompoundHead<'a>,
+    /// What stands behind it.
+    args: Xdr<'a>,
+}
 
 /// Writes the results of a COMPOUND (COMPOUND4res): the last status, the tag, and the results behind their count.
 #[tactic(auto, unfolding(xl_nfs_opens::specs::Results::compound_results))]
@@ -87,39 +99,31 @@ fn begun(alloc: Global) -> Progress
 /// A COMPOUND is done; its operations are in these bytes.
 fn done<K: Keeper>(
     alloc: Global,
-    files: &[Sequence<u8>],
-    others: u32,
+    exported: &Exported,
     front: &mut NfsFront,
     core: &mut Core,
     keeper: &mut K,
-    xid: u32,
-    head: &CompoundHead,
-    args: &Xdr,
+    call: &Call,
 ) -> Result<(Vec<u8>, Sequence<Effect>), AllocError>
-    requires tag { length head.now.tag.now ≤ most_text_bytes }
-    requires few { head.now.count ≤ most_ops }
+    requires tag { length call.now.head.tag.now ≤ most_text_bytes }
+    requires few { call.now.head.count ≤ most_ops }
     requires ready { IsReady most_drawn core.old }
-    ensures done { (n : ℕ) → IfOk result (λ r. MayBe n core.new → with_reply xid head.now.tag.now (run n files.now others front.old core.old (steps_in head.now.count args.now.rest.now)) ≡ (r.0.items, r.1, front.new, core.new)) }
+    ensures done { (n : ℕ) → IfOk result (λ r. MayBe n core.new → with_reply call.now.xid call.now.head.tag.now (run n exported.now.files.now exported.now.others front.old core.old (steps_in call.now.head.count call.now.args.rest.now)) ≡ (r.0.items, r.1, front.new, core.new)) }
     ensures leaves { OnOk result (Leaves most_drawn core.old core.new) }
     ensures little { IfOk result (λ r. length r.0.items ≤ most_message_bytes) }
     ensures keeper { HandedOn keeper.old keeper.new }
 {
     let mut progress = begun(alloc);
-    run_ops(
-        alloc,
-        files,
-        others,
-        &mut front.state,
-        core,
-        keeper,
-        &mut progress,
-        args,
-        head.count,
-    )?;
+    let ops = Ops {
+        bytes: call.args,
+        count: call.head.count,
+    };
+    let state = &mut front.state;
+    run_ops(alloc, exported, state, core, keeper, &mut progress, &ops)?;
     let reply = compound_reply(
         alloc,
-        xid,
-        head.tag,
+        call.xid,
+        call.head.tag,
         progress.status,
         progress.count,
         &progress.results,
@@ -170,15 +174,14 @@ fn null(alloc: Global, request: &Request) -> Result<(Vec<u8>, Sequence<Effect>),
 #[tactic(auto, unfolding(xl_nfs::specs::Compounds::compound_head), using(xl_plan::proofs::BudgetLaws::leaves_self, xl_plan::proofs::BudgetLaws::leaves_more))]
 fn compound<K: Keeper>(
     alloc: Global,
-    files: &[Sequence<u8>],
-    others: u32,
+    exported: &Exported,
     front: &mut NfsFront,
     core: &mut Core,
     keeper: &mut K,
     request: &Request,
 ) -> Result<(Vec<u8>, Sequence<Effect>), AllocError>
     requires ready { IsReady most_drawn core.old }
-    ensures done { (n : ℕ) → IfOk result (λ r. MayBe n core.new → replied n files.now others front.old core.old request.now.xid (compound_in (compound_head_at request.now.arguments.rest.now)) ≡ (r.0.items, r.1, front.new, core.new)) }
+    ensures done { (n : ℕ) → IfOk result (λ r. MayBe n core.new → replied n exported.now.files.now exported.now.others front.old core.old request.now.xid (compound_in (compound_head_at request.now.arguments.rest.now)) ≡ (r.0.items, r.1, front.new, core.new)) }
     ensures leaves { OnOk result (Leaves most_drawn core.old core.new) }
     ensures little { IfOk result (λ r. length r.0.items ≤ most_message_bytes) }
     ensures keeper { HandedOn keeper.old keeper.new }
@@ -193,32 +196,23 @@ fn compound<K: Keeper>(
     if head.count > MOST_OPS {
         return refused(alloc, request.xid, head.tag, NfsStatus::Resource);
     }
-    done(
-        alloc,
-        files,
-        others,
-        front,
-        core,
-        keeper,
-        request.xid,
-        &head,
-        &args,
-    )
+    let xid = request.xid;
+    let call = Call { xid, head, args };
+    done(alloc, exported, front, core, keeper, &call)
 }
 
 /// The reply to a request.
 #[tactic(auto, unfolding(crate::specs::FrontNfs::call_in), using(xl_plan::proofs::BudgetLaws::leaves_self, xl_plan::proofs::BudgetLaws::leaves_more))]
 fn replied<K: Keeper>(
     alloc: Global,
-    files: &[Sequence<u8>],
-    others: u32,
+    exported: &Exported,
     front: &mut NfsFront,
     core: &mut Core,
     keeper: &mut K,
     request: &Request,
 ) -> Result<(Vec<u8>, Sequence<Effect>), AllocError>
     requires ready { IsReady most_drawn core.old }
-    ensures done { (n : ℕ) → IfOk result (λ r. MayBe n core.new → replied n files.now others front.old core.old request.now.xid (call_in (shown_request request.now)) ≡ (r.0.items, r.1, front.new, core.new)) }
+    ensures done { (n : ℕ) → IfOk result (λ r. MayBe n core.new → replied n exported.now.files.now exported.now.others front.old core.old request.now.xid (call_in (shown_request request.now)) ≡ (r.0.items, r.1, front.new, core.new)) }
     ensures leaves { OnOk result (Leaves most_drawn core.old core.new) }
     ensures little { IfOk result (λ r. length r.0.items ≤ most_message_bytes) }
     ensures keeper { HandedOn keeper.old keeper.new }
@@ -227,7 +221,7 @@ fn replied<K: Keeper>(
         let done = null(alloc, request)?;
         Ok(done)
     } else {
-        let done = compound(alloc, files, others, front, core, keeper, request)?;
+        let done = compound(alloc, exported, front, core, keeper, request)?;
         Ok(done)
     }
 }
@@ -258,14 +252,8 @@ pub fn nfs_step<K: Keeper>(
     ensures little { IfOk result (λ r. AllByRecursion FitsFrame r.0) }
     ensures keeper { HandedOn keeper.old keeper.new }
 {
-    let (reply, effects) = replied(
-        alloc,
-        exports.files.as_slice(),
-        others,
-        front,
-        core,
-        keeper,
-        request,
-    )?;
+    let files = exports.files.as_slice();
+    let exported = Exported { files, others };
+    let (reply, effects) = replied(alloc, &exported, front, core, keeper, request)?;
     Ok((sent_to(alloc, conn, reply)?, effects))
 }

@@ -19,7 +19,7 @@ use Rattle.xl_nfs_state.specs.declared.owner.SeqidState.{SeqidState}
 use Rattle.xl_nfs_state.specs.declared.stateid.StateidRow.{StateidRow}
 use Rattle.xl_core.specs.State.{CoreState, drawn}
 use Rattle.xl_core.specs.declared.ask.Answer.{Answer}
-use Rattle.xl_nfs_laws.proofs.PassedCheckLaws.{IfPassed, IsPassed, checked_passed}
+use Rattle.xl_nfs_laws.proofs.PassedCheckLaws.{IsPassed}
 use Rattle.xl_nfs_opens.specs.Closing.{checked, done_lists, failed_lists, next_seqids, opener_by, standing_fault, state_told}
 use Rattle.xl_core.specs.Ids.{number_in}
 use Rattle.xl_nfs_opens.specs.Opens.{client_in, freed, is_granted, stood}
@@ -27,8 +27,6 @@ use Rattle.xl_nfs_opens.specs.Plans.{carried, status_of}
 use Rattle.xl_nfs_opens.specs.Renewing.{state_client, stateid_of}
 use Rattle.xl_nfs_opens.specs.Results.{spelled}
 use Rattle.xl_nfs_opens.specs.Seqids.{advances, is_room_for, opener_number}
-use Rattle.xl_nfs_opens.specs.declared.opener.Checked.{Checked}
-use Rattle.xl_nfs_opens.specs.declared.opener.Checked.TheVariants.{Passed, Refused, Repeated}
 use Rattle.xl_nfs_opens.specs.declared.opener.Opener.{Opener}
 use Rattle.xl_nfs_opens.specs.declared.told.Told.{Told}
 use Rattle.xl_nfs_opens.specs.declared.told.Told.TheVariants.{Ended, State}
@@ -47,8 +45,7 @@ use Rattle.xl_nfs_locks.specs.declared.joining.Joined.TheVariants.{Again, Bad, J
 use Rattle.xl_nfs_laws.proofs.LockOwn.{lock_own, release_own, test_own, unlock_own}
 use Rattle.xl_nfs_laws.proofs.StillDelegatedLaws.{AreStill, comes_still, counted_still, failed_still, freed_still, later_set, none_shut, owner_shut, owner_still, remembered_still, still_self, still_then, stood_still}
 use Rattle.xl_nfs_laws.specs.Delegated.{AreSet, AreTied, IsShut, written_by}
-use Rattle.xl_nfs_laws.proofs.CalmOpenLaws.{IsCalm, carried_tied, does_still, done_still, passed_shut, renewing_calm, repeat_calm}
-use Rattle.xl_nfs_laws.proofs.LockOrderLaws.{found_passed}
+use Rattle.xl_nfs_laws.proofs.CalmOpenLaws.{counts_calm, IsCalm, carried_tied, does_still, done_still, passed_shut, renewing_calm}
 
 -- ---- lists
 
@@ -96,15 +93,11 @@ standing_calm : (last : ℕ) (l : NfsLists) (current : Option ℕ) (a : LockArgs
 standing_calm last l current a r owner seqids seqid (Some status) passed set = only_lists last l (failed_lists l owner seqids 12 seqid status) (failed_so last l r owner seqids 12 seqid status passed set)
 standing_calm last l current a r owner seqids seqid None passed set = to_calm last l current a r owner seqids seqid (lock_end a.kind (access_above l r.holder) (last_byte a.offset a.len)) passed set
 
-known_by : (last : ℕ) (s : CoreState) (l : NfsLists) (current : Option ℕ) (a : LockArgsItem) (x : KnownLocker) (c : Checked) → IfPassed l c → AreSet last l → IsCalm last l (lock_found s l current a x c)
-known_by last s l current a x (Refused status) passed set = nothing_calm last l set
-known_by last s l current a x (Repeated owner) passed set = repeat_calm last s l current (find (is_kept owner) l.kept) set
-known_by last s l current a x (Passed r owner seqids) passed set = standing_calm last l current a r owner seqids x.seqid (standing_fault r seqids x.stateid.seqid true) passed set
-
 known_calm : (last : ℕ) (s : CoreState) (l : NfsLists) (current : Option ℕ) (a : LockArgsItem) (x : KnownLocker) → AreSet last l → IsCalm last l (lock_known s l current a x)
 unfolding lock_known
 known_calm last s l current a x set =
-    renewing_calm last l (state_client s l x.stateid) (λ t. lock_found t l current a x (locks_found t l current 12 x.seqid x.stateid)) set (λ t le after. known_by t.counter t l current a x (locks_found t l current 12 x.seqid x.stateid) (found_passed t l current 12 x.seqid x.stateid) after)
+    renewing_calm last l (state_client s l x.stateid) (λ t. lock_found t l current a x (locks_found t l current 12 x.seqid x.stateid)) set
+    (λ t le after. counts_calm t.counter t l current kinds.Lock 12 x.seqid x.stateid (λ r w v. lock_standing l current a r w v x.seqid (standing_fault r v x.stateid.seqid true)) after (λ r w v passed. standing_calm t.counter l current a r w v x.seqid (standing_fault r v x.stateid.seqid true) passed after))
 
 -- ---- LOCK by an owner under an open
 
@@ -181,15 +174,12 @@ join_standing_calm : (last : ℕ) (s : CoreState) (l : NfsLists) (current : Opti
 join_standing_calm last s l current a x b w r (Some status) found same set = only_lists last l (failed_lists l b.number b.seqids 12 b.open_seqid status) (failed_open last l b w status found same set)
 join_standing_calm last s l current a x b w r None found same set = join_of_calm last l current a x b w r (first.locker_under r x.owner.owner (client_in s l x.owner.clientid)) found same set
 
-join_checked_calm : (last : ℕ) (s : CoreState) (l : NfsLists) (current : Option ℕ) (a : LockArgsItem) (x : NewLockerItem) (c : Checked) → IfPassed l c → AreSet last l → IsCalm last l (first.join_checked s l current a x c)
-join_checked_calm last s l current a x (Refused status) passed set = nothing_calm last l set
-join_checked_calm last s l current a x (Repeated owner) passed set = repeat_calm last s l current (find (is_kept owner) l.kept) set
-join_checked_calm last s l current a x (Passed r owner seqids) passed set = join_standing_calm last s l current a x (first.both_of x owner seqids) passed.row r (standing_fault r seqids x.open_stateid.seqid true) passed.owned passed.seqids_is set
-
 named_calm : (last : ℕ) (s : CoreState) (l : NfsLists) (current : Option ℕ) (a : LockArgsItem) (x : NewLockerItem) → AreSet last l → IsCalm last l (first.lock_named s l current a x)
 unfolding first.lock_named
 named_calm last s l current a x set =
-    renewing_calm last l (number_in s x.owner.clientid) (λ t. first.join_checked t l current a x (checked t l current 12 x.open_seqid x.open_stateid)) set (λ t le after. join_checked_calm t.counter t l current a x (checked t l current 12 x.open_seqid x.open_stateid) (checked_passed t l current 12 x.open_seqid x.open_stateid) after)
+    renewing_calm last l (number_in s x.owner.clientid) (λ t. first.join_checked t l current a x (checked t l current 12 x.open_seqid x.open_stateid)) set
+    (λ t le after. counts_calm t.counter t l current kinds.Open 12 x.open_seqid x.open_stateid (λ r w v. first.join_standing t l current a x (first.both_of x w v) r (standing_fault r v x.open_stateid.seqid true)) after
+    (λ r w v passed. join_standing_calm t.counter t l current a x (first.both_of x w v) passed.row r (standing_fault r v x.open_stateid.seqid true) passed.owned passed.seqids_is after))
 
 first_calm : (last : ℕ) (s : CoreState) (l : NfsLists) (current : Option ℕ) (a : LockArgsItem) (x : NewLockerItem) → AreSet last l → IsCalm last l (first.lock_new s l current a x)
 unfolding first.lock_new
@@ -246,15 +236,11 @@ unlock_standing_calm : (last : ℕ) (l : NfsLists) (current : Option ℕ) (a : U
 unlock_standing_calm last l current a r owner seqids (Some status) passed set = only_lists last l (failed_lists l owner seqids 14 a.seqid status) (failed_so last l r owner seqids 14 a.seqid status passed set)
 unlock_standing_calm last l current a r owner seqids None passed set = unlock_to_calm last l current a r owner seqids (last_byte a.offset a.len) passed set
 
-unlock_by : (last : ℕ) (s : CoreState) (l : NfsLists) (current : Option ℕ) (a : UnlockArgs) (c : Checked) → IfPassed l c → AreSet last l → IsCalm last l (unlock_found s l current a c)
-unlock_by last s l current a (Refused status) passed set = nothing_calm last l set
-unlock_by last s l current a (Repeated owner) passed set = repeat_calm last s l current (find (is_kept owner) l.kept) set
-unlock_by last s l current a (Passed r owner seqids) passed set = unlock_standing_calm last l current a r owner seqids (standing_fault r seqids a.stateid.seqid true) passed set
-
 unlock_calm : (last : ℕ) (s : CoreState) (l : NfsLists) (current : Option ℕ) (a : UnlockArgs) → AreSet last l → IsCalm last l (unlock s l current a)
 unfolding unlock
 unlock_calm last s l current a set =
-    renewing_calm last l (state_client s l a.stateid) (λ t. unlock_found t l current a (locks_found t l current 14 a.seqid a.stateid)) set (λ t le after. unlock_by t.counter t l current a (locks_found t l current 14 a.seqid a.stateid) (found_passed t l current 14 a.seqid a.stateid) after)
+    renewing_calm last l (state_client s l a.stateid) (λ t. unlock_found t l current a (locks_found t l current 14 a.seqid a.stateid)) set
+    (λ t le after. counts_calm t.counter t l current kinds.Lock 14 a.seqid a.stateid (λ r w v. unlock_standing l current a r w v (standing_fault r v a.stateid.seqid true)) after (λ r w v passed. unlock_standing_calm t.counter l current a r w v (standing_fault r v a.stateid.seqid true) passed after))
 
 released_still : (last : ℕ) (l : NfsLists) (o : Option OwnerRow) → AreSet last l → AreStill last l (without_found l o)
 released_still last l None set = still_self last l set

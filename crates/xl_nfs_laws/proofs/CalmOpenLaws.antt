@@ -27,6 +27,9 @@ use Rattle.xl_nfs_state.specs.declared.owner.SeqidState.{SeqidState}
 use Rattle.xl_nfs_state.specs.declared.stateid.Holder.{Holder}
 use Rattle.xl_nfs_state.specs.declared.stateid.Holder.TheVariants as holders
 use Rattle.xl_nfs_state.specs.declared.stateid.Standing.{Standing}
+use Rattle.xl_nfs_state.specs.declared.owner.OwnerKind.TheVariants as kinds
+use Rattle.xl_nfs_state.specs.declared.owner.OwnerKind.{OwnerKind}
+use Rattle.xl_nfs.specs.declared.basics.Stateid.{Stateid}
 use Rattle.xl_nfs_state.specs.declared.stateid.StateidRow.{StateidRow}
 use Rattle.xl_core.proofs.DeedLeaves.{found_in}
 use Rattle.xl_core.specs.Decide.{ask}
@@ -36,7 +39,7 @@ use Rattle.xl_core.specs.Settle.{share_has}
 use Rattle.xl_core.specs.State.{CoreState}
 use Rattle.xl_core.specs.declared.ask.Answer.{Answer}
 use Rattle.xl_table.specs.Relock.{is_share_of}
-use Rattle.xl_nfs_opens.specs.Closing.{checked, close, close_by, close_done, confirm_by, confirm_done, done_lists, ends_locks, failed_lists, gives_up, lock_owner, locks_gone, locks_under, next_seqids, open_confirm, opener_by, share_by_opener, share_of_open, standing_fault, state_told}
+use Rattle.xl_nfs_opens.specs.Closing.{checked_as, counts, checked, close, close_by, close_done, confirm_by, confirm_done, done_lists, ends_locks, failed_lists, gives_up, lock_owner, locks_gone, locks_under, next_seqids, open_confirm, opener_by, share_by_opener, share_of_open, standing_fault, state_told}
 use Rattle.xl_nfs_laws.specs.Delegated.{AreSet, AreTied, IsShut, is_open_still, written_by}
 use Rattle.xl_nfs_opens.specs.Downgrades.{downgrade_by, downgrade_done, downgrade_fault, open_downgrade, weakens}
 use Rattle.xl_nfs_opens.specs.Opens.{gives, repeated, rights_of, share_by, share_held, stood}
@@ -185,20 +188,25 @@ repeat_calm last s l current (Some k) set = (tt, does_still last [] l l (still_s
 
 -- ---- OPEN_CONFIRM, OPEN_DOWNGRADE, CLOSE
 
+-- a request on a stateid is calm, if it is once it passed
+pub counts_calm : (last : ℕ) (s : CoreState) (l : NfsLists) (current : Option ℕ) (kind : OwnerKind) (op seqid : ℕ) (stateid : Stateid) (rest : StateidRow → ℕ → SeqidState → Plan) → AreSet last l → ((r : StateidRow) (w : ℕ) (v : SeqidState) → IsPassed l r w v → IsCalm last l (rest r w v)) → IsCalm last l (counts s l current rest (checked_as kind s l current op seqid stateid))
+counts_calm last s l current kind op seqid stateid rest set each = by (checked_as kind s l current op seqid stateid) (checked_passed kind s l current op seqid stateid)
+  where
+    by : (c : Checked) → IfPassed l c → IsCalm last l (counts s l current rest c)
+    by (Refused status) passed = (tt, does_still last [] l l (still_self last l set))
+    by (Repeated owner) passed = repeat_calm last s l current (find (is_kept owner) l.kept) set
+    by (Passed r w v) passed = each r w v passed
+
 confirm_done_calm : (last : ℕ) (s : CoreState) (l : NfsLists) (current : Option ℕ) (a : OpenConfirmArgs) (r : StateidRow) (owner : ℕ) (seqids : SeqidState) (x : Option NfsStatus) → IsPassed l r owner seqids → AreSet last l → IsCalm last l (confirm_done s l current a r owner seqids x)
 confirm_done_calm last s l current a r owner seqids (Some status) passed set = (tt, does_still last [] l (failed_lists l owner seqids 20 a.seqid status) (failed_still last l owner seqids 20 a.seqid status (passed_shut last l r owner seqids passed set) set))
 confirm_done_calm last s l current a r owner seqids None passed set =
     (tt, does_still last [] l (done_lists s l r owner seqids 20 a.seqid true None r.standing.access r.standing.deny false) (done_still last s l r owner seqids 20 a.seqid true None r.standing.access r.standing.deny false passed (none_shut last _ None refl) set))
 
-confirm_by_calm : (last : ℕ) (s : CoreState) (l : NfsLists) (current : Option ℕ) (a : OpenConfirmArgs) (c : Checked) → IfPassed l c → AreSet last l → IsCalm last l (confirm_by s l current a c)
-confirm_by_calm last s l current a (Refused status) passed set = (tt, does_still last [] l l (still_self last l set))
-confirm_by_calm last s l current a (Repeated owner) passed set = repeat_calm last s l current (find (is_kept owner) l.kept) set
-confirm_by_calm last s l current a (Passed r owner seqids) passed set = confirm_done_calm last s l current a r owner seqids (standing_fault r seqids a.stateid.seqid false) passed set
-
 confirm_calm : (last : ℕ) (s : CoreState) (l : NfsLists) (current : Option ℕ) (a : OpenConfirmArgs) → AreSet last l → IsCalm last l (open_confirm s l current a)
 unfolding open_confirm
 confirm_calm last s l current a set =
-    renewing_calm last l (state_client s l a.stateid) (λ t. confirm_by t l current a (checked t l current 20 a.seqid a.stateid)) set (λ t le after. confirm_by_calm t.counter t l current a (checked t l current 20 a.seqid a.stateid) (checked_passed t l current 20 a.seqid a.stateid) after)
+    renewing_calm last l (state_client s l a.stateid) (λ t. confirm_by t l current a (checked t l current 20 a.seqid a.stateid)) set
+    (λ t le after. counts_calm t.counter t l current kinds.Open 20 a.seqid a.stateid (λ r w v. confirm_done t l current a r w v (standing_fault r v a.stateid.seqid false)) after (λ r w v passed. confirm_done_calm t.counter t l current a r w v (standing_fault r v a.stateid.seqid false) passed after))
 
 downgrade_done_calm : (last : ℕ) (s : CoreState) (l : NfsLists) (current : Option ℕ) (a : OpenDowngradeArgs) (r : StateidRow) (owner : ℕ) (seqids : SeqidState) (x : Option NfsStatus) → IsPassed l r owner seqids → AreSet last l → IsCalm last l (downgrade_done s l current a r owner seqids x)
 downgrade_done_calm last s l current a r owner seqids (Some status) passed set = (tt, does_still last [] l (failed_lists l owner seqids 21 a.seqid status) (failed_still last l owner seqids 21 a.seqid status (passed_shut last l r owner seqids passed set) set))
@@ -208,15 +216,11 @@ downgrade_done_calm last s l current a r owner seqids None passed set = (
       (done_still last s l r owner seqids 21 a.seqid seqids.confirmed None a.access a.deny false passed (none_shut last _ None refl) set),
 )
 
-downgrade_by_calm : (last : ℕ) (s : CoreState) (l : NfsLists) (current : Option ℕ) (a : OpenDowngradeArgs) (c : Checked) → IfPassed l c → AreSet last l → IsCalm last l (downgrade_by s l current a c)
-downgrade_by_calm last s l current a (Refused status) passed set = (tt, does_still last [] l l (still_self last l set))
-downgrade_by_calm last s l current a (Repeated owner) passed set = repeat_calm last s l current (find (is_kept owner) l.kept) set
-downgrade_by_calm last s l current a (Passed r owner seqids) passed set = downgrade_done_calm last s l current a r owner seqids (downgrade_fault r seqids a) passed set
-
 downgrade_calm : (last : ℕ) (s : CoreState) (l : NfsLists) (current : Option ℕ) (a : OpenDowngradeArgs) → AreSet last l → IsCalm last l (open_downgrade s l current a)
 unfolding open_downgrade
 downgrade_calm last s l current a set =
-    renewing_calm last l (state_client s l a.stateid) (λ t. downgrade_by t l current a (checked t l current 21 a.seqid a.stateid)) set (λ t le after. downgrade_by_calm t.counter t l current a (checked t l current 21 a.seqid a.stateid) (checked_passed t l current 21 a.seqid a.stateid) after)
+    renewing_calm last l (state_client s l a.stateid) (λ t. downgrade_by t l current a (checked t l current 21 a.seqid a.stateid)) set
+    (λ t le after. counts_calm t.counter t l current kinds.Open 21 a.seqid a.stateid (λ r w v. downgrade_done t l current a r w v (downgrade_fault r v a)) after (λ r w v passed. downgrade_done_calm t.counter t l current a r w v (downgrade_fault r v a) passed after))
 
 close_done_calm : (last : ℕ) (s : CoreState) (l : NfsLists) (current : Option ℕ) (a : CloseArgs) (r : StateidRow) (owner : ℕ) (seqids : SeqidState) (x : Option NfsStatus) → IsPassed l r owner seqids → IsOrderly l → AreSet last l → IsCalm last l (close_done s l current a r owner seqids x)
 close_done_calm last s l current a r owner seqids (Some status) passed orderly set = (tt, does_still last [] l (failed_lists l owner seqids 4 a.seqid status) (failed_still last l owner seqids 4 a.seqid status (passed_shut last l r owner seqids passed set) set))
@@ -230,15 +234,11 @@ close_done_calm last s l current a r owner seqids None passed orderly set = (
       (open_quiet t l r owner, does_still t.counter (gives (share_of_open t l r owner)) l (locks_gone r.number after) (still_then t.counter t.counter l after (locks_gone r.number after) one (locks_still t.counter r.number after one.set)))),
 )
 
-close_by_calm : (last : ℕ) (s : CoreState) (l : NfsLists) (current : Option ℕ) (a : CloseArgs) (c : Checked) → IfPassed l c → IsOrderly l → AreSet last l → IsCalm last l (close_by s l current a c)
-close_by_calm last s l current a (Refused status) passed orderly set = (tt, does_still last [] l l (still_self last l set))
-close_by_calm last s l current a (Repeated owner) passed orderly set = repeat_calm last s l current (find (is_kept owner) l.kept) set
-close_by_calm last s l current a (Passed r owner seqids) passed orderly set = close_done_calm last s l current a r owner seqids (standing_fault r seqids a.stateid.seqid true) passed orderly set
-
 close_calm : (last : ℕ) (s : CoreState) (l : NfsLists) (current : Option ℕ) (a : CloseArgs) → IsOrderly l → AreSet last l → IsCalm last l (close s l current a)
 unfolding close
 close_calm last s l current a orderly set =
-    renewing_calm last l (state_client s l a.stateid) (λ t. close_by t l current a (checked t l current 4 a.seqid a.stateid)) set (λ t le after. close_by_calm t.counter t l current a (checked t l current 4 a.seqid a.stateid) (checked_passed t l current 4 a.seqid a.stateid) orderly after)
+    renewing_calm last l (state_client s l a.stateid) (λ t. close_by t l current a (checked t l current 4 a.seqid a.stateid)) set
+    (λ t le after. counts_calm t.counter t l current kinds.Open 4 a.seqid a.stateid (λ r w v. close_done t l current a r w v (standing_fault r v a.stateid.seqid true)) after (λ r w v passed. close_done_calm t.counter t l current a r w v (standing_fault r v a.stateid.seqid true) passed orderly after))
 
 -- ---- each operation
 

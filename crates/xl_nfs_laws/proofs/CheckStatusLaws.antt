@@ -1,9 +1,8 @@
 -- With which status a request on a stateid is refused, and that it is answered so.
-use Rattle.std.proofs.Common.{◌≡◌, ℕ, ◌<◌, Bool, true, false, [], Option, Some, None, is_some, refl, sym, ap, subst, ◌∙◌, ◌↔◌, inl, inr, arith, true≢false}
+use Rattle.std.proofs.Common.{◌≡◌, ℕ, ◌<◌, Bool, true, false, [], Option, Some, None, is_some, refl, sym, ap, ◌∙◌, ◌↔◌, inl, inr, arith, true≢false, not}
 use Rattle.std.proofs.lemmas.Bool.{cases_Bool, ltb-false, ltb-true}
 use Rattle.std.specs.Bool.{◌==◌, beq}
 use Rattle.std.specs.Cmp.{booleans_Decides}
-use Rattle.std.specs.List.{find}
 use Rattle.std.specs.Prelude.{◌⊎◌, nat_lt, if◌then◌else◌}
 use Rattle.xl_nfs.specs.Locks.{LockArgsItem, NewLockerItem}
 use Rattle.xl_nfs.specs.declared.basics.Stateid.{Stateid}
@@ -14,167 +13,51 @@ use Rattle.xl_nfs.specs.declared.opens.OpenConfirmArgs.{OpenConfirmArgs}
 use Rattle.xl_nfs.specs.declared.opens.OpenDowngradeArgs.{OpenDowngradeArgs}
 use Rattle.xl_nfs.specs.declared.status.NfsStatus.{NfsStatus}
 use Rattle.xl_nfs.specs.declared.status.NfsStatus.TheVariants as statuses
-use Rattle.xl_nfs_state.specs.State.{NfsLists, is_owner, is_stateid}
-use Rattle.xl_nfs_state.specs.Verdict.{verdict}
-use Rattle.xl_nfs_state.specs.declared.owner.OwnerRow.{OwnerRow}
+use Rattle.xl_nfs_state.specs.State.{NfsLists}
+use Rattle.xl_nfs_state.specs.declared.owner.OwnerKind.{OwnerKind}
 use Rattle.xl_nfs_state.specs.declared.owner.SeqidState.{SeqidState}
-use Rattle.xl_nfs_state.specs.declared.seqid.SeqidVerdict.{SeqidVerdict}
-use Rattle.xl_nfs_state.specs.declared.seqid.SeqidVerdict.TheVariants as verdicts
-use Rattle.xl_nfs_state.specs.declared.stateid.Holder.{Holder}
-use Rattle.xl_nfs_state.specs.declared.stateid.Holder.TheVariants as holders
 use Rattle.xl_nfs_state.specs.declared.stateid.StateidRow.{StateidRow}
 use Rattle.xl_core.specs.State.{CoreState}
-use Rattle.xl_nfs_locks.specs.Checks.{holder_found, locks_found, number_found, row_found}
+use Rattle.xl_nfs_locks.specs.Checks.{locks_found}
 use Rattle.xl_nfs_locks.specs.FirstLocks.{both_of, join_checked, join_standing}
 use Rattle.xl_nfs_locks.specs.Locks.{lock_found, lock_standing}
 use Rattle.xl_nfs_locks.specs.Unlocks.{unlock_found, unlock_standing}
-use Rattle.xl_nfs_opens.specs.Closing.{checked, close_by, close_done, confirm_by, confirm_done, holder_checked, number_checked, owner_checked, row_checked, seqid_checked, standing_fault}
+use Rattle.xl_nfs_opens.proofs.CheckLaws.{refuses}
+use Rattle.xl_nfs_opens.specs.Closing.{checked, checked_as, state_found, close_by, close_done, confirm_by, confirm_done, standing_fault}
 use Rattle.xl_nfs_opens.specs.Downgrades.{downgrade_by, downgrade_done, downgrade_fault, first_fault, range_fault}
 use Rattle.xl_nfs_opens.specs.Plans.{carried}
 use Rattle.xl_nfs_opens.specs.Renewing.{number_of}
 use Rattle.xl_nfs_opens.specs.declared.opener.Checked.{Checked}
-use Rattle.xl_nfs_opens.specs.declared.opener.Checked.TheVariants.{Passed, Refused, Repeated}
+use Rattle.xl_nfs_opens.specs.declared.opener.Checked.TheVariants.{Passed, Refused}
 use Rattle.xl_nfs_opens.specs.declared.told.Told.TheVariants.{Ended}
 use Rattle.xl_nfs_laws.specs.AnsweredStateids.{IsCheckStatus}
 
--- ---- what the row of a stateid, and its owner's seqid, refuse
+-- ---- what the check refuses
 
-abbrev IfRow : Checked → Type 0
-IfRow (Passed r w seqids) = Unit {0}
-IfRow (Repeated w) = Unit {0}
-IfRow (Refused status) = (status ≡ statuses.BadStateid) ⊎ (status ≡ statuses.BadSeqid)
+none_back : (kind : OwnerKind) (s : CoreState) (l : NfsLists) (current : Option ℕ) (op seqid : ℕ) (stateid : Stateid) → current ≡ None → checked_as kind s l current op seqid stateid ≡ Refused statuses.NoFileHandle
+unfolding checked_as state_found
+none_back kind s l None op seqid stateid e = refl
+none_back kind s l (Some at) op seqid stateid e = absurd (true≢false (ap is_some e))
 
-next_row : (r : StateidRow) (w : ℕ) (seqids : SeqidState) (b : Bool) → IfRow (if b then Refused statuses.BadStateid else Passed r w seqids)
-next_row r w seqids true = inl refl
-next_row r w seqids false = tt
+pub no_file : (kind : OwnerKind) (s : CoreState) (l : NfsLists) (current : Option ℕ) (op seqid : ℕ) (stateid : Stateid) → (checked_as kind s l current op seqid stateid ≡ Refused statuses.NoFileHandle) ↔ (current ≡ None)
+no_file kind s l current op seqid stateid = (
+  λ e. refuses (λ status. status ≡ statuses.NoFileHandle → current ≡ None) kind s l current op seqid stateid (λ none d. none) (λ _ _ d. absurd cc) (λ d. absurd cc) (λ _ _ _ _ _ _ _ _ d. absurd cc) statuses.NoFileHandle e refl,
+  none_back kind s l current op seqid stateid,
+)
 
-bad_row : (b : Bool) → IfRow (Refused (if b then statuses.BadStateid else statuses.BadSeqid))
-bad_row true = inl refl
-bad_row false = inr refl
+stale_back : (kind : OwnerKind) (s : CoreState) (l : NfsLists) (current : Option ℕ) (op seqid : ℕ) (stateid : Stateid) → is_some current ≡ true → number_of s stateid.other ≡ None → checked_as kind s l current op seqid stateid ≡ Refused statuses.StaleStateid
+unfolding checked_as state_found
+stale_back kind s l None op seqid stateid there none = absurd (true≢false (sym there))
+stale_back kind s l (Some at) op seqid stateid there none = rw none refl
 
-seqid_row : (r : StateidRow) (w : ℕ) (seqids : SeqidState) (v : SeqidVerdict) → IfRow (seqid_checked r w seqids v)
-seqid_row r w seqids verdicts.Repeat = tt
-seqid_row r w seqids verdicts.Next = next_row r w seqids r.standing.closed
-seqid_row r w seqids verdicts.New = bad_row r.standing.closed
-seqid_row r w seqids (verdicts.Bad last) = bad_row r.standing.closed
+pub is_stale : (kind : OwnerKind) (s : CoreState) (l : NfsLists) (current : Option ℕ) (op seqid : ℕ) (stateid : Stateid) → (checked_as kind s l current op seqid stateid ≡ Refused statuses.StaleStateid) ↔ ((is_some current ≡ true) × (number_of s stateid.other ≡ None))
+is_stale kind s l current op seqid stateid = (
+  λ e. refuses (λ status. status ≡ statuses.StaleStateid → (is_some current ≡ true) × (number_of s stateid.other ≡ None)) kind s l current op seqid stateid (λ _ d. absurd cc) (λ there none d. (there, none)) (λ d. absurd cc) (λ _ _ _ _ _ _ _ _ d. absurd cc) statuses.StaleStateid e refl,
+  λ is. stale_back kind s l current op seqid stateid is.0 is.1,
+)
 
-owner_row : (r : StateidRow) (op seqid w : ℕ) (o : Option OwnerRow) → IfRow (owner_checked r op seqid w o)
-owner_row r op seqid w None = inl refl
-owner_row r op seqid w (Some o) = seqid_row r w o.seqids (verdict (Some o.seqids) op seqid)
-
-open_holder : (l : NfsLists) (r : StateidRow) (op seqid : ℕ) (h : Holder) → IfRow (holder_checked l r op seqid h)
-open_holder l r op seqid (holders.Open owner) = owner_row r op seqid owner (find (is_owner owner) l.owners)
-open_holder l r op seqid (holders.Lock owner under opener) = inl refl
-open_holder l r op seqid (holders.Delegation write) = inl refl
-
-open_row : (l : NfsLists) (at op seqid : ℕ) (o : Option StateidRow) → IfRow (row_checked l at op seqid o)
-open_row l at op seqid None = inl refl
-open_row l at op seqid (Some r) =
-    elim (cases_Bool (r.file == at)) [
-      | inl same ↦ rw same (open_holder l r op seqid r.holder)
-      | inr other ↦ rw other (inl refl)
-    ]
-
-lock_holder : (l : NfsLists) (r : StateidRow) (op seqid : ℕ) (h : Holder) → IfRow (holder_found l r op seqid h)
-lock_holder l r op seqid (holders.Open owner) = inl refl
-lock_holder l r op seqid (holders.Lock owner under opener) = owner_row r op seqid owner (find (is_owner owner) l.owners)
-lock_holder l r op seqid (holders.Delegation write) = inl refl
-
-lock_row : (l : NfsLists) (at op seqid : ℕ) (o : Option StateidRow) → IfRow (row_found l at op seqid o)
-lock_row l at op seqid None = inl refl
-lock_row l at op seqid (Some r) =
-    elim (cases_Bool (r.file == at)) [
-      | inl same ↦ rw same (lock_holder l r op seqid r.holder)
-      | inr other ↦ rw other (inl refl)
-    ]
-
--- neither of these is a status of a row
-not_of_row : (status : NfsStatus) (c : Checked) → IfRow c → c ≡ Refused status → (status ≡ statuses.BadStateid) ⊎ (status ≡ statuses.BadSeqid)
-not_of_row status c row e = subst IfRow e row
-
-no_file : (c : Checked) → IfRow c → c ≡ Refused statuses.NoFileHandle → ⊥
-no_file c row e = by (not_of_row statuses.NoFileHandle c row e)
-  where
-    by : (statuses.NoFileHandle ≡ statuses.BadStateid) ⊎ (statuses.NoFileHandle ≡ statuses.BadSeqid) → ⊥
-    by (inl d) = cc
-    by (inr d) = cc
-
-not_stale : (c : Checked) → IfRow c → c ≡ Refused statuses.StaleStateid → ⊥
-not_stale c row e = by (not_of_row statuses.StaleStateid c row e)
-  where
-    by : (statuses.StaleStateid ≡ statuses.BadStateid) ⊎ (statuses.StaleStateid ≡ statuses.BadSeqid) → ⊥
-    by (inl d) = cc
-    by (inr d) = cc
-
--- ---- of an open
-
-pub open_no_file : (s : CoreState) (l : NfsLists) (current : Option ℕ) (op seqid : ℕ) (stateid : Stateid) → (checked s l current op seqid stateid ≡ Refused statuses.NoFileHandle) ↔ (current ≡ None)
-unfolding checked
-open_no_file s l None op seqid stateid = (λ e. refl, λ e. refl)
-open_no_file s l (Some at) op seqid stateid = (λ e. absurd (by (number_of s stateid.other) e), λ e. absurd (true≢false (ap is_some e)))
-  where
-    by : (o : Option ℕ) → number_checked l at op seqid o ≡ Refused statuses.NoFileHandle → ⊥
-    by None e = cc
-    by (Some number) e = no_file (row_checked l at op seqid (find (is_stateid number) l.stateids)) (open_row l at op seqid (find (is_stateid number) l.stateids)) e
-
-pub open_stale : (s : CoreState) (l : NfsLists) (current : Option ℕ) (op seqid : ℕ) (stateid : Stateid) → (checked s l current op seqid stateid ≡ Refused statuses.StaleStateid) ↔ ((is_some current ≡ true) × (number_of s stateid.other ≡ None))
-unfolding checked
-open_stale s l None op seqid stateid = (λ e. absurd cc, λ e. absurd (true≢false (sym e.0)))
-open_stale s l (Some at) op seqid stateid = by (number_of s stateid.other)
-  where
-    by : (o : Option ℕ) → (number_checked l at op seqid o ≡ Refused statuses.StaleStateid) ↔ ((true ≡ true) × (o ≡ None))
-    by None = (λ e. (refl, refl), λ e. refl)
-    by (Some number) = (λ e. absurd (not_stale (row_checked l at op seqid (find (is_stateid number) l.stateids)) (open_row l at op seqid (find (is_stateid number) l.stateids)) e), λ e. absurd (true≢false (ap is_some e.1)))
-
-pub open_else : (s : CoreState) (l : NfsLists) (current : Option ℕ) (op seqid : ℕ) (stateid : Stateid) (status : NfsStatus) → checked s l current op seqid stateid ≡ Refused status → IsCheckStatus status
-unfolding checked
-open_else s l None op seqid stateid status e = inl (status_is e)
-  where
-    status_is : Refused statuses.NoFileHandle ≡ Refused status → status ≡ statuses.NoFileHandle
-    status_is d = cc
-open_else s l (Some at) op seqid stateid status e = by (number_of s stateid.other) e
-  where
-    by : (o : Option ℕ) → number_checked l at op seqid o ≡ Refused status → IsCheckStatus status
-    by None d = inr (inl (stale d))
-      where
-        stale : Refused statuses.StaleStateid ≡ Refused status → status ≡ statuses.StaleStateid
-        stale f = cc
-    by (Some number) d = inr (inr (not_of_row status (row_checked l at op seqid (find (is_stateid number) l.stateids)) (open_row l at op seqid (find (is_stateid number) l.stateids)) d))
-
--- ---- of locks
-
-pub lock_no_file : (s : CoreState) (l : NfsLists) (current : Option ℕ) (op seqid : ℕ) (stateid : Stateid) → (locks_found s l current op seqid stateid ≡ Refused statuses.NoFileHandle) ↔ (current ≡ None)
-unfolding locks_found
-lock_no_file s l None op seqid stateid = (λ e. refl, λ e. refl)
-lock_no_file s l (Some at) op seqid stateid = (λ e. absurd (by (number_of s stateid.other) e), λ e. absurd (true≢false (ap is_some e)))
-  where
-    by : (o : Option ℕ) → number_found l at op seqid o ≡ Refused statuses.NoFileHandle → ⊥
-    by None e = cc
-    by (Some number) e = no_file (row_found l at op seqid (find (is_stateid number) l.stateids)) (lock_row l at op seqid (find (is_stateid number) l.stateids)) e
-
-pub lock_stale : (s : CoreState) (l : NfsLists) (current : Option ℕ) (op seqid : ℕ) (stateid : Stateid) → (locks_found s l current op seqid stateid ≡ Refused statuses.StaleStateid) ↔ ((is_some current ≡ true) × (number_of s stateid.other ≡ None))
-unfolding locks_found
-lock_stale s l None op seqid stateid = (λ e. absurd cc, λ e. absurd (true≢false (sym e.0)))
-lock_stale s l (Some at) op seqid stateid = by (number_of s stateid.other)
-  where
-    by : (o : Option ℕ) → (number_found l at op seqid o ≡ Refused statuses.StaleStateid) ↔ ((true ≡ true) × (o ≡ None))
-    by None = (λ e. (refl, refl), λ e. refl)
-    by (Some number) = (λ e. absurd (not_stale (row_found l at op seqid (find (is_stateid number) l.stateids)) (lock_row l at op seqid (find (is_stateid number) l.stateids)) e), λ e. absurd (true≢false (ap is_some e.1)))
-
-pub lock_else : (s : CoreState) (l : NfsLists) (current : Option ℕ) (op seqid : ℕ) (stateid : Stateid) (status : NfsStatus) → locks_found s l current op seqid stateid ≡ Refused status → IsCheckStatus status
-unfolding locks_found
-lock_else s l None op seqid stateid status e = inl (status_is e)
-  where
-    status_is : Refused statuses.NoFileHandle ≡ Refused status → status ≡ statuses.NoFileHandle
-    status_is d = cc
-lock_else s l (Some at) op seqid stateid status e = by (number_of s stateid.other) e
-  where
-    by : (o : Option ℕ) → number_found l at op seqid o ≡ Refused status → IsCheckStatus status
-    by None d = inr (inl (stale d))
-      where
-        stale : Refused statuses.StaleStateid ≡ Refused status → status ≡ statuses.StaleStateid
-        stale f = cc
-    by (Some number) d = inr (inr (not_of_row status (row_found l at op seqid (find (is_stateid number) l.stateids)) (lock_row l at op seqid (find (is_stateid number) l.stateids)) d))
+pub no_other : (kind : OwnerKind) (s : CoreState) (l : NfsLists) (current : Option ℕ) (op seqid : ℕ) (stateid : Stateid) (status : NfsStatus) → checked_as kind s l current op seqid stateid ≡ Refused status → IsCheckStatus status
+no_other kind s l current op seqid stateid = refuses IsCheckStatus kind s l current op seqid stateid (λ _. inl refl) (λ _ _. inr (inl refl)) (inr (inr (inl refl))) (λ _ _ _ _ _ _ _ _. inr (inr (inr refl)))
 
 -- ---- the stateid's own seqid
 
@@ -198,7 +81,7 @@ standing_statuses r seqids seqid confirmed =
     not_less less (inl more) = omega (arith, less, more)
     not_less less (inr same) = omega (arith, less, same.0)
 
-    by_owner : seqid ≡ r.standing.seqid → Faults r seqids seqid confirmed (if beq seqids.confirmed confirmed then None else Some statuses.BadStateid)
+    by_owner : seqid ≡ r.standing.seqid → Faults r seqids seqid confirmed (if not (beq seqids.confirmed confirmed) then Some statuses.BadStateid else None)
     by_owner same =
         elim (cases_Bool (beq seqids.confirmed confirmed)) [
           | inl is ↦ rw is ((λ e. absurd (true≢false (sym (ap is_some e))), λ e. absurd (omega (arith, e, same))), (λ e. absurd (true≢false (sym (ap is_some e))), λ e. absurd (as_is is e)))

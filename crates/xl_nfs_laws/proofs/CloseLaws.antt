@@ -20,6 +20,7 @@ use Rattle.xl_nfs.specs.declared.opens.CloseArgs.{CloseArgs}
 use Rattle.xl_nfs_state.specs.State.{NfsLists, is_stateid}
 use Rattle.xl_nfs_state.specs.declared.owner.SeqidState.{SeqidState}
 use Rattle.xl_nfs_state.specs.declared.stateid.Holder.TheVariants as holders
+use Rattle.xl_nfs_state.specs.declared.owner.OwnerKind.TheVariants as kinds
 use Rattle.xl_nfs_state.specs.declared.stateid.StateidRow.{StateidRow}
 use Rattle.xl_table.specs.Held.{is_of}
 use Rattle.xl_table.specs.Relock.{is_share_of, shares_of, with_share}
@@ -88,7 +89,7 @@ close_gives n s l current a r owner number seqids o good is named =
 
 pub close_is_marked : (n : ℕ) (s : CoreState) (l : NfsLists) (current : Option ℕ) (a : CloseArgs) (r : StateidRow) (owner by : ℕ) (seqids : SeqidState) → IsOrderly l → checked s l current 4 a.seqid a.stateid ≡ Passed r owner seqids → r.holder ≡ holders.Open by → option_map (λ (x : StateidRow). x.standing.closed) (find (is_stateid r.number) (carried n s l (close_done s l current a r owner seqids None)).3.stateids) ≡ Some true
 close_is_marked n s l current a r owner by seqids orderly e holds =
-    let passed : IsPassed l r owner seqids = subst (λ (c : Checked). IfPassed l c) e (checked_passed s l current 4 a.seqid a.stateid) in
+    let passed : IsPassed l r owner seqids = subst (λ (c : Checked). IfPassed l c) e (checked_passed kinds.Open s l current 4 a.seqid a.stateid) in
     let there : IsIn r l.stateids × (is_stateid r.number r ≡ true) = subst (λ (o : Option StateidRow). IfSome o (λ y. IsIn y l.stateids × (is_stateid r.number y ≡ true))) passed.found (find_in (is_stateid r.number) l.stateids) in
     let held : IsHeldBy l.owners r r.holder = all_in (λ z. IsHeldBy l.owners z z.holder) r l.stateids orderly.held there.0 in
     close_marks n s l current a r owner by seqids passed.found holds (λ d. true≢false (sym (closed_by l.owners r r.holder owner passed.row passed.holder passed.owned held ∙ ap (λ (c : Option ℕ). closes c r.number) (sym (ap (λ (t : SeqidState). t.closed) passed.seqids_is) ∙ d) ∙ eq-eqb r.number r.number refl) ∙ passed.live))

@@ -1,24 +1,22 @@
 -- Whose the deeds of CLOSE are, and that the core takes them.
-use Rattle.std.proofs.Common.{◌≡◌, ℕ, true, List, Option, Some, None, refl}
+use Rattle.std.proofs.Common.{◌≡◌, ℕ, true, List, Option, Some, None}
 use Rattle.std.specs.List.{find}
 use Rattle.xl_nfs.specs.Ops.{Close}
 use Rattle.xl_nfs.specs.declared.opens.CloseArgs.{CloseArgs}
 use Rattle.xl_nfs.specs.declared.status.NfsStatus.{NfsStatus}
-use Rattle.xl_nfs_state.specs.State.{NfsLists, is_client, is_kept}
+use Rattle.xl_nfs_state.specs.State.{NfsLists, is_client}
 use Rattle.xl_nfs_state.specs.declared.client.ClientRow.{ClientRow}
 use Rattle.xl_nfs_state.specs.declared.owner.SeqidState.{SeqidState}
+use Rattle.xl_nfs_state.specs.declared.owner.OwnerKind.TheVariants as kinds
 use Rattle.xl_nfs_state.specs.declared.stateid.StateidRow.{StateidRow}
 use Rattle.xl_core.proofs.DeedLists.{deeds_good, fit_append}
 use Rattle.xl_core.specs.Deeds.{all_done}
 use Rattle.xl_core.specs.Good.{IsGood}
 use Rattle.xl_core.specs.State.{CoreState}
-use Rattle.xl_nfs_opens.specs.Closing.{checked, standing_fault, share_of_open, locks_under, ends_locks, close_done, close_by, close}
+use Rattle.xl_nfs_opens.specs.Closing.{standing_fault, share_of_open, locks_under, ends_locks, close_done, close}
 use Rattle.xl_nfs_opens.specs.Opens.{gives}
 use Rattle.xl_nfs_opens.specs.Owners.{is_holder, Names}
-use Rattle.xl_nfs_opens.specs.Renewing.{state_client}
-use Rattle.xl_nfs_opens.specs.declared.opener.Checked.{Checked}
-use Rattle.xl_nfs_opens.specs.declared.opener.Checked.TheVariants.{Refused, Repeated, Passed}
-use Rattle.xl_nfs_opens.proofs.OpenOwn.{Owned, by_append, repeat_own, gives_own, open_share, state_own, holder_as, by_number, checked_client}
+use Rattle.xl_nfs_opens.proofs.OpenOwn.{Owned, counts_own, by_append, gives_own, open_share}
 use Rattle.xl_nfs_opens.proofs.UnderLaws.{ends_own}
 
 close_done_own : (n : ℕ) (s : CoreState) (l : NfsLists) (current : Option ℕ) (a : CloseArgs) (r : StateidRow) (owner : ℕ) (seqids : SeqidState) (Client : List ℕ → Type 0) (o : Option NfsStatus) → IsGood s → ((c : ClientRow) → find (is_client r.client true) l.clients ≡ Some c → Client c.id) → Owned n s Client (close_done s l current a r owner seqids o)
@@ -32,13 +30,8 @@ close_done_own n s l current a r owner seqids Client None good each =
     (fit_append n s ds es first.0 second.0, by_append n s Client ds es first.1 second.1)
 close_done_own n s l current a r owner seqids Client (Some status) good each = (tt, tt)
 
-close_by_own : (n : ℕ) (s : CoreState) (l : NfsLists) (current : Option ℕ) (a : CloseArgs) (Client : List ℕ → Type 0) (c : Checked) → IsGood s → ((r : StateidRow) (w : ℕ) (v : SeqidState) (x : ClientRow) → c ≡ Passed r w v → find (is_client r.client true) l.clients ≡ Some x → Client x.id) → Owned n s Client (close_by s l current a c)
-close_by_own n s l current a Client (Refused status) good each = (tt, tt)
-close_by_own n s l current a Client (Repeated owner) good each = repeat_own n s l current Client (find (is_kept owner) l.kept)
-close_by_own n s l current a Client (Passed r owner seqids) good each = close_done_own n s l current a r owner seqids Client (standing_fault r seqids a.stateid.seqid true) good (λ x found. each r owner seqids x refl found)
-
 pub close_own : (n : ℕ) (s : CoreState) (l : NfsLists) (current : Option ℕ) (a : CloseArgs) → IsGood s → Owned n s (Names s l (Close a)) (close s l current a)
 unfolding close
-close_own n s l current a good = state_own n s l a.stateid (λ t. close_by t l current a (checked t l current 4 a.seqid a.stateid)) good
-    (λ t stable left. close_by_own n t l current a (λ id. is_holder s l a.stateid id) (checked t l current 4 a.seqid a.stateid) left
-    (λ r w v x e found. holder_as s t l a.stateid x.id stable (by_number l (state_client t l a.stateid) r.client x (checked_client t l current 4 a.seqid a.stateid r w v e) found)))
+close_own n s l current a good =
+    counts_own n s l current kinds.Open 4 a.seqid a.stateid (λ t r w v. close_done t l current a r w v (standing_fault r v a.stateid.seqid true)) good
+    (λ t r w v left each. close_done_own n t l current a r w v (λ id. is_holder s l a.stateid id) (standing_fault r v a.stateid.seqid true) left each)

@@ -43,7 +43,6 @@ pub mod OpenCheckLaws
 pub mod AnsweredOpenLaws
 pub mod ClientCaseLaws
 pub mod StatusLaws
-pub mod LockCheckLaws
 pub mod CheckStatusLaws
 pub mod OpenFlagLaws
 pub mod AnsweredLockLaws

@@ -23,7 +23,7 @@ use Rattle.xl_core.specs.Deeds.{Draws}
 use Rattle.xl_core.specs.Good.{IsGood}
 use Rattle.xl_core.specs.State.{CoreState, drawn}
 use Rattle.xl_core.specs.declared.ask.Answer.{Answer}
-use Rattle.xl_nfs_laws.proofs.OpenNumberLaws.{AreFew, carried_few, counted_given, does_few, done_given, draws, failed_given, later_on, less_given, remembered_given, repeat_few, stood_given, without_given}
+use Rattle.xl_nfs_laws.proofs.OpenNumberLaws.{counts_few, AreFew, carried_few, counted_given, does_few, done_given, draws, failed_given, later_on, less_given, remembered_given, stood_given, without_given}
 use Rattle.xl_nfs_opens.specs.Closing.{checked, done_lists, failed_lists, next_seqids, opener_by, standing_fault, state_told}
 use Rattle.xl_nfs_laws.specs.StateidNumbers.{AreGivenOut, StayGivenOut}
 use Rattle.xl_nfs_opens.specs.Opens.{client_in, is_granted, stood}
@@ -31,19 +31,17 @@ use Rattle.xl_nfs_opens.specs.Plans.{carried, status_of}
 use Rattle.xl_nfs_opens.specs.Renewing.{stateid_of}
 use Rattle.xl_nfs_opens.specs.Results.{spelled}
 use Rattle.xl_nfs_opens.specs.Seqids.{advances, is_room_for, opener_number}
-use Rattle.xl_nfs_opens.specs.declared.opener.Checked.{Checked}
-use Rattle.xl_nfs_opens.specs.declared.opener.Checked.TheVariants.{Refused, Repeated, Passed}
 use Rattle.xl_nfs_opens.specs.declared.opener.Opener.{Opener}
 use Rattle.xl_nfs_opens.specs.declared.told.Told.{Told}
 use Rattle.xl_nfs_opens.specs.declared.told.Told.TheVariants.{Ended, State}
 use Rattle.xl_nfs_locks.specs.Checks.{locks_found}
 use Rattle.xl_nfs_locks.specs.Denials.{lock_told}
 use Rattle.xl_nfs_locks.specs.FirstLocks as first
-use Rattle.xl_nfs_locks.specs.Locks.{access_above, lock_answered, lock_by_owner, lock_end, lock_found, lock_known, lock_standing, lock_to, refused_lists}
+use Rattle.xl_nfs_locks.specs.Locks.{access_above, lock_answered, lock_by_owner, lock_end, lock_known, lock_standing, lock_to, refused_lists}
 use Rattle.xl_nfs_locks.specs.Ranges.{last_byte}
 use Rattle.xl_nfs_locks.specs.Releases.{holds_any, release, release_of, released, without_found}
 use Rattle.xl_nfs_locks.specs.Tests.{lock_test, locker_of, test_at, test_of, test_to}
-use Rattle.xl_nfs_locks.specs.Unlocks.{unlock, unlock_by_owner, unlock_found, unlock_standing, unlock_status, unlock_to, unlocked_as}
+use Rattle.xl_nfs_locks.specs.Unlocks.{unlock, unlock_by_owner, unlock_standing, unlock_status, unlock_to, unlocked_as}
 use Rattle.xl_nfs_locks.specs.declared.joining.BothOwners.{BothOwners}
 use Rattle.xl_nfs_locks.specs.declared.joining.Joined.{Joined}
 use Rattle.xl_nfs_locks.specs.declared.joining.Joined.TheVariants.{Bad, Again, Joins}
@@ -77,14 +75,10 @@ standing_few : (last : ℕ) (l : NfsLists) (current : Option ℕ) (a : LockArgsI
 standing_few last l current a r owner seqids seqid (Some status) given = does_few last [] (failed_lists l owner seqids 12 seqid status) (failed_given last l owner seqids 12 seqid status given)
 standing_few last l current a r owner seqids seqid None given = to_few last l current a r owner seqids seqid (lock_end a.kind (access_above l r.holder) (last_byte a.offset a.len)) given
 
-known_by : (last : ℕ) (s : CoreState) (l : NfsLists) (current : Option ℕ) (a : LockArgsItem) (x : KnownLocker) (c : Checked) → AreGivenOut last l → AreFew last (lock_found s l current a x c)
-known_by last s l current a x (Refused status) given = does_few last [] l given
-known_by last s l current a x (Repeated owner) given = repeat_few last s l current (find (is_kept owner) l.kept) given
-known_by last s l current a x (Passed r owner seqids) given = standing_few last l current a r owner seqids x.seqid (standing_fault r seqids x.stateid.seqid true) given
-
 known_few : (s : CoreState) (l : NfsLists) (current : Option ℕ) (a : LockArgsItem) (x : KnownLocker) → AreGivenOut s.counter l → AreFew s.counter (lock_known s l current a x)
 unfolding lock_known
-known_few s l current a x given = (given, λ t le. known_by t.counter t l current a x (locks_found t l current 12 x.seqid x.stateid) (later_on s.counter t.counter l le given))
+known_few s l current a x given =
+    (given, λ t le. (let after = later_on s.counter t.counter l le given in counts_few t.counter t l current (λ r w v. lock_standing l current a r w v x.seqid (standing_fault r v x.stateid.seqid true)) (locks_found t l current 12 x.seqid x.stateid) after (λ r w v. standing_few t.counter l current a r w v x.seqid (standing_fault r v x.stateid.seqid true) after)))
 
 -- ---- LOCK by an owner under an open
 
@@ -157,14 +151,10 @@ join_standing_few : (last : ℕ) (s : CoreState) (l : NfsLists) (current : Optio
 join_standing_few last s l current a x b r (Some status) given = does_few last [] (failed_lists l b.number b.seqids 12 b.open_seqid status) (failed_given last l b.number b.seqids 12 b.open_seqid status given)
 join_standing_few last s l current a x b r None given = join_of_few last l current a x b r (first.locker_under r x.owner.owner (client_in s l x.owner.clientid)) given
 
-join_checked_few : (last : ℕ) (s : CoreState) (l : NfsLists) (current : Option ℕ) (a : LockArgsItem) (x : NewLockerItem) (c : Checked) → AreGivenOut last l → AreFew last (first.join_checked s l current a x c)
-join_checked_few last s l current a x (Refused status) given = does_few last [] l given
-join_checked_few last s l current a x (Repeated owner) given = repeat_few last s l current (find (is_kept owner) l.kept) given
-join_checked_few last s l current a x (Passed r owner seqids) given = join_standing_few last s l current a x (first.both_of x owner seqids) r (standing_fault r seqids x.open_stateid.seqid true) given
-
 named_few : (s : CoreState) (l : NfsLists) (current : Option ℕ) (a : LockArgsItem) (x : NewLockerItem) → AreGivenOut s.counter l → AreFew s.counter (first.lock_named s l current a x)
 unfolding first.lock_named
-named_few s l current a x given = (given, λ t le. join_checked_few t.counter t l current a x (checked t l current 12 x.open_seqid x.open_stateid) (later_on s.counter t.counter l le given))
+named_few s l current a x given =
+    (given, λ t le. (let after = later_on s.counter t.counter l le given in counts_few t.counter t l current (λ r w v. first.join_standing t l current a x (first.both_of x w v) r (standing_fault r v x.open_stateid.seqid true)) (checked t l current 12 x.open_seqid x.open_stateid) after (λ r w v. join_standing_few t.counter t l current a x (first.both_of x w v) r (standing_fault r v x.open_stateid.seqid true) after)))
 
 first_few : (s : CoreState) (l : NfsLists) (current : Option ℕ) (a : LockArgsItem) (x : NewLockerItem) → AreGivenOut s.counter l → AreFew s.counter (first.lock_new s l current a x)
 unfolding first.lock_new
@@ -219,14 +209,10 @@ unlock_standing_few : (last : ℕ) (l : NfsLists) (current : Option ℕ) (a : Un
 unlock_standing_few last l current a r owner seqids (Some status) given = does_few last [] (failed_lists l owner seqids 14 a.seqid status) (failed_given last l owner seqids 14 a.seqid status given)
 unlock_standing_few last l current a r owner seqids None given = unlock_to_few last l current a r owner seqids (last_byte a.offset a.len) given
 
-unlock_by : (last : ℕ) (s : CoreState) (l : NfsLists) (current : Option ℕ) (a : UnlockArgs) (c : Checked) → AreGivenOut last l → AreFew last (unlock_found s l current a c)
-unlock_by last s l current a (Refused status) given = does_few last [] l given
-unlock_by last s l current a (Repeated owner) given = repeat_few last s l current (find (is_kept owner) l.kept) given
-unlock_by last s l current a (Passed r owner seqids) given = unlock_standing_few last l current a r owner seqids (standing_fault r seqids a.stateid.seqid true) given
-
 pub unlock_few : (s : CoreState) (l : NfsLists) (current : Option ℕ) (a : UnlockArgs) → AreGivenOut s.counter l → AreFew s.counter (unlock s l current a)
 unfolding unlock
-unlock_few s l current a given = (given, λ t le. unlock_by t.counter t l current a (locks_found t l current 14 a.seqid a.stateid) (later_on s.counter t.counter l le given))
+unlock_few s l current a given =
+    (given, λ t le. (let after = later_on s.counter t.counter l le given in counts_few t.counter t l current (λ r w v. unlock_standing l current a r w v (standing_fault r v a.stateid.seqid true)) (locks_found t l current 14 a.seqid a.stateid) after (λ r w v. unlock_standing_few t.counter l current a r w v (standing_fault r v a.stateid.seqid true) after)))
 
 found_given : (last : ℕ) (l : NfsLists) (o : Option OwnerRow) → AreGivenOut last l → AreGivenOut last (without_found l o)
 found_given last l None given = given

@@ -29,59 +29,32 @@ use Rattle.xl_nfs_state.specs.declared.stateid.StateidRow.{StateidRow}
 use Rattle.xl_nfs_state.specs.declared.stateid.Whose.TheVariants as whose
 use Rattle.xl_core.specs.State.{CoreState, drawn}
 use Rattle.xl_core.specs.declared.ask.Answer.{Answer}
-use Rattle.xl_nfs_laws.proofs.OpenOrderLaws.{Keeps, IsSeated, apart_found, comes_orderly, counted_orderly, done_orderly, failed_orderly, live_is, none_of, remembered_orderly, repeat_keeps, seat_is, stood_orderly}
+use Rattle.xl_nfs_laws.proofs.OpenOrderLaws.{Keeps, counts_keeps, IsSeated, apart_found, comes_orderly, counted_orderly, done_orderly, failed_orderly, live_is, none_of, remembered_orderly, seat_is, stood_orderly}
 use Rattle.xl_nfs_laws.proofs.KeptResultLaws.{gone_owners}
 use Rattle.xl_nfs_laws.proofs.OpenLaws.{kept_owners}
-use Rattle.xl_nfs_laws.proofs.ListOrderLaws.{owned_by, owner_goes, stateids_go}
-use Rattle.xl_nfs_opens.proofs.OwnerLaws.{number_gone, same_number}
-use Rattle.xl_nfs_laws.proofs.PassedCheckLaws.{IfPassed, IsPassed, checked_passed, owner_passed}
-use Rattle.xl_nfs_opens.specs.Closing.{checked, next_seqids, opener_by, standing_fault, state_told}
+use Rattle.xl_nfs_laws.proofs.ListOrderLaws.{owner_goes, stateids_go}
+use Rattle.xl_nfs_opens.proofs.OwnerLaws.{number_gone}
+use Rattle.xl_nfs_laws.proofs.PassedCheckLaws.{IsPassed}
+use Rattle.xl_nfs_opens.specs.Closing.{next_seqids, opener_by, standing_fault, state_told}
 use Rattle.xl_nfs_opens.specs.Opens.{client_in, is_granted, live, stood}
 use Rattle.xl_nfs_laws.specs.Orderly.{closes, IsHeldBy, IsOrderly, IsOwnedBy}
 use Rattle.xl_nfs_opens.specs.Plans.{status_of}
-use Rattle.xl_nfs_opens.specs.Renewing.{number_of, stateid_of}
+use Rattle.xl_nfs_opens.specs.Renewing.{stateid_of}
 use Rattle.xl_nfs_opens.specs.Results.{spelled}
 use Rattle.xl_nfs_opens.specs.Seqids.{advances, closed_gone, counted, is_opener, is_room_for, kept_for, number_by, opener_number, remembered, seated, seqid_set}
-use Rattle.xl_nfs_opens.specs.declared.opener.Checked.{Checked}
-use Rattle.xl_nfs_opens.specs.declared.opener.Checked.TheVariants.{Refused, Repeated, Passed}
 use Rattle.xl_nfs_opens.specs.declared.opener.Opener.{Opener}
 use Rattle.xl_nfs_opens.specs.declared.told.Told.{Told}
 use Rattle.xl_nfs_opens.specs.declared.told.Told.TheVariants.{Ended, State}
-use Rattle.xl_nfs_locks.specs.Checks.{holder_found, locks_found, number_found, row_found}
 use Rattle.xl_nfs_locks.specs.Denials.{lock_told}
 use Rattle.xl_nfs_locks.specs.FirstLocks as first
-use Rattle.xl_nfs_locks.specs.Locks.{access_above, lock_answered, lock_by_owner, lock_end, lock_found, lock_known, lock_standing, lock_to, refused_lists}
+use Rattle.xl_nfs_locks.specs.Locks.{access_above, lock_answered, lock_by_owner, lock_end, lock_known, lock_standing, lock_to, refused_lists}
 use Rattle.xl_nfs_locks.specs.Ranges.{last_byte}
 use Rattle.xl_nfs_locks.specs.Releases.{holds_any, release, release_of, released, without_found}
 use Rattle.xl_nfs_locks.specs.Tests.{lock_test, locker_of, test_at, test_of, test_to}
-use Rattle.xl_nfs_locks.specs.Unlocks.{unlock, unlock_by_owner, unlock_found, unlock_standing, unlock_status, unlock_to, unlocked_as}
+use Rattle.xl_nfs_locks.specs.Unlocks.{unlock, unlock_by_owner, unlock_standing, unlock_status, unlock_to, unlocked_as}
 use Rattle.xl_nfs_locks.specs.declared.joining.BothOwners.{BothOwners}
 use Rattle.xl_nfs_locks.specs.declared.joining.Joined.{Joined}
 use Rattle.xl_nfs_locks.specs.declared.joining.Joined.TheVariants.{Bad, Again, Joins}
-
--- ---- what the check of a lock's stateid found
-
-holder_passed : (l : NfsLists) (r : StateidRow) (op seqid : ℕ) (h : Holder) → r.holder ≡ h → find (is_stateid r.number) l.stateids ≡ Some r → IfPassed l (holder_found l r op seqid h)
-holder_passed l r op seqid (holders.Lock owner under opener) holds found = owner_passed l r op seqid owner (find (is_owner owner) l.owners) found refl (ap owned_by holds)
-holder_passed l r op seqid (holders.Open owner) holds found = tt
-holder_passed l r op seqid (holders.Delegation write) holds found = tt
-
-row_passed : (l : NfsLists) (at op seqid number : ℕ) (o : Option StateidRow) → find (is_stateid number) l.stateids ≡ o → IfPassed l (row_found l at op seqid o)
-row_passed l at op seqid number None e = tt
-row_passed l at op seqid number (Some r) e =
-    elim (cases_Bool (r.file == at)) [
-      | inl same ↦ rw same (holder_passed l r op seqid r.holder refl (same_number l.stateids number r e))
-      | inr other ↦ rw other tt
-    ]
-
-number_passed : (l : NfsLists) (at op seqid : ℕ) (o : Option ℕ) → IfPassed l (number_found l at op seqid o)
-number_passed l at op seqid None = tt
-number_passed l at op seqid (Some number) = row_passed l at op seqid number (find (is_stateid number) l.stateids) refl
-
-pub found_passed : (s : CoreState) (l : NfsLists) (current : Option ℕ) (op seqid : ℕ) (stateid : Stateid) → IfPassed l (locks_found s l current op seqid stateid)
-unfolding locks_found
-found_passed s l None op seqid stateid = tt
-found_passed s l (Some at) op seqid stateid = number_passed l at op seqid (number_of s stateid.other)
 
 -- ---- LOCK by an owner that has locks there
 
@@ -111,14 +84,9 @@ standing_keeps : (l : NfsLists) (current : Option ℕ) (a : LockArgsItem) (r : S
 standing_keeps l current a r owner seqids seqid (Some status) passed orderly = failed_orderly l owner passed.row seqids 12 seqid status passed.owned passed.seqids_is orderly
 standing_keeps l current a r owner seqids seqid None passed orderly = to_keeps l current a r owner seqids seqid (lock_end a.kind (access_above l r.holder) (last_byte a.offset a.len)) passed orderly
 
-known_by : (s : CoreState) (l : NfsLists) (current : Option ℕ) (a : LockArgsItem) (x : KnownLocker) (c : Checked) → IfPassed l c → IsOrderly l → Keeps (lock_found s l current a x c)
-known_by s l current a x (Refused status) passed orderly = orderly
-known_by s l current a x (Repeated owner) passed orderly = repeat_keeps s l current (find (is_kept owner) l.kept) orderly
-known_by s l current a x (Passed r owner seqids) passed orderly = standing_keeps l current a r owner seqids x.seqid (standing_fault r seqids x.stateid.seqid true) passed orderly
-
 known_keeps : (s : CoreState) (l : NfsLists) (current : Option ℕ) (a : LockArgsItem) (x : KnownLocker) → IsOrderly l → Keeps (lock_known s l current a x)
 unfolding lock_known
-known_keeps s l current a x orderly = (orderly, λ t. known_by t l current a x (locks_found t l current 12 x.seqid x.stateid) (found_passed t l current 12 x.seqid x.stateid) orderly)
+known_keeps s l current a x orderly = (orderly, λ t. counts_keeps t l current kinds.Lock 12 x.seqid x.stateid (λ r w v. lock_standing l current a r w v x.seqid (standing_fault r v x.stateid.seqid true)) orderly (λ r w v passed. standing_keeps l current a r w v x.seqid (standing_fault r v x.stateid.seqid true) passed orderly))
 
 -- ---- LOCK by an owner under an open
 
@@ -310,14 +278,9 @@ join_standing_keeps : (s : CoreState) (l : NfsLists) (current : Option ℕ) (a :
 join_standing_keeps s l current a x b w r (Some status) found same orderly = failed_orderly l b.number w b.seqids 12 b.open_seqid status found same orderly
 join_standing_keeps s l current a x b w r None found same orderly = join_of_keeps l current a x b w r (client_in s l x.owner.clientid) found same orderly
 
-join_checked_keeps : (s : CoreState) (l : NfsLists) (current : Option ℕ) (a : LockArgsItem) (x : NewLockerItem) (c : Checked) → IfPassed l c → IsOrderly l → Keeps (first.join_checked s l current a x c)
-join_checked_keeps s l current a x (Refused status) passed orderly = orderly
-join_checked_keeps s l current a x (Repeated owner) passed orderly = repeat_keeps s l current (find (is_kept owner) l.kept) orderly
-join_checked_keeps s l current a x (Passed r owner seqids) passed orderly = join_standing_keeps s l current a x (first.both_of x owner seqids) passed.row r (standing_fault r seqids x.open_stateid.seqid true) passed.owned passed.seqids_is orderly
-
 named_keeps : (s : CoreState) (l : NfsLists) (current : Option ℕ) (a : LockArgsItem) (x : NewLockerItem) → IsOrderly l → Keeps (first.lock_named s l current a x)
 unfolding first.lock_named
-named_keeps s l current a x orderly = (orderly, λ t. join_checked_keeps t l current a x (checked t l current 12 x.open_seqid x.open_stateid) (checked_passed t l current 12 x.open_seqid x.open_stateid) orderly)
+named_keeps s l current a x orderly = (orderly, λ t. counts_keeps t l current kinds.Open 12 x.open_seqid x.open_stateid (λ r w v. first.join_standing t l current a x (first.both_of x w v) r (standing_fault r v x.open_stateid.seqid true)) orderly (λ r w v passed. join_standing_keeps t l current a x (first.both_of x w v) passed.row r (standing_fault r v x.open_stateid.seqid true) passed.owned passed.seqids_is orderly))
 
 first_keeps : (s : CoreState) (l : NfsLists) (current : Option ℕ) (a : LockArgsItem) (x : NewLockerItem) → IsOrderly l → Keeps (first.lock_new s l current a x)
 unfolding first.lock_new
@@ -372,14 +335,9 @@ unlock_standing_keeps : (l : NfsLists) (current : Option ℕ) (a : UnlockArgs) (
 unlock_standing_keeps l current a r owner seqids (Some status) passed orderly = failed_orderly l owner passed.row seqids 14 a.seqid status passed.owned passed.seqids_is orderly
 unlock_standing_keeps l current a r owner seqids None passed orderly = unlock_to_keeps l current a r owner seqids (last_byte a.offset a.len) passed orderly
 
-unlock_by : (s : CoreState) (l : NfsLists) (current : Option ℕ) (a : UnlockArgs) (c : Checked) → IfPassed l c → IsOrderly l → Keeps (unlock_found s l current a c)
-unlock_by s l current a (Refused status) passed orderly = orderly
-unlock_by s l current a (Repeated owner) passed orderly = repeat_keeps s l current (find (is_kept owner) l.kept) orderly
-unlock_by s l current a (Passed r owner seqids) passed orderly = unlock_standing_keeps l current a r owner seqids (standing_fault r seqids a.stateid.seqid true) passed orderly
-
 pub unlock_keeps : (s : CoreState) (l : NfsLists) (current : Option ℕ) (a : UnlockArgs) → IsOrderly l → Keeps (unlock s l current a)
 unfolding unlock
-unlock_keeps s l current a orderly = (orderly, λ t. unlock_by t l current a (locks_found t l current 14 a.seqid a.stateid) (found_passed t l current 14 a.seqid a.stateid) orderly)
+unlock_keeps s l current a orderly = (orderly, λ t. counts_keeps t l current kinds.Lock 14 a.seqid a.stateid (λ r w v. unlock_standing l current a r w v (standing_fault r v a.stateid.seqid true)) orderly (λ r w v passed. unlock_standing_keeps l current a r w v (standing_fault r v a.stateid.seqid true) passed orderly))
 
 released_orderly : (l : NfsLists) (o : Option OwnerRow) → IsOrderly l → IsOrderly (without_found l o)
 released_orderly l None orderly = orderly

@@ -12,17 +12,14 @@ use Rattle.xl_nfs.specs.Locks.{LockArgsItem, LockTestArgsItem, NewLockerItem, Lo
 use Rattle.xl_nfs.specs.Ops.{Lock, LockT, LockU, ReleaseLockOwner}
 use Rattle.xl_nfs.specs.Outcomes.{is_ok}
 use Rattle.xl_nfs.specs.declared.basics.LockType.{LockType}
-use Rattle.xl_nfs.specs.declared.basics.Stateid.{Stateid}
 use Rattle.xl_nfs.specs.declared.locks.KnownLocker.{KnownLocker}
 use Rattle.xl_nfs.specs.declared.locks.UnlockArgs.{UnlockArgs}
 use Rattle.xl_nfs.specs.declared.status.NfsStatus.{NfsStatus}
-use Rattle.xl_nfs.specs.declared.status.NfsStatus.TheVariants as statuses
-use Rattle.xl_nfs_state.specs.State.{NfsLists, is_client, is_kept, is_owner, is_stateid}
+use Rattle.xl_nfs_state.specs.State.{NfsLists, is_client, is_kept}
 use Rattle.xl_nfs_state.specs.declared.client.ClientRow.{ClientRow}
 use Rattle.xl_nfs_state.specs.declared.kept.KeptRow.{KeptRow}
 use Rattle.xl_nfs_state.specs.declared.owner.SeqidState.{SeqidState}
-use Rattle.xl_nfs_state.specs.declared.stateid.Holder.{Holder}
-use Rattle.xl_nfs_state.specs.declared.stateid.Holder.TheVariants as holders
+use Rattle.xl_nfs_state.specs.declared.owner.OwnerKind.TheVariants as kinds
 use Rattle.xl_nfs_state.specs.declared.stateid.StateidRow.{StateidRow}
 use Rattle.xl_core.specs.Askers.{IsFit}
 use Rattle.xl_core.specs.Clients.{IsOf}
@@ -32,13 +29,12 @@ use Rattle.xl_core.specs.Good.{IsGood}
 use Rattle.xl_core.specs.State.{CoreState}
 use Rattle.xl_core.specs.declared.ask.Answer.{Answer}
 use Rattle.xl_core.specs.declared.ask.Ask.{Ask}
-use Rattle.xl_nfs_locks.specs.Checks.{holder_found, row_found, number_found, locks_found}
 use Rattle.xl_nfs_locks.specs.FirstLocks.{join_again, join_answered, join_as, join_checked, join_of, join_standing, join_to, joined_by, both_of, found_joined, locker_under, lock_named, lock_new, lock_by, lock}
-use Rattle.xl_nfs_locks.specs.Locks.{access_above, lock_answered, lock_by_owner, lock_end, lock_found, lock_known, lock_standing, lock_to}
+use Rattle.xl_nfs_locks.specs.Locks.{access_above, lock_answered, lock_by_owner, lock_end, lock_known, lock_standing, lock_to}
 use Rattle.xl_nfs_locks.specs.Ranges.{last_byte, may_lock, lock_ask, test_ask}
 use Rattle.xl_nfs_locks.specs.Releases.{holds_any, release_of, release}
 use Rattle.xl_nfs_locks.specs.Tests.{locker_of, tested_told, test_at, test_of, test_to, lock_test}
-use Rattle.xl_nfs_locks.specs.Unlocks.{unlock_status, unlocked_as, unlock_by_owner, unlock_to, unlock_standing, unlock_found, unlock}
+use Rattle.xl_nfs_locks.specs.Unlocks.{unlock_status, unlocked_as, unlock_by_owner, unlock_to, unlock_standing, unlock}
 use Rattle.xl_nfs_locks.specs.declared.joining.BothOwners.{BothOwners}
 use Rattle.xl_nfs_locks.specs.declared.joining.Joined.{Joined}
 use Rattle.xl_nfs_locks.specs.declared.joining.Joined.TheVariants.{Bad, Again, Joins}
@@ -49,12 +45,12 @@ use Rattle.xl_nfs_opens.specs.Opens.{all_rooms, client_in, is_granted}
 use Rattle.xl_nfs_opens.specs.Owners.{is_named, is_holder, is_locker, Names}
 use Rattle.xl_plan.specs.Plans.{Does, Asking}
 use Rattle.xl_nfs_opens.specs.Plans.{Plan}
-use Rattle.xl_nfs_opens.specs.Renewing.{number_of, client_if_live, state_numbered, state_client, renewing}
+use Rattle.xl_nfs_opens.specs.Renewing.{state_client, renewing}
 use Rattle.xl_nfs_opens.specs.Seqids.{is_room_for}
 use Rattle.xl_nfs_opens.specs.declared.opener.Checked.{Checked}
 use Rattle.xl_nfs_opens.specs.declared.opener.Checked.TheVariants.{Refused, Repeated, Passed}
 use Rattle.xl_nfs_opens.specs.declared.opener.Opener.{Opener}
-use Rattle.xl_nfs_opens.proofs.OpenOwn.{Owned, repeat_own, renewing_own, state_own, holder_as, named_as, by_number, owner_client}
+use Rattle.xl_nfs_opens.proofs.OpenOwn.{Owned, counts_own, repeat_own, renewing_own, named_as, by_number}
 use Rattle.xl_nfs_opens.proofs.OwnerLaws.{own_client}
 use Rattle.xl_nfs_opens.proofs.UnderLaws.{opener_is}
 
@@ -119,30 +115,6 @@ asks_own n s Client id a rest is fits of more =
     let later = more r.0 r.2 in
     ((fits, later.0), ((id, is, of), later.1))
 
--- ---- the client of a lock's stateid
-
-holder_client : (l : NfsLists) (x r : StateidRow) (op seqid w : ℕ) (t : SeqidState) (h : Holder) → holder_found l x op seqid h ≡ Passed r w t → client_if_live (Some x) ≡ Some r.client
-holder_client l x r op seqid w t (holders.Lock owner under opener) e = owner_client x r op seqid owner w t (find (is_owner owner) l.owners) e
-holder_client l x r op seqid w t (holders.Open owner) e = absurd cc
-holder_client l x r op seqid w t (holders.Delegation write) e = absurd cc
-
-row_client : (l : NfsLists) (r : StateidRow) (at op seqid w : ℕ) (t : SeqidState) (o : Option StateidRow) → row_found l at op seqid o ≡ Passed r w t → client_if_live o ≡ Some r.client
-row_client l r at op seqid w t None e = absurd cc
-row_client l r at op seqid w t (Some x) e =
-    elim (cases_Bool (x.file == at)) [
-      | inl same ↦ holder_client l x r op seqid w t x.holder (rw same at e)
-      | inr other ↦ (let differs : Refused statuses.BadStateid ≡ Passed r w t = rw other at e in absurd cc)
-    ]
-
-number_client : (l : NfsLists) (r : StateidRow) (at op seqid w : ℕ) (t : SeqidState) (o : Option ℕ) → number_found l at op seqid o ≡ Passed r w t → state_numbered l o ≡ Some r.client
-number_client l r at op seqid w t None e = absurd cc
-number_client l r at op seqid w t (Some number) e = row_client l r at op seqid w t (find (is_stateid number) l.stateids) e
-
-found_client : (s : CoreState) (l : NfsLists) (current : Option ℕ) (op seqid : ℕ) (stateid : Stateid) (r : StateidRow) (w : ℕ) (t : SeqidState) → locks_found s l current op seqid stateid ≡ Passed r w t → state_client s l stateid ≡ Some r.client
-unfolding locks_found
-found_client s l None op seqid stateid r w t e = absurd cc
-found_client s l (Some at) op seqid stateid r w t e = number_client l r at op seqid w t (number_of s stateid.other) e
-
 -- ---- LOCK by a known owner
 
 lock_answered_own : (n : ℕ) (l : NfsLists) (current : Option ℕ) (r : StateidRow) (owner : ℕ) (seqids : SeqidState) (seqid : ℕ) (reclaim : Bool) (Client : List ℕ → Type 0) (answer : Answer) (s : CoreState) → Owned n s Client (lock_answered l current r owner seqids seqid reclaim answer s)
@@ -164,16 +136,11 @@ lock_standing_own : (n : ℕ) (s : CoreState) (l : NfsLists) (current : Option �
 lock_standing_own n s l current a r owner seqids seqid Client (Some status) each = (tt, tt)
 lock_standing_own n s l current a r owner seqids seqid Client None each = lock_to_own n s l current a r owner seqids seqid Client (lock_end a.kind (access_above l r.holder) (last_byte a.offset a.len)) (end_not_before a.kind (access_above l r.holder) a.offset a.len) each
 
-lock_found_own : (n : ℕ) (s : CoreState) (l : NfsLists) (current : Option ℕ) (a : LockArgsItem) (x : KnownLocker) (Client : List ℕ → Type 0) (c : Checked) → ((r : StateidRow) (w : ℕ) (v : SeqidState) (y : ClientRow) → c ≡ Passed r w v → find (is_client r.client true) l.clients ≡ Some y → Client y.id) → Owned n s Client (lock_found s l current a x c)
-lock_found_own n s l current a x Client (Refused status) each = (tt, tt)
-lock_found_own n s l current a x Client (Repeated owner) each = repeat_own n s l current Client (find (is_kept owner) l.kept)
-lock_found_own n s l current a x Client (Passed r owner seqids) each = lock_standing_own n s l current a r owner seqids x.seqid Client (standing_fault r seqids x.stateid.seqid true) (λ y found. each r owner seqids y refl found)
-
 known_own : (n : ℕ) (s : CoreState) (l : NfsLists) (current : Option ℕ) (a : LockArgsItem) (x : KnownLocker) → IsGood s → Owned n s (λ id. is_holder s l x.stateid id) (lock_known s l current a x)
 unfolding lock_known
-known_own n s l current a x good = state_own n s l x.stateid (λ t. lock_found t l current a x (locks_found t l current 12 x.seqid x.stateid)) good
-    (λ t stable left. lock_found_own n t l current a x (λ id. is_holder s l x.stateid id) (locks_found t l current 12 x.seqid x.stateid)
-    (λ r w v y e found. holder_as s t l x.stateid y.id stable (by_number l (state_client t l x.stateid) r.client y (found_client t l current 12 x.seqid x.stateid r w v e) found)))
+known_own n s l current a x good =
+    counts_own n s l current kinds.Lock 12 x.seqid x.stateid (λ t r w v. lock_standing l current a r w v x.seqid (standing_fault r v x.stateid.seqid true)) good
+    (λ t r w v left each. lock_standing_own n t l current a r w v x.seqid (λ id. is_holder s l x.stateid id) (standing_fault r v x.stateid.seqid true) each)
 
 -- ---- LOCK under an open
 
@@ -298,16 +265,11 @@ unlock_standing_own : (n : ℕ) (s : CoreState) (l : NfsLists) (current : Option
 unlock_standing_own n s l current a r owner seqids Client (Some status) each = (tt, tt)
 unlock_standing_own n s l current a r owner seqids Client None each = unlock_to_own n s l current a r owner seqids Client (last_byte a.offset a.len) (last_not_before a.offset a.len) each
 
-unlock_found_own : (n : ℕ) (s : CoreState) (l : NfsLists) (current : Option ℕ) (a : UnlockArgs) (Client : List ℕ → Type 0) (c : Checked) → ((r : StateidRow) (w : ℕ) (v : SeqidState) (y : ClientRow) → c ≡ Passed r w v → find (is_client r.client true) l.clients ≡ Some y → Client y.id) → Owned n s Client (unlock_found s l current a c)
-unlock_found_own n s l current a Client (Refused status) each = (tt, tt)
-unlock_found_own n s l current a Client (Repeated owner) each = repeat_own n s l current Client (find (is_kept owner) l.kept)
-unlock_found_own n s l current a Client (Passed r owner seqids) each = unlock_standing_own n s l current a r owner seqids Client (standing_fault r seqids a.stateid.seqid true) (λ y found. each r owner seqids y refl found)
-
 pub unlock_own : (n : ℕ) (s : CoreState) (l : NfsLists) (current : Option ℕ) (a : UnlockArgs) → IsGood s → Owned n s (Names s l (LockU a)) (unlock s l current a)
 unfolding unlock
-unlock_own n s l current a good = state_own n s l a.stateid (λ t. unlock_found t l current a (locks_found t l current 14 a.seqid a.stateid)) good
-    (λ t stable left. unlock_found_own n t l current a (λ id. is_holder s l a.stateid id) (locks_found t l current 14 a.seqid a.stateid)
-    (λ r w v y e found. holder_as s t l a.stateid y.id stable (by_number l (state_client t l a.stateid) r.client y (found_client t l current 14 a.seqid a.stateid r w v e) found)))
+unlock_own n s l current a good =
+    counts_own n s l current kinds.Lock 14 a.seqid a.stateid (λ t r w v. unlock_standing l current a r w v (standing_fault r v a.stateid.seqid true)) good
+    (λ t r w v left each. unlock_standing_own n t l current a r w v (λ id. is_holder s l a.stateid id) (standing_fault r v a.stateid.seqid true) each)
 
 -- ---- RELEASE_LOCKOWNER
 

@@ -1,44 +1,35 @@
 -- What the check of an open's stateid passes, and with which status it refuses.
-use Rattle.std.proofs.Common.{◌≡◌, ℕ, Bool, true, false, if◌then◌else◌, Option, Some, None, refl, sym, ap, subst, ◌∙◌, ◌↔◌, inl, inr, true≢false}
-use Rattle.std.proofs.lemmas.Bool.{cases_Bool, eq-eqb, eqb-true}
+use Rattle.std.proofs.Common.{◌≡◌, ℕ, true, false, if◌then◌else◌, Option, Some, refl, sym, ap, ◌∙◌, ◌↔◌, true≢false}
+use Rattle.std.proofs.lemmas.Bool.{eq-eqb}
+use Rattle.std.proofs.lemmas.Option.{same_Some}
 use Rattle.std.specs.Bool.{◌==◌}
-use Rattle.std.specs.List.{find}
-use Rattle.std.specs.Prelude.{◌&&◌, IfSome}
-use Rattle.xl_base.proofs.Searches.{find_in}
-use Rattle.xl_base.specs.Lists.{IsIn}
+use Rattle.std.specs.Prelude.{◌&&◌}
 use Rattle.xl_nfs.specs.declared.basics.Stateid.{Stateid}
 use Rattle.xl_nfs.specs.declared.status.NfsStatus.TheVariants as statuses
-use Rattle.xl_nfs_state.specs.State.{NfsLists, is_owner, is_stateid}
-use Rattle.xl_nfs_state.specs.Verdict.{next_seqid, verdict}
+use Rattle.xl_nfs_state.specs.State.{NfsLists}
+use Rattle.xl_nfs_state.specs.Verdict.{next_seqid}
+use Rattle.xl_nfs_state.specs.declared.owner.OwnerKind.TheVariants as kinds
 use Rattle.xl_nfs_state.specs.declared.owner.OwnerRow.{OwnerRow}
 use Rattle.xl_nfs_state.specs.declared.owner.SeqidState.{SeqidState}
 use Rattle.xl_nfs_state.specs.declared.stateid.Holder.{Holder}
 use Rattle.xl_nfs_state.specs.declared.stateid.Holder.TheVariants as holders
 use Rattle.xl_nfs_state.specs.declared.stateid.StateidRow.{StateidRow}
 use Rattle.xl_core.specs.State.{CoreState}
-use Rattle.xl_nfs_opens.specs.Closing.{checked, holder_checked, number_checked, owner_checked, row_checked, seqid_checked}
-use Rattle.xl_nfs_opens.specs.Renewing.{number_of}
-use Rattle.xl_nfs_opens.specs.declared.opener.Checked.{Checked}
-use Rattle.xl_nfs_opens.specs.declared.opener.Checked.TheVariants.{Passed, Refused, Repeated}
+use Rattle.xl_nfs_opens.specs.Closing.{checked, owner_as}
+use Rattle.xl_nfs_opens.proofs.CheckLaws.{IsOwned, passes, refuses}
+use Rattle.xl_nfs_opens.specs.declared.opener.Checked.TheVariants.{Passed, Refused}
 use Rattle.xl_nfs_laws.specs.AnsweredStateids.{IsAstray, IsNextOnOpen, IsOutOfOrder}
 use Rattle.xl_nfs_laws.specs.OpenLaws.{IsOpenOf}
-use Rattle.xl_nfs_laws.proofs.OpenStateidLaws.{next_passes, others_refused}
+use Rattle.xl_nfs_laws.proofs.OpenStateidLaws.{next_passes, opened_is, others_refused}
 
--- ---- what is found
-
--- what passes is next; what is refused with BAD_SEQID is out of order
-abbrev pub IfFound : CoreState → NfsLists → Option ℕ → ℕ → ℕ → Stateid → Checked → Type 0
-IfFound s l current op seqid stateid (Passed r w seqids) = IsNextOnOpen s l current seqid stateid r w seqids
-IfFound s l current op seqid stateid (Repeated owner) = Unit {0}
-IfFound s l current op seqid stateid (Refused status) = status ≡ statuses.BadSeqid → IsOutOfOrder s l current op seqid stateid
-
-next_found : (s : CoreState) (l : NfsLists) (op seqid : ℕ) (stateid : Stateid) (r : StateidRow) (w : ℕ) (o : OwnerRow) (b : Bool) → r.standing.closed ≡ b → IsOpenOf s l stateid r w o → seqid ≡ next_seqid o.seqids.seqid → IfFound s l (Some r.file) op seqid stateid (if b then Refused statuses.BadStateid else Passed r w o.seqids)
-next_found s l op seqid stateid r w o true e is next = λ d. absurd cc
-next_found s l op seqid stateid r w o false e is next = record { row = o; opened = is; file = refl; live = e; seqids_is = refl; seqid_is = next }
-
-astray_found : (s : CoreState) (l : NfsLists) (op seqid : ℕ) (stateid : Stateid) (r : StateidRow) (w : ℕ) (o : OwnerRow) (b : Bool) → r.standing.closed ≡ b → IsOpenOf s l stateid r w o → IsAstray o op seqid → IfFound s l (Some r.file) op seqid stateid (Refused (if b then statuses.BadStateid else statuses.BadSeqid))
-astray_found s l op seqid stateid r w o true e is astray = λ d. absurd cc
-astray_found s l op seqid stateid r w o false e is astray = λ d. record { row = r; number = w; owner = o; opened = is; file = refl; live = e; astray = astray }
+-- what is owned so is an open
+pub open_of : (s : CoreState) (l : NfsLists) (stateid : Stateid) (r : StateidRow) (w : ℕ) (o : OwnerRow) → IsOwned kinds.Open s l stateid r w o → IsOpenOf s l stateid r w o
+open_of s l stateid r w o is = by r.holder refl is.holder
+  where
+    by : (h : Holder) → r.holder ≡ h → owner_as kinds.Open h ≡ Some w → IsOpenOf s l stateid r w o
+    by (holders.Open owner) holds e = record { number = is.number; found = is.found; holder = holds ∙ ap (λ (m : ℕ). holders.Open m) (same_Some owner w e); owner = is.owner }
+    by (holders.Lock owner under opener) holds e = absurd cc
+    by (holders.Delegation write) holds e = absurd cc
 
 -- seqids and operations that the tests tell apart
 pub is_astray : (o : OwnerRow) (op seqid : ℕ) → (seqid == next_seqid o.seqids.seqid) ≡ false → ((seqid == o.seqids.seqid) && (op == o.seqids.op)) ≡ false → IsAstray o op seqid
@@ -50,54 +41,18 @@ is_astray o op seqid next last = record {
     both : seqid ≡ o.seqids.seqid → op ≡ o.seqids.op → ((seqid == o.seqids.seqid) && (op == o.seqids.op)) ≡ true
     both e d = rw (eq-eqb seqid o.seqids.seqid e) (eq-eqb op o.seqids.op d)
 
-seqid_found : (s : CoreState) (l : NfsLists) (op seqid : ℕ) (stateid : Stateid) (r : StateidRow) (w : ℕ) (o : OwnerRow) → IsOpenOf s l stateid r w o → IfFound s l (Some r.file) op seqid stateid (seqid_checked r w o.seqids (verdict (Some o.seqids) op seqid))
-seqid_found s l op seqid stateid r w o is =
-    elim (cases_Bool (seqid == next_seqid o.seqids.seqid)) [
-      | inl e ↦ rw e (next_found s l op seqid stateid r w o r.standing.closed refl is (eqb-true seqid (next_seqid o.seqids.seqid) e))
-      | inr e ↦ elim (cases_Bool ((seqid == o.seqids.seqid) && (op == o.seqids.op))) [
-        | inl d ↦ rw e (rw d tt)
-        | inr d ↦ (let far = is_astray o op seqid e d in rw e (rw d (astray_found s l op seqid stateid r w o r.standing.closed refl is far)))
-      ]
-    ]
-
-holder_found : (s : CoreState) (l : NfsLists) (op seqid : ℕ) (stateid : Stateid) (r : StateidRow) (h : Holder) → r.holder ≡ h → number_of s stateid.other ≡ Some r.number → find (is_stateid r.number) l.stateids ≡ Some r → IfFound s l (Some r.file) op seqid stateid (holder_checked l r op seqid h)
-holder_found s l op seqid stateid r (holders.Lock owner under opener) holds named found = λ d. absurd cc
-holder_found s l op seqid stateid r (holders.Delegation write) holds named found = λ d. absurd cc
-holder_found s l op seqid stateid r (holders.Open owner) holds named found = by (find (is_owner owner) l.owners) refl
-  where
-    by : (x : Option OwnerRow) → find (is_owner owner) l.owners ≡ x → IfFound s l (Some r.file) op seqid stateid (owner_checked r op seqid owner x)
-    by None e = λ d. absurd cc
-    by (Some o) e = seqid_found s l op seqid stateid r owner o (record { number = named; found = found; holder = holds; owner = e })
-
-row_found : (s : CoreState) (l : NfsLists) (at op seqid number : ℕ) (stateid : Stateid) (x : Option StateidRow) → number_of s stateid.other ≡ Some number → find (is_stateid number) l.stateids ≡ x → IfFound s l (Some at) op seqid stateid (row_checked l at op seqid x)
-row_found s l at op seqid number stateid None named e = λ d. absurd cc
-row_found s l at op seqid number stateid (Some r) named e =
-    let is : number ≡ r.number = eqb-true number r.number (subst (λ (x : Option StateidRow). IfSome x (λ y. IsIn y l.stateids × ((number == y.number) ≡ true))) e (find_in (is_stateid number) l.stateids)).1 in
-    elim (cases_Bool (r.file == at)) [
-      | inl same ↦ rw same (subst (λ (file : ℕ). IfFound s l (Some file) op seqid stateid (holder_checked l r op seqid r.holder)) (eqb-true r.file at same) (holder_found s l op seqid stateid r r.holder refl (named ∙ ap (λ (m : ℕ). Some m) is) (subst (λ (m : ℕ). find (is_stateid m) l.stateids ≡ Some r) is e)))
-      | inr other ↦ rw other (λ d. absurd cc)
-    ]
-
-number_found : (s : CoreState) (l : NfsLists) (at op seqid : ℕ) (stateid : Stateid) (x : Option ℕ) → number_of s stateid.other ≡ x → IfFound s l (Some at) op seqid stateid (number_checked l at op seqid x)
-number_found s l at op seqid stateid None named = λ d. absurd cc
-number_found s l at op seqid stateid (Some number) named = row_found s l at op seqid number stateid (find (is_stateid number) l.stateids) named refl
-
-pub open_found : (s : CoreState) (l : NfsLists) (current : Option ℕ) (op seqid : ℕ) (stateid : Stateid) → IfFound s l current op seqid stateid (checked s l current op seqid stateid)
-unfolding checked
-open_found s l None op seqid stateid = λ d. absurd cc
-open_found s l (Some at) op seqid stateid = number_found s l at op seqid stateid (number_of s stateid.other) refl
-
 pub passed_is : (s : CoreState) (l : NfsLists) (current : Option ℕ) (op seqid : ℕ) (stateid : Stateid) (r : StateidRow) (w : ℕ) (seqids : SeqidState) → checked s l current op seqid stateid ≡ Passed r w seqids → IsNextOnOpen s l current seqid stateid r w seqids
-passed_is s l current op seqid stateid r w seqids e = subst (λ (c : Checked). IfFound s l current op seqid stateid c) e (open_found s l current op seqid stateid)
+passed_is s l current op seqid stateid = passes (IsNextOnOpen s l current seqid stateid) kinds.Open s l current op seqid stateid (λ r w o file is live next. record { row = o; opened = open_of s l stateid r w o is; file = file; live = live; seqids_is = refl; seqid_is = next })
 
 pub open_exactly : (s : CoreState) (l : NfsLists) (current : Option ℕ) (op seqid : ℕ) (stateid : Stateid) (r : StateidRow) (w : ℕ) (seqids : SeqidState) → (checked s l current op seqid stateid ≡ Passed r w seqids) ↔ IsNextOnOpen s l current seqid stateid r w seqids
 open_exactly s l current op seqid stateid r w seqids = (
   passed_is s l current op seqid stateid r w seqids,
-  λ is. ap (λ (x : Option ℕ). checked s l x op seqid stateid) is.file ∙ next_passes s l op seqid stateid r w is.row is.opened is.seqid_is is.live ∙ ap (λ (t : SeqidState). Passed r w t) (sym is.seqids_is),
+  λ is. ap (λ (x : Option ℕ). checked s l x op seqid stateid) is.file ∙ next_passes kinds.Open s l op seqid stateid r w is.row (opened_is s l stateid r w is.row is.opened) is.seqid_is is.live ∙ ap (λ (t : SeqidState). Passed r w t) (sym is.seqids_is),
 )
 
 pub astray_exactly : (s : CoreState) (l : NfsLists) (current : Option ℕ) (op seqid : ℕ) (stateid : Stateid) → (checked s l current op seqid stateid ≡ Refused statuses.BadSeqid) ↔ IsOutOfOrder s l current op seqid stateid
 astray_exactly s l current op seqid stateid = (
-  λ e. subst (λ (c : Checked). IfFound s l current op seqid stateid c) e (open_found s l current op seqid stateid) refl,
-  λ is. ap (λ (x : Option ℕ). checked s l x op seqid stateid) is.file ∙ others_refused s l op seqid stateid is.row is.number is.owner is.opened is.astray.not_next is.astray.not_last is.live,
+  λ e. refuses (λ status. status ≡ statuses.BadSeqid → IsOutOfOrder s l current op seqid stateid) kinds.Open s l current op seqid stateid (λ _ d. absurd cc) (λ _ _ d. absurd cc) (λ d. absurd cc)
+      (λ r w o file is live next last d. record { row = r; number = w; owner = o; opened = open_of s l stateid r w o is; file = file; live = live; astray = is_astray o op seqid next last }) statuses.BadSeqid e refl,
+  λ is. ap (λ (x : Option ℕ). checked s l x op seqid stateid) is.file ∙ others_refused kinds.Open s l op seqid stateid is.row is.number is.owner (opened_is s l stateid is.row is.number is.owner is.opened) is.astray.not_next is.astray.not_last is.live,
 )

@@ -46,7 +46,7 @@ use Rattle.xl_core.specs.Deeds.{Deed, Asks, Draws, GivesBack, AreFit, IsFitDeed,
 use Rattle.xl_core.specs.Good.{IsGood, caches_of}
 use Rattle.xl_core.specs.State.{CoreState, drawn}
 use Rattle.xl_nfs_laws.specs.Delegated.{AreSet, AreTied, IsShut, delegation_held, delegation_kept, delegation_numbered, is_open_still, number_confirmed, written_by}
-use Rattle.xl_nfs_opens.specs.Closing.{Returning, cache_of, cache_of_client, deleg_return, return_done, returned}
+use Rattle.xl_nfs_opens.specs.Closing.{Returning, cache_of, cache_of_client, deleg_return, return_done, returned, state_found}
 use Rattle.xl_core.specs.Ids.{number_in}
 use Rattle.xl_nfs_opens.specs.Opens.{all_rooms, answer_status, answered, cache_by, cache_held, claim_client, client_in, delegated, delegation_in, draws_for, either_bits, entered, freed, given_up, gives, gives_all, granted_by, granted_more, granted_new, granted_wish, has_none, has_room, is_granted, judged, kind_for, open_as, open_at, open_by, open_claimed, open_file, open_held, open_judged, open_of, open_row, open_seqids, opened_file, opener_of, reclaims, refused_lists, repeated, share_ask, share_held, stood, unless_held, wish_of}
 use Rattle.xl_plan.specs.Plans.{Behind}
@@ -452,7 +452,7 @@ record IsFoundRow (l : NfsLists) (r : StateidRow) : Type 0 where
   holds : r.holder ≡ holders.Delegation write
 
 none_returned : (s : CoreState) (l : NfsLists) (stateid : Stateid) → returned s l None stateid ≡ Err statuses.NoFileHandle
-unfolding returned
+unfolding returned state_found
 none_returned s l stateid = refl
 
 returned_row : (s : CoreState) (l : NfsLists) (current : Option ℕ) (stateid : Stateid) (r : StateidRow) → returned s l current stateid ≡ Ok r → IsFoundRow l r

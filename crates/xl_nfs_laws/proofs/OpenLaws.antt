@@ -12,28 +12,25 @@ use Rattle.xl_nfs.specs.declared.opens.CloseArgs.{CloseArgs}
 use Rattle.xl_nfs.specs.declared.opens.OpenConfirmArgs.{OpenConfirmArgs}
 use Rattle.xl_nfs.specs.declared.opens.OpenDowngradeArgs.{OpenDowngradeArgs}
 use Rattle.xl_nfs.specs.declared.status.NfsStatus.{NfsStatus}
-use Rattle.xl_nfs.specs.declared.status.NfsStatus.TheVariants as statuses
 use Rattle.xl_nfs_state.specs.Filed.{changed}
 use Rattle.xl_nfs_state.specs.Rows.{with_seqids}
 use Rattle.xl_nfs_state.specs.State.{NfsLists, is_kept, is_owner, is_stateid}
-use Rattle.xl_nfs_state.specs.Verdict.{next_seqid, verdict}
+use Rattle.xl_nfs_state.specs.Verdict.{next_seqid}
 use Rattle.xl_nfs_state.specs.declared.kept.KeptRow.{KeptRow}
+use Rattle.xl_nfs_state.specs.declared.owner.OwnerKind.TheVariants as kinds
 use Rattle.xl_nfs_state.specs.declared.owner.OwnerRow.{OwnerRow}
 use Rattle.xl_nfs_state.specs.declared.owner.SeqidState.{SeqidState}
-use Rattle.xl_nfs_state.specs.declared.seqid.SeqidVerdict.{SeqidVerdict}
-use Rattle.xl_nfs_state.specs.declared.seqid.SeqidVerdict.TheVariants as verdicts
-use Rattle.xl_nfs_state.specs.declared.stateid.Holder.{Holder}
-use Rattle.xl_nfs_state.specs.declared.stateid.Holder.TheVariants as holders
 use Rattle.xl_nfs_state.specs.declared.stateid.StateidRow.{StateidRow}
 use Rattle.xl_core.specs.State.{CoreState}
-use Rattle.xl_nfs_opens.specs.Closing.{seqid_checked, owner_checked, holder_checked, row_checked, number_checked, checked, confirm_by, close_by, failed_lists}
+use Rattle.xl_nfs_opens.proofs.CheckLaws.{IsOwned, passes}
+use Rattle.xl_nfs_opens.specs.Closing.{checked, confirm_by, close_by, failed_lists}
 use Rattle.xl_nfs_opens.specs.Downgrades.{downgrade_by}
 use Rattle.xl_nfs_laws.specs.OpenLaws.{IsRepeated}
 use Rattle.xl_nfs_opens.specs.Opens.{rights_of, bits_of, either_bits, judged_by, judged, repeated, open_judged}
 use Rattle.xl_nfs_opens.specs.Plans.{carried}
 use Rattle.xl_nfs_opens.specs.Renewing.{number_of}
 use Rattle.xl_nfs_opens.specs.Seqids.{advances, is_opener, closed_gone, seqid_set, kept_for, counted}
-use Rattle.xl_nfs_opens.specs.declared.opener.Checked.TheVariants.{Refused, Repeated, Passed}
+use Rattle.xl_nfs_opens.specs.declared.opener.Checked.TheVariants.{Repeated, Passed}
 use Rattle.xl_nfs_opens.specs.declared.opener.Judged.TheVariants as judgements
 use Rattle.xl_nfs_opens.specs.declared.opener.Opener.{Opener}
 
@@ -75,45 +72,8 @@ last_repeats l o r seqid found same op le = ap (λ (x : Option OwnerRow). judged
 
 -- ---- seqids
 
-next_is : (r x : StateidRow) (owner w : ℕ) (seqids t : SeqidState) (seqid op : ℕ) → seqid_checked r owner seqids (verdict (Some seqids) op seqid) ≡ Passed x w t → seqid ≡ next_seqid t.seqid
-next_is r x owner w seqids t seqid op e =
-    elim (cases_Bool (seqid == next_seqid seqids.seqid)) [
-      | inl next ↦ subst (λ (v : SeqidState). seqid ≡ next_seqid v.seqid) (seqids_is r.standing.closed (rw next at e)) (eqb-true seqid (next_seqid seqids.seqid) next)
-      | inr other ↦ elim (cases_Bool ((seqid == seqids.seqid) && (op == seqids.op))) [
-        | inl last ↦ (let f : Repeated owner ≡ Passed x w t = rw last at (rw other at e) in absurd cc)
-        | inr bad ↦ (let f : Refused (if r.standing.closed then statuses.BadStateid else statuses.BadSeqid) ≡ Passed x w t = rw bad at (rw other at e) in absurd cc)
-      ]
-    ]
-  where
-    seqids_is : (b : Bool) → (if b then Refused statuses.BadStateid else Passed r owner seqids) ≡ Passed x w t → seqids ≡ t
-    seqids_is true f = absurd cc
-    seqids_is false f = cc
-
-row_next : (l : NfsLists) (r x : StateidRow) (op seqid w : ℕ) (t : SeqidState) (h : Holder) → holder_checked l r op seqid h ≡ Passed x w t → seqid ≡ next_seqid t.seqid
-row_next l r x op seqid w t (holders.Open owner) e = by (find (is_owner owner) l.owners) e
-  where
-    by : (o : Option OwnerRow) → owner_checked r op seqid owner o ≡ Passed x w t → seqid ≡ next_seqid t.seqid
-    by None f = absurd cc
-    by (Some o) f = next_is r x owner w o.seqids t seqid op f
-row_next l r x op seqid w t (holders.Lock owner under opener) e = absurd cc
-row_next l r x op seqid w t (holders.Delegation write) e = absurd cc
-
-found_next : (l : NfsLists) (x : StateidRow) (at op seqid w : ℕ) (t : SeqidState) (o : Option StateidRow) → row_checked l at op seqid o ≡ Passed x w t → seqid ≡ next_seqid t.seqid
-found_next l x at op seqid w t None e = absurd cc
-found_next l x at op seqid w t (Some r) e =
-    elim (cases_Bool (r.file == at)) [
-      | inl same ↦ row_next l r x op seqid w t r.holder (rw same at e)
-      | inr other ↦ (let f : Refused statuses.BadStateid ≡ Passed x w t = rw other at e in absurd cc)
-    ]
-
 pub passed_next : (s : CoreState) (l : NfsLists) (current : Option ℕ) (op seqid : ℕ) (stateid : Stateid) (x : StateidRow) (w : ℕ) (t : SeqidState) → checked s l current op seqid stateid ≡ Passed x w t → seqid ≡ next_seqid t.seqid
-unfolding checked
-passed_next s l None op seqid stateid x w t e = absurd cc
-passed_next s l (Some at) op seqid stateid x w t e = by (number_of s stateid.other) e
-  where
-    by : (o : Option ℕ) → number_checked l at op seqid o ≡ Passed x w t → seqid ≡ next_seqid t.seqid
-    by None f = absurd cc
-    by (Some number) f = found_next l x at op seqid w t (find (is_stateid number) l.stateids) f
+passed_next s l current op seqid stateid = passes (λ x w t. seqid ≡ next_seqid t.seqid) kinds.Open s l current op seqid stateid (λ r w o file is live next. next)
 
 -- a request that counts sets how far its owner's have come, and no other's
 pub seqid_set_at : (number owner : ℕ) (seqids : SeqidState) (rs : List OwnerRow) → find (is_owner number) (changed (is_owner owner) (with_seqids seqids) rs) ≡ option_map (λ r. if number == owner then with_seqids seqids r else r) (find (is_owner number) rs)
@@ -175,34 +135,15 @@ left_alone l owner seqids op seqid status e = rw e refl
 
 -- ---- a closed open
 
-closed_row : (r x : StateidRow) (owner w : ℕ) (seqids t : SeqidState) (v : SeqidVerdict) → r.standing.closed ≡ true → seqid_checked r owner seqids v ≡ Passed x w t → ⊥
-closed_row r x owner w seqids t verdicts.Repeat closed e = cc
-closed_row r x owner w seqids t verdicts.Next closed e = (let f : Refused statuses.BadStateid ≡ Passed x w t = rw closed at e in cc)
-closed_row r x owner w seqids t verdicts.New closed e = cc
-closed_row r x owner w seqids t (verdicts.Bad last) closed e = cc
-
-closed_holder : (l : NfsLists) (r x : StateidRow) (op seqid w : ℕ) (t : SeqidState) (h : Holder) → r.standing.closed ≡ true → holder_checked l r op seqid h ≡ Passed x w t → ⊥
-closed_holder l r x op seqid w t (holders.Open owner) closed e = by (find (is_owner owner) l.owners) e
-  where
-    by : (o : Option OwnerRow) → owner_checked r op seqid owner o ≡ Passed x w t → ⊥
-    by None f = cc
-    by (Some o) f = closed_row r x owner w o.seqids t (verdict (Some o.seqids) op seqid) closed f
-closed_holder l r x op seqid w t (holders.Lock owner under opener) closed e = cc
-closed_holder l r x op seqid w t (holders.Delegation write) closed e = cc
-
-closed_found : (l : NfsLists) (r x : StateidRow) (at op seqid w : ℕ) (t : SeqidState) → r.standing.closed ≡ true → row_checked l at op seqid (Some r) ≡ Passed x w t → ⊥
-closed_found l r x at op seqid w t closed e =
-    elim (cases_Bool (r.file == at)) [
-      | inl same ↦ closed_holder l r x op seqid w t r.holder closed (rw same at e)
-      | inr other ↦ (let f : Refused statuses.BadStateid ≡ Passed x w t = rw other at e in cc)
-    ]
-
 -- nothing more is done on it
 pub closed_is_over : (s : CoreState) (l : NfsLists) (current : Option ℕ) (op seqid number : ℕ) (stateid : Stateid) (r x : StateidRow) (w : ℕ) (t : SeqidState) → number_of s stateid.other ≡ Some number → find (is_stateid number) l.stateids ≡ Some r → r.standing.closed ≡ true → checked s l current op seqid stateid ≡ Passed x w t → ⊥
-unfolding checked
-closed_is_over s l None op seqid number stateid r x w t named found closed e = cc
-closed_is_over s l (Some at) op seqid number stateid r x w t named found closed e =
-    closed_found l r x at op seqid w t closed (sym (ap (λ (o : Option ℕ). number_checked l at op seqid o) named ∙ ap (λ (o : Option StateidRow). row_checked l at op seqid o) found) ∙ e)
+closed_is_over s l current op seqid number stateid r x w t named found closed e = passes (λ _ _ _. ⊥) kinds.Open s l current op seqid stateid over x w t e
+  where
+    over : (y : StateidRow) (v : ℕ) (o : OwnerRow) → current ≡ Some y.file → IsOwned kinds.Open s l stateid y v o → y.standing.closed ≡ false → seqid ≡ next_seqid o.seqids.seqid → ⊥
+    over y v o file is live next =
+        let one : number ≡ y.number = same_Some number y.number (sym named ∙ is.number) in
+        let same : r ≡ y = same_Some r y (sym found ∙ subst (λ (m : ℕ). find (is_stateid m) l.stateids ≡ Some y) (sym one) is.found) in
+        true≢false (sym closed ∙ ap (λ (z : StateidRow). z.standing.closed) same ∙ live)
 
 -- ---- what an open has
 

@@ -29,8 +29,8 @@ use Rattle.xl_core.specs.Deeds.{Deed, Asks, GivesBack, Weakens, Acks, Cancels, E
 use Rattle.xl_core.specs.Good.{IsGood}
 use Rattle.xl_core.specs.State.{CoreState, drawn}
 use Rattle.xl_core.specs.declared.ask.Answer.{Answer}
-use Rattle.xl_nfs_opens.specs.Closing.{checked, close, close_by, close_done, confirm_by, cache_of, confirm_done, Returning, returned, return_done, deleg_return, done_lists, failed_lists, locks_gone, next_seqids, open_confirm, share_of_open, standing_fault, state_told}
-use Rattle.xl_nfs_opens.specs.Downgrades.{downgrade_by, downgrade_done, downgrade_fault, open_downgrade, weakens}
+use Rattle.xl_nfs_opens.specs.Closing.{counts, checked, close, close_done, cache_of, confirm_done, Returning, returned, return_done, deleg_return, done_lists, failed_lists, locks_gone, next_seqids, open_confirm, share_of_open, standing_fault, state_told}
+use Rattle.xl_nfs_opens.specs.Downgrades.{downgrade_done, downgrade_fault, open_downgrade, weakens}
 use Rattle.xl_nfs_laws.specs.StateidNumbers.{AreGivenOut, StayGivenOut}
 use Rattle.xl_nfs_opens.specs.Opens.{freed, answer_status, answered, can_enter, can_stand, client_in, delegated, delegated_in, delegation_row, delegation_told, drawn_for, draws_for, either_bits, entered, gives, granted_by, granted_new, granted_wish, has_room, is_granted, judged, open_as, open_at, open_by, open_claimed, open_file, open_held, open_judged, open_of, open_row, open_seqids, opened_file, opened_told, opener_of, reclaims, refused, refused_lists, repeated, rights_of, stood, wish_of}
 use Rattle.xl_nfs_opens.specs.Owners.{IsBy, AreBy}
@@ -280,31 +280,29 @@ open_few files others s l current a given = (
 
 -- ---- OPEN_CONFIRM, OPEN_DOWNGRADE, CLOSE, DELEGRETURN
 
+-- a request on a stateid draws few, if it does once it passed
+pub counts_few : (last : ℕ) (s : CoreState) (l : NfsLists) (current : Option ℕ) (rest : StateidRow → ℕ → SeqidState → Plan) (c : Checked) → AreGivenOut last l → ((r : StateidRow) (w : ℕ) (v : SeqidState) → AreFew last (rest r w v)) → AreFew last (counts s l current rest c)
+counts_few last s l current rest (Refused status) given each = does_few last [] l given
+counts_few last s l current rest (Repeated owner) given each = repeat_few last s l current (find (is_kept owner) l.kept) given
+counts_few last s l current rest (Passed r w v) given each = each r w v
+
 confirm_done_few : (last : ℕ) (s : CoreState) (l : NfsLists) (current : Option ℕ) (a : OpenConfirmArgs) (r : StateidRow) (owner : ℕ) (seqids : SeqidState) (x : Option NfsStatus) → AreGivenOut last l → AreFew last (confirm_done s l current a r owner seqids x)
 confirm_done_few last s l current a r owner seqids (Some status) given = does_few last [] (failed_lists l owner seqids 20 a.seqid status) (failed_given last l owner seqids 20 a.seqid status given)
 confirm_done_few last s l current a r owner seqids None given = does_few last [] (done_lists s l r owner seqids 20 a.seqid true None r.standing.access r.standing.deny false) (done_given last s l r owner seqids 20 a.seqid true None r.standing.access r.standing.deny false given)
 
-confirm_by_few : (last : ℕ) (s : CoreState) (l : NfsLists) (current : Option ℕ) (a : OpenConfirmArgs) (c : Checked) → AreGivenOut last l → AreFew last (confirm_by s l current a c)
-confirm_by_few last s l current a (Refused status) given = does_few last [] l given
-confirm_by_few last s l current a (Repeated owner) given = repeat_few last s l current (find (is_kept owner) l.kept) given
-confirm_by_few last s l current a (Passed r owner seqids) given = confirm_done_few last s l current a r owner seqids (standing_fault r seqids a.stateid.seqid false) given
-
 pub confirm_few : (s : CoreState) (l : NfsLists) (current : Option ℕ) (a : OpenConfirmArgs) → AreGivenOut s.counter l → AreFew s.counter (open_confirm s l current a)
 unfolding open_confirm
-confirm_few s l current a given = (given, λ t le. confirm_by_few t.counter t l current a (checked t l current 20 a.seqid a.stateid) (later_on s.counter t.counter l le given))
+confirm_few s l current a given =
+    (given, λ t le. (let after = later_on s.counter t.counter l le given in counts_few t.counter t l current (λ r w v. confirm_done t l current a r w v (standing_fault r v a.stateid.seqid false)) (checked t l current 20 a.seqid a.stateid) after (λ r w v. confirm_done_few t.counter t l current a r w v (standing_fault r v a.stateid.seqid false) after)))
 
 downgrade_done_few : (last : ℕ) (s : CoreState) (l : NfsLists) (current : Option ℕ) (a : OpenDowngradeArgs) (r : StateidRow) (owner : ℕ) (seqids : SeqidState) (x : Option NfsStatus) → AreGivenOut last l → AreFew last (downgrade_done s l current a r owner seqids x)
 downgrade_done_few last s l current a r owner seqids (Some status) given = does_few last [] (failed_lists l owner seqids 21 a.seqid status) (failed_given last l owner seqids 21 a.seqid status given)
 downgrade_done_few last s l current a r owner seqids None given = does_few last (weakens (share_of_open s l r owner) (rights_of a.access) (rights_of a.deny)) (done_lists s l r owner seqids 21 a.seqid seqids.confirmed None a.access a.deny false) (done_given last s l r owner seqids 21 a.seqid seqids.confirmed None a.access a.deny false given)
 
-downgrade_by_few : (last : ℕ) (s : CoreState) (l : NfsLists) (current : Option ℕ) (a : OpenDowngradeArgs) (c : Checked) → AreGivenOut last l → AreFew last (downgrade_by s l current a c)
-downgrade_by_few last s l current a (Refused status) given = does_few last [] l given
-downgrade_by_few last s l current a (Repeated owner) given = repeat_few last s l current (find (is_kept owner) l.kept) given
-downgrade_by_few last s l current a (Passed r owner seqids) given = downgrade_done_few last s l current a r owner seqids (downgrade_fault r seqids a) given
-
 pub downgrade_few : (s : CoreState) (l : NfsLists) (current : Option ℕ) (a : OpenDowngradeArgs) → AreGivenOut s.counter l → AreFew s.counter (open_downgrade s l current a)
 unfolding open_downgrade
-downgrade_few s l current a given = (given, λ t le. downgrade_by_few t.counter t l current a (checked t l current 21 a.seqid a.stateid) (later_on s.counter t.counter l le given))
+downgrade_few s l current a given =
+    (given, λ t le. (let after = later_on s.counter t.counter l le given in counts_few t.counter t l current (λ r w v. downgrade_done t l current a r w v (downgrade_fault r v a)) (checked t l current 21 a.seqid a.stateid) after (λ r w v. downgrade_done_few t.counter t l current a r w v (downgrade_fault r v a) after)))
 
 close_done_few : (last : ℕ) (s : CoreState) (l : NfsLists) (current : Option ℕ) (a : CloseArgs) (r : StateidRow) (owner : ℕ) (seqids : SeqidState) (x : Option NfsStatus) → AreGivenOut last l → AreFew last (close_done s l current a r owner seqids x)
 close_done_few last s l current a r owner seqids (Some status) given = does_few last [] (failed_lists l owner seqids 4 a.seqid status) (failed_given last l owner seqids 4 a.seqid status given)
@@ -317,14 +315,10 @@ close_done_few last s l current a r owner seqids None given = (
       (done_given t.counter t l r owner seqids 4 a.seqid seqids.confirmed (Some r.number) r.standing.access r.standing.deny true (later_on last t.counter l le given)))),
 )
 
-close_by_few : (last : ℕ) (s : CoreState) (l : NfsLists) (current : Option ℕ) (a : CloseArgs) (c : Checked) → AreGivenOut last l → AreFew last (close_by s l current a c)
-close_by_few last s l current a (Refused status) given = does_few last [] l given
-close_by_few last s l current a (Repeated owner) given = repeat_few last s l current (find (is_kept owner) l.kept) given
-close_by_few last s l current a (Passed r owner seqids) given = close_done_few last s l current a r owner seqids (standing_fault r seqids a.stateid.seqid true) given
-
 pub close_few : (s : CoreState) (l : NfsLists) (current : Option ℕ) (a : CloseArgs) → AreGivenOut s.counter l → AreFew s.counter (close s l current a)
 unfolding close
-close_few s l current a given = (given, λ t le. close_by_few t.counter t l current a (checked t l current 4 a.seqid a.stateid) (later_on s.counter t.counter l le given))
+close_few s l current a given =
+    (given, λ t le. (let after = later_on s.counter t.counter l le given in counts_few t.counter t l current (λ r w v. close_done t l current a r w v (standing_fault r v a.stateid.seqid true)) (checked t l current 4 a.seqid a.stateid) after (λ r w v. close_done_few t.counter t l current a r w v (standing_fault r v a.stateid.seqid true) after)))
 
 return_done_few : (s : CoreState) (l : NfsLists) (current : Option ℕ) (x : Returning) → AreGivenOut s.counter l → AreFew s.counter (return_done s l current x)
 return_done_few s l current (Err status) given = does_few s.counter [] l given

@@ -34,8 +34,8 @@ use Rattle.xl_nfs_state.specs.declared.stateid.StateidRow.{StateidRow}
 use Rattle.xl_nfs_state.specs.declared.stateid.Whose.TheVariants as whose
 use Rattle.xl_core.specs.State.{CoreState, drawn}
 use Rattle.xl_core.specs.declared.ask.Answer.{Answer}
-use Rattle.xl_nfs_opens.specs.Closing.{checked, close, close_by, close_done, confirm_by, confirm_done, Returning, returned, return_done, deleg_return, done_lists, failed_lists, next_seqids, open_confirm, standing_fault, state_told}
-use Rattle.xl_nfs_opens.specs.Downgrades.{downgrade_by, downgrade_done, downgrade_fault, open_downgrade}
+use Rattle.xl_nfs_opens.specs.Closing.{checked_as, counts, close, close_done, confirm_done, Returning, returned, return_done, deleg_return, done_lists, failed_lists, next_seqids, open_confirm, standing_fault, state_told}
+use Rattle.xl_nfs_opens.specs.Downgrades.{downgrade_done, downgrade_fault, open_downgrade}
 use Rattle.xl_nfs_opens.specs.Opens.{answer_status, answered, can_enter, can_stand, delegated, delegated_in, delegation_row, delegation_told, drawn_for, granted_wish, wish_of, either_bits, entered, granted_by, has_room, is_granted, judged, live, open_as, open_at, open_by, open_claimed, open_file, open_held, open_judged, open_of, open_row, open_seqids, opened_file, opened_told, opener_of, client_in, reclaims, refused_lists, repeated, stood}
 use Rattle.xl_nfs_laws.specs.Orderly.{are_apart, closes, IsHeldBy, IsOrderly, IsOwnedBy}
 use Rattle.xl_plan.specs.Plans.{AllKept}
@@ -385,44 +385,38 @@ open_keeps files others s l current a orderly = (orderly, λ t. (orderly, λ u. 
 
 -- ---- OPEN_CONFIRM, OPEN_DOWNGRADE, CLOSE, DELEGRETURN
 
+-- a request on a stateid keeps them, if it does once it passed
+pub counts_keeps : (s : CoreState) (l : NfsLists) (current : Option ℕ) (kind : OwnerKind) (op seqid : ℕ) (stateid : Stateid) (rest : StateidRow → ℕ → SeqidState → Plan) → IsOrderly l → ((r : StateidRow) (w : ℕ) (v : SeqidState) → IsPassed l r w v → Keeps (rest r w v)) → Keeps (counts s l current rest (checked_as kind s l current op seqid stateid))
+counts_keeps s l current kind op seqid stateid rest orderly each = by (checked_as kind s l current op seqid stateid) (checked_passed kind s l current op seqid stateid)
+  where
+    by : (c : Checked) → IfPassed l c → Keeps (counts s l current rest c)
+    by (Refused status) passed = orderly
+    by (Repeated owner) passed = repeat_keeps s l current (find (is_kept owner) l.kept) orderly
+    by (Passed r w v) passed = each r w v passed
+
 confirm_done_keeps : (s : CoreState) (l : NfsLists) (current : Option ℕ) (a : OpenConfirmArgs) (r : StateidRow) (owner : ℕ) (seqids : SeqidState) (x : Option NfsStatus) → IsPassed l r owner seqids → IsOrderly l → Keeps (confirm_done s l current a r owner seqids x)
 confirm_done_keeps s l current a r owner seqids (Some status) passed orderly = failed_orderly l owner passed.row seqids 20 a.seqid status passed.owned passed.seqids_is orderly
 confirm_done_keeps s l current a r owner seqids None passed orderly = done_orderly s l r owner seqids 20 a.seqid true r.standing.access r.standing.deny passed orderly
 
-confirm_by_keeps : (s : CoreState) (l : NfsLists) (current : Option ℕ) (a : OpenConfirmArgs) (c : Checked) → IfPassed l c → IsOrderly l → Keeps (confirm_by s l current a c)
-confirm_by_keeps s l current a (Refused status) passed orderly = orderly
-confirm_by_keeps s l current a (Repeated owner) passed orderly = repeat_keeps s l current (find (is_kept owner) l.kept) orderly
-confirm_by_keeps s l current a (Passed r owner seqids) passed orderly = confirm_done_keeps s l current a r owner seqids (standing_fault r seqids a.stateid.seqid false) passed orderly
-
 pub confirm_keeps : (s : CoreState) (l : NfsLists) (current : Option ℕ) (a : OpenConfirmArgs) → IsOrderly l → Keeps (open_confirm s l current a)
 unfolding open_confirm
-confirm_keeps s l current a orderly = (orderly, λ t. confirm_by_keeps t l current a (checked t l current 20 a.seqid a.stateid) (checked_passed t l current 20 a.seqid a.stateid) orderly)
+confirm_keeps s l current a orderly = (orderly, λ t. counts_keeps t l current kinds.Open 20 a.seqid a.stateid (λ r w v. confirm_done t l current a r w v (standing_fault r v a.stateid.seqid false)) orderly (λ r w v passed. confirm_done_keeps t l current a r w v (standing_fault r v a.stateid.seqid false) passed orderly))
 
 downgrade_done_keeps : (s : CoreState) (l : NfsLists) (current : Option ℕ) (a : OpenDowngradeArgs) (r : StateidRow) (owner : ℕ) (seqids : SeqidState) (x : Option NfsStatus) → IsPassed l r owner seqids → IsOrderly l → Keeps (downgrade_done s l current a r owner seqids x)
 downgrade_done_keeps s l current a r owner seqids (Some status) passed orderly = failed_orderly l owner passed.row seqids 21 a.seqid status passed.owned passed.seqids_is orderly
 downgrade_done_keeps s l current a r owner seqids None passed orderly = done_orderly s l r owner seqids 21 a.seqid seqids.confirmed a.access a.deny passed orderly
 
-downgrade_by_keeps : (s : CoreState) (l : NfsLists) (current : Option ℕ) (a : OpenDowngradeArgs) (c : Checked) → IfPassed l c → IsOrderly l → Keeps (downgrade_by s l current a c)
-downgrade_by_keeps s l current a (Refused status) passed orderly = orderly
-downgrade_by_keeps s l current a (Repeated owner) passed orderly = repeat_keeps s l current (find (is_kept owner) l.kept) orderly
-downgrade_by_keeps s l current a (Passed r owner seqids) passed orderly = downgrade_done_keeps s l current a r owner seqids (downgrade_fault r seqids a) passed orderly
-
 pub downgrade_keeps : (s : CoreState) (l : NfsLists) (current : Option ℕ) (a : OpenDowngradeArgs) → IsOrderly l → Keeps (open_downgrade s l current a)
 unfolding open_downgrade
-downgrade_keeps s l current a orderly = (orderly, λ t. downgrade_by_keeps t l current a (checked t l current 21 a.seqid a.stateid) (checked_passed t l current 21 a.seqid a.stateid) orderly)
+downgrade_keeps s l current a orderly = (orderly, λ t. counts_keeps t l current kinds.Open 21 a.seqid a.stateid (λ r w v. downgrade_done t l current a r w v (downgrade_fault r v a)) orderly (λ r w v passed. downgrade_done_keeps t l current a r w v (downgrade_fault r v a) passed orderly))
 
 close_done_keeps : (s : CoreState) (l : NfsLists) (current : Option ℕ) (a : CloseArgs) (r : StateidRow) (owner : ℕ) (seqids : SeqidState) (x : Option NfsStatus) → IsPassed l r owner seqids → IsOrderly l → Keeps (close_done s l current a r owner seqids x)
 close_done_keeps s l current a r owner seqids (Some status) passed orderly = failed_orderly l owner passed.row seqids 4 a.seqid status passed.owned passed.seqids_is orderly
 close_done_keeps s l current a r owner seqids None passed orderly = (orderly, λ t. stateids_go _ (is_whose (whose.Under r.number)) (closed_orderly t l r owner seqids 4 a.seqid seqids.confirmed r.standing.access r.standing.deny passed orderly))
 
-close_by_keeps : (s : CoreState) (l : NfsLists) (current : Option ℕ) (a : CloseArgs) (c : Checked) → IfPassed l c → IsOrderly l → Keeps (close_by s l current a c)
-close_by_keeps s l current a (Refused status) passed orderly = orderly
-close_by_keeps s l current a (Repeated owner) passed orderly = repeat_keeps s l current (find (is_kept owner) l.kept) orderly
-close_by_keeps s l current a (Passed r owner seqids) passed orderly = close_done_keeps s l current a r owner seqids (standing_fault r seqids a.stateid.seqid true) passed orderly
-
 pub close_keeps : (s : CoreState) (l : NfsLists) (current : Option ℕ) (a : CloseArgs) → IsOrderly l → Keeps (close s l current a)
 unfolding close
-close_keeps s l current a orderly = (orderly, λ t. close_by_keeps t l current a (checked t l current 4 a.seqid a.stateid) (checked_passed t l current 4 a.seqid a.stateid) orderly)
+close_keeps s l current a orderly = (orderly, λ t. counts_keeps t l current kinds.Open 4 a.seqid a.stateid (λ r w v. close_done t l current a r w v (standing_fault r v a.stateid.seqid true)) orderly (λ r w v passed. close_done_keeps t l current a r w v (standing_fault r v a.stateid.seqid true) passed orderly))
 
 pub return_keeps : (s : CoreState) (l : NfsLists) (current : Option ℕ) (stateid : Stateid) → IsOrderly l → Keeps (deleg_return s l current stateid)
 unfolding deleg_return

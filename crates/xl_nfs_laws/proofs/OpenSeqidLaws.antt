@@ -9,32 +9,29 @@ use Rattle.xl_nfs.specs.declared.opens.CloseArgs.{CloseArgs}
 use Rattle.xl_nfs.specs.declared.opens.OpenConfirmArgs.{OpenConfirmArgs}
 use Rattle.xl_nfs.specs.declared.opens.OpenDowngradeArgs.{OpenDowngradeArgs}
 use Rattle.xl_nfs.specs.declared.status.NfsStatus.{NfsStatus}
-use Rattle.xl_nfs.specs.declared.status.NfsStatus.TheVariants as statuses
 use Rattle.xl_nfs_state.specs.Filed.{changed}
 use Rattle.xl_nfs_state.specs.Rows.{with_result, with_seqids}
-use Rattle.xl_nfs_state.specs.State.{NfsLists, is_kept, is_owner, is_stateid}
-use Rattle.xl_nfs_state.specs.Verdict.{next_seqid, verdict}
+use Rattle.xl_nfs_state.specs.State.{NfsLists, is_kept, is_owner}
+use Rattle.xl_nfs_state.specs.Verdict.{next_seqid}
 use Rattle.xl_nfs_state.specs.declared.kept.KeptRow.{KeptRow}
+use Rattle.xl_nfs_state.specs.declared.owner.OwnerKind.{OwnerKind}
+use Rattle.xl_nfs_state.specs.declared.owner.OwnerKind.TheVariants as kinds
 use Rattle.xl_nfs_state.specs.declared.owner.OwnerRow.{OwnerRow}
 use Rattle.xl_nfs_state.specs.declared.owner.SeqidState.{SeqidState}
-use Rattle.xl_nfs_state.specs.declared.seqid.SeqidVerdict.{SeqidVerdict}
-use Rattle.xl_nfs_state.specs.declared.seqid.SeqidVerdict.TheVariants as verdicts
-use Rattle.xl_nfs_state.specs.declared.stateid.Holder.{Holder}
-use Rattle.xl_nfs_state.specs.declared.stateid.Holder.TheVariants as holders
 use Rattle.xl_nfs_state.specs.declared.stateid.StateidRow.{StateidRow}
 use Rattle.xl_core.specs.Deeds.{all_done}
 use Rattle.xl_core.specs.State.{CoreState}
 use Rattle.xl_nfs_laws.specs.OpenSeqids.{closed_by, confirmed_by, seqids_after, CountsFor, HasAdvanced, IsAlone}
-use Rattle.xl_nfs_opens.specs.Closing.{seqid_checked, owner_checked, holder_checked, row_checked, number_checked, checked, close_by, close_done, confirm_by, confirm_done, done_lists, ends_locks, failed, locks_gone, locks_under, next_seqids, standing_fault, state_told}
+use Rattle.xl_nfs_opens.specs.Closing.{checked_as, checked, close_by, close_done, confirm_by, confirm_done, done_lists, ends_locks, failed, locks_gone, locks_under, next_seqids, standing_fault, state_told}
 use Rattle.xl_nfs_opens.specs.Downgrades.{downgrade_by, downgrade_done, downgrade_fault}
 use Rattle.xl_nfs_opens.specs.Opens.{repeated, stood}
 use Rattle.xl_nfs_opens.specs.Plans.{carried, status_of}
-use Rattle.xl_nfs_opens.specs.Renewing.{number_of}
 use Rattle.xl_nfs_opens.specs.Results.{spelled}
 use Rattle.xl_nfs_opens.specs.Seqids.{advances, closed_gone, counted, kept_for, seqid_set}
 use Rattle.xl_nfs_opens.specs.declared.opener.Checked.{Checked}
 use Rattle.xl_nfs_opens.specs.declared.opener.Checked.TheVariants.{Refused, Repeated, Passed}
 use Rattle.xl_nfs_opens.specs.declared.told.Told.TheVariants.{Ended}
+use Rattle.xl_nfs_opens.proofs.CheckLaws.{refuses}
 use Rattle.xl_nfs_opens.proofs.EndLaws.{IfFault, standing_is_fault}
 use Rattle.xl_nfs_laws.proofs.KeptResultLaws.{counted_kept}
 use Rattle.xl_nfs_laws.proofs.OpenLaws.{counted_seqids, left_alone, passed_next}
@@ -131,62 +128,13 @@ pub record IsNext (owner : ℕ) (o : OwnerRow) (seqids : SeqidState) (seqid : �
 
 pub passed_is_next : (s : CoreState) (l : NfsLists) (current : Option ℕ) (op seqid : ℕ) (stateid : Stateid) (r : StateidRow) (owner : ℕ) (seqids : SeqidState) (o : OwnerRow) → checked s l current op seqid stateid ≡ Passed r owner seqids → find (is_owner owner) l.owners ≡ Some o → IsNext owner o seqids seqid
 passed_is_next s l current op seqid stateid r owner seqids o e found =
-    let passed : IsPassed l r owner seqids = subst (λ (c : Checked). IfPassed l c) e (checked_passed s l current op seqid stateid) in
+    let passed : IsPassed l r owner seqids = subst (λ (c : Checked). IfPassed l c) e (checked_passed kinds.Open s l current op seqid stateid) in
     let same : seqids ≡ o.seqids = passed.seqids_is ∙ ap (λ (y : OwnerRow). y.seqids) (same_Some passed.row o (sym passed.owned ∙ found)) in
     record { seqids_is = same; seqid_is = passed_next s l current op seqid stateid r owner seqids e ∙ ap (λ (t : SeqidState). next_seqid t.seqid) same }
 
-abbrev pub IfRefused : Checked → Type 0
-IfRefused (Refused status) = advances status ≡ false
-IfRefused _ = Unit {0}
-
-closed_refused : (r : StateidRow) (owner : ℕ) (seqids : SeqidState) → IfRefused (if r.standing.closed then Refused statuses.BadStateid else Passed r owner seqids)
-closed_refused r owner seqids =
-    elim (cases_Bool r.standing.closed) [
-      | inl e ↦ rw e refl
-      | inr e ↦ rw e tt
-    ]
-
-bad_refused : (r : StateidRow) → IfRefused (Refused (if r.standing.closed then statuses.BadStateid else statuses.BadSeqid))
-bad_refused r =
-    elim (cases_Bool r.standing.closed) [
-      | inl e ↦ rw e refl
-      | inr e ↦ rw e refl
-    ]
-
-seqid_refused : (r : StateidRow) (owner : ℕ) (seqids : SeqidState) (v : SeqidVerdict) → IfRefused (seqid_checked r owner seqids v)
-seqid_refused r owner seqids verdicts.Repeat = tt
-seqid_refused r owner seqids verdicts.Next = closed_refused r owner seqids
-seqid_refused r owner seqids verdicts.New = bad_refused r
-seqid_refused r owner seqids (verdicts.Bad last) = bad_refused r
-
-pub owner_refused : (r : StateidRow) (op seqid owner : ℕ) (o : Option OwnerRow) → IfRefused (owner_checked r op seqid owner o)
-owner_refused r op seqid owner None = refl
-owner_refused r op seqid owner (Some o) = seqid_refused r owner o.seqids (verdict (Some o.seqids) op seqid)
-
-holder_refused : (l : NfsLists) (r : StateidRow) (op seqid : ℕ) (h : Holder) → IfRefused (holder_checked l r op seqid h)
-holder_refused l r op seqid (holders.Open owner) = owner_refused r op seqid owner (find (is_owner owner) l.owners)
-holder_refused l r op seqid (holders.Lock owner under opener) = refl
-holder_refused l r op seqid (holders.Delegation write) = refl
-
-row_refused : (l : NfsLists) (at op seqid : ℕ) (o : Option StateidRow) → IfRefused (row_checked l at op seqid o)
-row_refused l at op seqid None = refl
-row_refused l at op seqid (Some r) =
-    elim (cases_Bool (r.file == at)) [
-      | inl same ↦ rw same (holder_refused l r op seqid r.holder)
-      | inr other ↦ rw other refl
-    ]
-
-number_refused : (l : NfsLists) (at op seqid : ℕ) (o : Option ℕ) → IfRefused (number_checked l at op seqid o)
-number_refused l at op seqid None = refl
-number_refused l at op seqid (Some number) = row_refused l at op seqid (find (is_stateid number) l.stateids)
-
-checked_refused : (s : CoreState) (l : NfsLists) (current : Option ℕ) (op seqid : ℕ) (stateid : Stateid) → IfRefused (checked s l current op seqid stateid)
-unfolding checked
-checked_refused s l None op seqid stateid = refl
-checked_refused s l (Some at) op seqid stateid = number_refused l at op seqid (number_of s stateid.other)
-
-pub refused_not : (s : CoreState) (l : NfsLists) (current : Option ℕ) (op seqid : ℕ) (stateid : Stateid) (status : NfsStatus) → checked s l current op seqid stateid ≡ Refused status → advances status ≡ false
-refused_not s l current op seqid stateid status e = subst (λ (c : Checked). IfRefused c) e (checked_refused s l current op seqid stateid)
+-- what is refused doesn't count
+pub refused_not : (kind : OwnerKind) (s : CoreState) (l : NfsLists) (current : Option ℕ) (op seqid : ℕ) (stateid : Stateid) (status : NfsStatus) → checked_as kind s l current op seqid stateid ≡ Refused status → advances status ≡ false
+refused_not kind s l current op seqid stateid = refuses (λ status. advances status ≡ false) kind s l current op seqid stateid (λ _. refl) (λ _ _. refl) refl (λ _ _ _ _ _ _ _ _. refl)
 
 -- ---- OPEN_CONFIRM
 

@@ -8,14 +8,15 @@ use Rattle.std.specs.Prelude.{◌&&◌, nat_lt}
 use Rattle.xl_nfs.specs.declared.basics.Stateid.{Stateid}
 use Rattle.xl_nfs.specs.declared.status.NfsStatus.TheVariants as statuses
 use Rattle.xl_nfs_state.specs.State.{NfsLists, is_owner}
-use Rattle.xl_nfs_state.specs.Verdict.{next_seqid, verdict}
+use Rattle.xl_nfs_state.specs.Verdict.{next_seqid}
+use Rattle.xl_nfs_state.specs.declared.owner.OwnerKind.{OwnerKind}
+use Rattle.xl_nfs_state.specs.declared.owner.OwnerKind.TheVariants as kinds
 use Rattle.xl_nfs_state.specs.declared.owner.OwnerRow.{OwnerRow}
 use Rattle.xl_nfs_state.specs.declared.owner.SeqidState.{SeqidState}
-use Rattle.xl_nfs_state.specs.declared.stateid.Holder.{Holder}
-use Rattle.xl_nfs_state.specs.declared.stateid.Holder.TheVariants as holders
 use Rattle.xl_nfs_state.specs.declared.stateid.StateidRow.{StateidRow}
 use Rattle.xl_core.specs.State.{CoreState}
-use Rattle.xl_nfs_opens.specs.Closing.{seqid_checked, owner_checked, holder_checked, row_checked, number_checked, checked, confirm_done, next_seqids, standing_fault, state_told}
+use Rattle.xl_nfs_opens.specs.Closing.{checked_as, owner_as, confirm_done, next_seqids, standing_fault, state_told}
+use Rattle.xl_nfs_opens.proofs.CheckLaws.{IsOwned, known}
 use Rattle.xl_nfs_laws.specs.OpenLaws.{IsOpenOf}
 use Rattle.xl_nfs_opens.specs.Opens.{stood}
 use Rattle.xl_nfs_opens.specs.Plans.{carried}
@@ -25,19 +26,12 @@ use Rattle.xl_nfs.specs.declared.opens.OpenConfirmArgs.{OpenConfirmArgs}
 use Rattle.xl_nfs_state.specs.Rows.{with_seqids}
 use Rattle.xl_nfs_opens.specs.declared.opener.Checked.TheVariants.{Refused, Repeated, Passed}
 
-row_known : (l : NfsLists) (op seqid : ℕ) (r : StateidRow) (w : ℕ) (o : OwnerRow) → r.holder ≡ holders.Open w → find (is_owner w) l.owners ≡ Some o → row_checked l r.file op seqid (Some r) ≡ seqid_checked r w o.seqids (verdict (Some o.seqids) op seqid)
-row_known l op seqid r w o holds owned = rw (eq-eqb r.file r.file refl) (ap (λ (h : Holder). holder_checked l r op seqid h) holds ∙ ap (λ (x : Option OwnerRow). owner_checked r op seqid w x) owned)
+-- an open that is there is owned so
+pub opened_is : (s : CoreState) (l : NfsLists) (stateid : Stateid) (r : StateidRow) (w : ℕ) (o : OwnerRow) → IsOpenOf s l stateid r w o → IsOwned kinds.Open s l stateid r w o
+opened_is s l stateid r w o is = record { number = is.number; found = is.found; holder = ap (owner_as kinds.Open) is.holder; owner = is.owner }
 
--- it is judged by its owner's seqid
-known : (s : CoreState) (l : NfsLists) (op seqid : ℕ) (stateid : Stateid) (r : StateidRow) (w : ℕ) (o : OwnerRow) → IsOpenOf s l stateid r w o → checked s l (Some r.file) op seqid stateid ≡ seqid_checked r w o.seqids (verdict (Some o.seqids) op seqid)
-unfolding checked
-known s l op seqid stateid r w o is =
-    ap (λ (x : Option ℕ). number_checked l r.file op seqid x) is.number
-    ∙ ap (λ (x : Option StateidRow). row_checked l r.file op seqid x) is.found
-    ∙ row_known l op seqid r w o is.holder is.owner
-
-pub next_passes : (s : CoreState) (l : NfsLists) (op seqid : ℕ) (stateid : Stateid) (r : StateidRow) (w : ℕ) (o : OwnerRow) → IsOpenOf s l stateid r w o → seqid ≡ next_seqid o.seqids.seqid → r.standing.closed ≡ false → checked s l (Some r.file) op seqid stateid ≡ Passed r w o.seqids
-next_passes s l op seqid stateid r w o is next stands = known s l op seqid stateid r w o is ∙ rw (eq-eqb seqid (next_seqid o.seqids.seqid) next) (rw stands refl)
+pub next_passes : (kind : OwnerKind) (s : CoreState) (l : NfsLists) (op seqid : ℕ) (stateid : Stateid) (r : StateidRow) (w : ℕ) (o : OwnerRow) → IsOwned kind s l stateid r w o → seqid ≡ next_seqid o.seqids.seqid → r.standing.closed ≡ false → checked_as kind s l (Some r.file) op seqid stateid ≡ Passed r w o.seqids
+next_passes kind s l op seqid stateid r w o is next stands = known kind s l op seqid stateid r w o is ∙ rw (eq-eqb seqid (next_seqid o.seqids.seqid) next) (rw stands refl)
 
 differs : (a b : ℕ) → (a ≡ b → ⊥) → (a == b) ≡ false
 differs a b other =
@@ -46,9 +40,9 @@ differs a b other =
       | inr h ↦ h
     ]
 
-pub last_repeated : (s : CoreState) (l : NfsLists) (op seqid : ℕ) (stateid : Stateid) (r : StateidRow) (w : ℕ) (o : OwnerRow) → IsOpenOf s l stateid r w o → seqid ≡ o.seqids.seqid → op ≡ o.seqids.op → seqid < 2 ^ 32 → checked s l (Some r.file) op seqid stateid ≡ Repeated w
-last_repeated s l op seqid stateid r w o is last same le =
-    known s l op seqid stateid r w o is
+pub last_repeated : (kind : OwnerKind) (s : CoreState) (l : NfsLists) (op seqid : ℕ) (stateid : Stateid) (r : StateidRow) (w : ℕ) (o : OwnerRow) → IsOwned kind s l stateid r w o → seqid ≡ o.seqids.seqid → op ≡ o.seqids.op → seqid < 2 ^ 32 → checked_as kind s l (Some r.file) op seqid stateid ≡ Repeated w
+last_repeated kind s l op seqid stateid r w o is last same le =
+    known kind s l op seqid stateid r w o is
     ∙ rw (differs seqid (next_seqid o.seqids.seqid) (λ e. omega (arith, e, last, le))) (rw (eq-eqb seqid o.seqids.seqid last) (rw (eq-eqb op o.seqids.op same) refl))
 
 pub not_last : (seqid last op by : ℕ) → (seqid ≡ last → op ≡ by → ⊥) → ((seqid == last) && (op == by)) ≡ false
@@ -58,9 +52,9 @@ not_last seqid last op by other =
       | inr h ↦ rw h refl
     ]
 
-pub others_refused : (s : CoreState) (l : NfsLists) (op seqid : ℕ) (stateid : Stateid) (r : StateidRow) (w : ℕ) (o : OwnerRow) → IsOpenOf s l stateid r w o → (seqid ≡ next_seqid o.seqids.seqid → ⊥) → (seqid ≡ o.seqids.seqid → op ≡ o.seqids.op → ⊥) → r.standing.closed ≡ false → checked s l (Some r.file) op seqid stateid ≡ Refused statuses.BadSeqid
-others_refused s l op seqid stateid r w o is next last stands =
-    known s l op seqid stateid r w o is
+pub others_refused : (kind : OwnerKind) (s : CoreState) (l : NfsLists) (op seqid : ℕ) (stateid : Stateid) (r : StateidRow) (w : ℕ) (o : OwnerRow) → IsOwned kind s l stateid r w o → (seqid ≡ next_seqid o.seqids.seqid → ⊥) → (seqid ≡ o.seqids.seqid → op ≡ o.seqids.op → ⊥) → r.standing.closed ≡ false → checked_as kind s l (Some r.file) op seqid stateid ≡ Refused statuses.BadSeqid
+others_refused kind s l op seqid stateid r w o is next last stands =
+    known kind s l op seqid stateid r w o is
     ∙ rw (differs seqid (next_seqid o.seqids.seqid) next) (rw (not_last seqid o.seqids.seqid op o.seqids.op last) (rw stands refl))
 
 -- ---- the stateid's own seqid

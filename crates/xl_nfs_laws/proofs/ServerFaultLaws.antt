@@ -10,12 +10,15 @@ use Rattle.xl_nfs.specs.Outcomes.{is_ok}
 use Rattle.xl_nfs.specs.declared.basics.LockType.{LockType}
 use Rattle.xl_nfs.specs.declared.locks.KnownLocker.{KnownLocker}
 use Rattle.xl_nfs.specs.declared.locks.UnlockArgs.{UnlockArgs}
+use Rattle.xl_nfs.specs.declared.basics.Stateid.{Stateid}
 use Rattle.xl_nfs.specs.declared.status.NfsStatus.{NfsStatus}
 use Rattle.xl_nfs.specs.declared.status.NfsStatus.TheVariants as statuses
 use Rattle.xl_nfs_state.specs.State.{NfsLists, IsSound, is_client, is_kept}
 use Rattle.xl_nfs_state.specs.declared.client.ClientRow.{ClientRow}
 use Rattle.xl_nfs_state.specs.declared.kept.KeptRow.{KeptRow}
 use Rattle.xl_nfs_state.specs.declared.owner.SeqidState.{SeqidState}
+use Rattle.xl_nfs_state.specs.declared.owner.OwnerKind.{OwnerKind}
+use Rattle.xl_nfs_state.specs.declared.owner.OwnerKind.TheVariants as kinds
 use Rattle.xl_nfs_state.specs.declared.stateid.StateidRow.{StateidRow}
 use Rattle.xl_core.proofs.DeedLists.{deeds_good}
 use Rattle.xl_core.proofs.WayAsks.{ask_unlock}
@@ -26,12 +29,12 @@ use Rattle.xl_core.specs.Good.{IsGood}
 use Rattle.xl_core.specs.State.{CoreState}
 use Rattle.xl_core.specs.declared.ask.Answer.{Answer}
 use Rattle.xl_core.specs.declared.ask.Answer.TheVariants as answers
-use Rattle.xl_nfs_laws.proofs.OpenSeqidLaws.{IfRefused, refused_not}
+use Rattle.xl_nfs_laws.proofs.OpenSeqidLaws.{refused_not}
 use Rattle.xl_nfs_opens.specs.Asks.{unlock_ask}
-use Rattle.xl_nfs_opens.specs.Closing.{checked, opener_by, standing_fault}
+use Rattle.xl_nfs_opens.specs.Closing.{checked_as, counts, opener_by, standing_fault}
 use Rattle.xl_core.specs.Ids.{number_in}
 use Rattle.xl_nfs_opens.specs.Opens.{all_rooms, client_in, repeated}
-use Rattle.xl_nfs_opens.specs.Plans.{carried, status_of}
+use Rattle.xl_nfs_opens.specs.Plans.{Plan, carried, status_of}
 use Rattle.xl_nfs_opens.specs.Renewing.{renewals, renewals_by, state_client}
 use Rattle.xl_nfs_opens.specs.Seqids.{advances, is_room_for}
 use Rattle.xl_nfs_opens.specs.declared.opener.Checked.{Checked}
@@ -39,17 +42,16 @@ use Rattle.xl_nfs_opens.specs.declared.opener.Checked.TheVariants.{Passed, Refus
 use Rattle.xl_nfs_opens.specs.declared.opener.Opener.{Opener}
 use Rattle.xl_nfs_opens.specs.declared.told.Told.{Told}
 use Rattle.xl_nfs_opens.specs.declared.told.Told.TheVariants.{Ended}
-use Rattle.xl_nfs_locks.specs.Checks.{locks_found}
-use Rattle.xl_nfs_locks.specs.FirstLocks.{both_of, found_joined, join_again, join_as, join_checked, join_of, join_standing, join_to, lock, lock_by, lock_named, lock_new, locker_under}
+use Rattle.xl_nfs_locks.specs.FirstLocks.{both_of, found_joined, join_again, join_as, join_of, join_standing, join_to, lock, lock_by, lock_named, lock_new, locker_under}
 use Rattle.xl_nfs_laws.specs.LockLaws.{unlock_claim}
-use Rattle.xl_nfs_locks.specs.Locks.{access_above, lock_by_owner, lock_end, lock_found, lock_known, lock_standing, lock_to}
+use Rattle.xl_nfs_locks.specs.Locks.{access_above, lock_by_owner, lock_end, lock_known, lock_standing, lock_to}
 use Rattle.xl_nfs_locks.specs.Ranges.{last_byte, may_lock}
-use Rattle.xl_nfs_locks.specs.Unlocks.{unlock, unlock_by_owner, unlock_found, unlock_standing, unlock_status, unlock_to, unlocked_as}
+use Rattle.xl_nfs_locks.specs.Unlocks.{unlock, unlock_by_owner, unlock_standing, unlock_status, unlock_to, unlocked_as}
 use Rattle.xl_nfs_locks.specs.declared.joining.BothOwners.{BothOwners}
 use Rattle.xl_nfs_locks.specs.declared.joining.Joined.{Joined}
 use Rattle.xl_nfs_locks.specs.declared.joining.Joined.TheVariants.{Again, Bad, Joins}
 use Rattle.xl_nfs_laws.proofs.LockSeqidLaws.{opener_there}
-use Rattle.xl_nfs_laws.proofs.LockStateidLaws.{IfNext, found_next, locks_refused}
+use Rattle.xl_nfs_laws.proofs.LockStateidLaws.{passed_next}
 use Rattle.xl_nfs_laws.proofs.LockOwn.{NotBefore, last_not_before, unlock_fits}
 use Rattle.xl_nfs_laws.proofs.LockStatusLaws.{first_exactly, known_exactly}
 
@@ -128,19 +130,26 @@ lock_standing_sound : (n : ℕ) (s : CoreState) (l : NfsLists) (current : Option
 lock_standing_sound n s l current a r owner seqids seqid (Some status) x other by = ended status other
 lock_standing_sound n s l current a r owner seqids seqid None x other by = lock_to_sound n s l current a r owner seqids seqid (lock_end a.kind (access_above l r.holder) (last_byte a.offset a.len)) x (end_other a.kind (access_above l r.holder) (last_byte a.offset a.len)) by
 
-lock_found_sound : (n : ℕ) (s : CoreState) (l : NfsLists) (current : Option ℕ) (a : LockArgsItem) (x : KnownLocker) (c : Checked) → IsSound l → IfRefused c → IfNext s l current x.seqid x.stateid c → Sound (carried n s l (lock_found s l current a x c)).0
-lock_found_sound n s l current a x (Refused status) sound not next = uncounted status not
-lock_found_sound n s l current a x (Repeated owner) sound not next = repeat_sound n s l current (find (is_kept owner) l.kept)
-lock_found_sound n s l current a x (Passed r owner seqids) sound not next =
-    let by = opener_there l r owner next.row sound next.locks.found next.locks.owner in
-    lock_standing_sound n s l current a r owner seqids x.seqid (standing_fault r seqids x.stateid.seqid true) by.0 (standing_other r seqids x.stateid.seqid true) by.1
+-- a request on a stateid tells none, if it tells none once it passed
+counts_sound : (n : ℕ) (s : CoreState) (l : NfsLists) (current : Option ℕ) (kind : OwnerKind) (op seqid : ℕ) (stateid : Stateid) (rest : StateidRow → ℕ → SeqidState → Plan) → ((r : StateidRow) (w : ℕ) (v : SeqidState) → checked_as kind s l current op seqid stateid ≡ Passed r w v → Sound (carried n s l (rest r w v)).0)
+    → Sound (carried n s l (counts s l current rest (checked_as kind s l current op seqid stateid))).0
+counts_sound n s l current kind op seqid stateid rest each = by (checked_as kind s l current op seqid stateid) refl
+  where
+    by : (c : Checked) → checked_as kind s l current op seqid stateid ≡ c → Sound (carried n s l (counts s l current rest c)).0
+    by (Refused status) e = uncounted status (refused_not kind s l current op seqid stateid status e)
+    by (Repeated owner) e = repeat_sound n s l current (find (is_kept owner) l.kept)
+    by (Passed r w v) e = each r w v e
 
 known_sound : (n : ℕ) (s : CoreState) (l : NfsLists) (current : Option ℕ) (a : LockArgsItem) (x : KnownLocker) → IsSound l → Sound (carried n s l (lock_known s l current a x)).0
 unfolding lock_known
 known_sound n s l current a x sound =
     let who = state_client s l x.stateid in
     let t : CoreState = all_done n s (renewals l who) in
-    lock_found_sound n t l current a x (locks_found t l current 12 x.seqid x.stateid) sound (locks_refused t l current 12 x.seqid x.stateid) (found_next t l current 12 x.seqid x.stateid)
+    counts_sound n t l current kinds.Lock 12 x.seqid x.stateid (λ r w v. lock_standing l current a r w v x.seqid (standing_fault r v x.stateid.seqid true))
+    (λ r w v e.
+    let next = passed_next t l current 12 x.seqid x.stateid r w v e in
+    let by = opener_there l r w next.row sound next.locks.found next.locks.owner in
+    lock_standing_sound n t l current a r w v x.seqid (standing_fault r v x.stateid.seqid true) by.0 (standing_other r v x.stateid.seqid true) by.1)
 
 -- ---- LOCK under an open
 
@@ -169,11 +178,6 @@ join_standing_sound : (n : ℕ) (s : CoreState) (l : NfsLists) (current : Option
 join_standing_sound n s l current a x b r (Some status) other = ended status other
 join_standing_sound n s l current a x b r None other = join_of_sound n s l current a x b r (locker_under r x.owner.owner (client_in s l x.owner.clientid))
 
-join_checked_sound : (n : ℕ) (s : CoreState) (l : NfsLists) (current : Option ℕ) (a : LockArgsItem) (x : NewLockerItem) (c : Checked) → ((status : NfsStatus) → c ≡ Refused status → advances status ≡ false) → Sound (carried n s l (join_checked s l current a x c)).0
-join_checked_sound n s l current a x (Refused status) not = uncounted status (not status refl)
-join_checked_sound n s l current a x (Repeated owner) not = repeat_sound n s l current (find (is_kept owner) l.kept)
-join_checked_sound n s l current a x (Passed r owner seqids) not = join_standing_sound n s l current a x (both_of x owner seqids) r (standing_fault r seqids x.open_stateid.seqid true) (standing_other r seqids x.open_stateid.seqid true)
-
 first_sound : (n : ℕ) (s : CoreState) (l : NfsLists) (current : Option ℕ) (a : LockArgsItem) (x : NewLockerItem) → Sound (carried n s l (lock_new s l current a x)).0
 unfolding lock_new lock_named
 first_sound n s l current a x =
@@ -181,7 +185,8 @@ first_sound n s l current a x =
     let t : CoreState = all_done n s (renewals l opens) in
     let locks = number_in t x.owner.clientid in
     let u : CoreState = all_done n t (renewals l locks) in
-    join_checked_sound n u l current a x (checked u l current 12 x.open_seqid x.open_stateid) (refused_not u l current 12 x.open_seqid x.open_stateid)
+    counts_sound n u l current kinds.Open 12 x.open_seqid x.open_stateid (λ r w v. join_standing u l current a x (both_of x w v) r (standing_fault r v x.open_stateid.seqid true))
+    (λ r w v e. join_standing_sound n u l current a x (both_of x w v) r (standing_fault r v x.open_stateid.seqid true) (standing_other r v x.open_stateid.seqid true))
 
 pub lock_sound : (n : ℕ) (s : CoreState) (l : NfsLists) (current : Option ℕ) (a : LockArgsItem) → IsSound l → (carried n s l (lock s l current a)).0 ≡ Ended statuses.ServerFault → ⊥
 unfolding lock
@@ -228,16 +233,14 @@ unlock_standing_sound : (n : ℕ) (s : CoreState) (l : NfsLists) (current : Opti
 unlock_standing_sound n s l current a r owner seqids (Some status) x good other by = ended status other
 unlock_standing_sound n s l current a r owner seqids None x good other by = unlock_to_sound n s l current a r owner seqids (last_byte a.offset a.len) x good (last_not_before a.offset a.len) by
 
-unlock_found_sound : (n : ℕ) (s : CoreState) (l : NfsLists) (current : Option ℕ) (a : UnlockArgs) (c : Checked) → IsGood s → IsSound l → IfRefused c → IfNext s l current a.seqid a.stateid c → Sound (carried n s l (unlock_found s l current a c)).0
-unlock_found_sound n s l current a (Refused status) good sound not next = uncounted status not
-unlock_found_sound n s l current a (Repeated owner) good sound not next = repeat_sound n s l current (find (is_kept owner) l.kept)
-unlock_found_sound n s l current a (Passed r owner seqids) good sound not next =
-    let by = opener_there l r owner next.row sound next.locks.found next.locks.owner in
-    unlock_standing_sound n s l current a r owner seqids (standing_fault r seqids a.stateid.seqid true) by.0 good (standing_other r seqids a.stateid.seqid true) by.1
-
 pub unlock_sound : (n : ℕ) (s : CoreState) (l : NfsLists) (current : Option ℕ) (a : UnlockArgs) → IsGood s → IsSound l → (carried n s l (unlock s l current a)).0 ≡ Ended statuses.ServerFault → ⊥
 unfolding unlock
 unlock_sound n s l current a good sound =
     let who = state_client s l a.stateid in
     let t : CoreState = all_done n s (renewals l who) in
-    unlock_found_sound n t l current a (locks_found t l current 14 a.seqid a.stateid) (renewed_good n s l who good) sound (locks_refused t l current 14 a.seqid a.stateid) (found_next t l current 14 a.seqid a.stateid)
+    let left = renewed_good n s l who good in
+    counts_sound n t l current kinds.Lock 14 a.seqid a.stateid (λ r w v. unlock_standing l current a r w v (standing_fault r v a.stateid.seqid true))
+    (λ r w v e.
+    let next = passed_next t l current 14 a.seqid a.stateid r w v e in
+    let by = opener_there l r w next.row sound next.locks.found next.locks.owner in
+    unlock_standing_sound n t l current a r w v (standing_fault r v a.stateid.seqid true) by.0 left (standing_other r v a.stateid.seqid true) by.1)

@@ -45,9 +45,11 @@ use Rattle.xl_core.specs.Settle.{give_back}
 use Rattle.xl_core.specs.State.{CoreState, drawn}
 use Rattle.xl_core.specs.declared.ask.Answer.{Answer}
 use Rattle.xl_core.specs.declared.ask.Effect.{Effect}
-use Rattle.xl_nfs_opens.specs.Closing.{Returning, cache_of_client, holder_returned, number_returned, return_done, returned, returned_status, row_returned, seqid_returned}
+use Rattle.xl_nfs_opens.proofs.CheckLaws.{finds, returns_is}
+use Rattle.xl_nfs_opens.specs.Checks.{or_else}
+use Rattle.xl_nfs_opens.specs.Closing.{delegates, state_found, state_returned, Returning, cache_of_client, return_done, returned, returned_status}
 use Rattle.xl_nfs_laws.specs.StateidNumbers.{AreGivenOut}
-use Rattle.xl_nfs_opens.specs.Opens.{all_rooms, answered, by_delegation, check_bits, check_claim, check_how, file_of_claim, is_delegation, is_stateid_of, named_file, or_else, cache_by, cache_held, delegation_in, can_enter, can_stand, client_in, delegated, delegated_in, delegation_row, delegation_told, either_bits, entered, freed, gives, gives_all, granted_by, granted_more, granted_new, granted_wish, has_room, is_granted, judged, open_as, open_by, open_held, open_judged, open_row, open_seqids, opened_file, opened_told, opener_of, reclaims, repeated, share_ask, stood, wish_of, unless_held, kind_for, type_claimed, wished_kinds, has_program, rights_of, has_none}
+use Rattle.xl_nfs_opens.specs.Opens.{all_rooms, answered, by_delegation, check_bits, check_claim, check_how, file_of_claim, is_delegation, is_stateid_of, named_file, cache_by, cache_held, delegation_in, can_enter, can_stand, client_in, delegated, delegated_in, delegation_row, delegation_told, either_bits, entered, freed, gives, gives_all, granted_by, granted_more, granted_new, granted_wish, has_room, is_granted, judged, open_as, open_by, open_held, open_judged, open_row, open_seqids, opened_file, opened_told, opener_of, reclaims, repeated, share_ask, stood, wish_of, unless_held, kind_for, type_claimed, wished_kinds, has_program, rights_of, has_none}
 use Rattle.xl_nfs_laws.specs.Orderly.{IsDelegated, IsReturned}
 use Rattle.xl_nfs_opens.specs.Plans.{Outcome, carried, status_of, told_behind}
 use Rattle.xl_nfs_opens.specs.Renewing.{number_of, same_stateid, stateid_of}
@@ -363,87 +365,27 @@ return_ok n s l current (Err status) = refl
 pub return_told : (n : ℕ) (s : CoreState) (l : NfsLists) (current : Option ℕ) (stateid : Stateid) → status_of (carried n s l (return_done s l current (returned s l current stateid))).0 ≡ returned_status (returned s l current stateid)
 return_told n s l current stateid = return_ok n s l current (returned s l current stateid)
 
-seqid_forth : (x r : StateidRow) (seqid : ℕ) → seqid_returned x seqid ≡ Ok r → (x ≡ r) × (seqid ≡ r.standing.seqid)
-seqid_forth x r seqid e =
-    elim (cases_Bool (nat_lt seqid x.standing.seqid)) [
-      | inl d ↦ (let no : old ≡ Ok r = rw d at e in absurd cc)
-      | inr d ↦ elim (cases_Bool (nat_lt x.standing.seqid seqid)) [
-        | inl b ↦ (let no : bad ≡ Ok r = rw b at (rw d at e) in absurd cc)
-        | inr b ↦
-            let is : right ≡ Ok r = rw b at (rw d at e) in
-            let same : x ≡ r = same_row x r is in
-            (same, between seqid x.standing.seqid d b ∙ ap (λ (y : StateidRow). y.standing.seqid) same)
-      ]
-    ]
-  where
-    old : Returning
-    old = Err statuses.OldStateid
-
-    bad : Returning
-    bad = Err statuses.BadStateid
-
-    right : Returning
-    right = Ok x
-
-    same_row : (y z : StateidRow) → (let left : Returning = Ok y in left ≡ Ok z) → y ≡ z
-    same_row y z f = cc
-
-    between : (a b : ℕ) → nat_lt a b ≡ false → nat_lt b a ≡ false → a ≡ b
-    between a b f g = grind (arith, nat_tests, f, g)
-
-holder_forth : (x r : StateidRow) (seqid : ℕ) (h : Holder) → x.holder ≡ h → holder_returned x seqid h ≡ Ok r → (write : Bool) × (r.holder ≡ holders.Delegation write) × (x ≡ r) × (seqid ≡ r.standing.seqid)
-holder_forth x r seqid (holders.Delegation write) is e = (let parts = seqid_forth x r seqid e in (write, ap (λ (y : StateidRow). y.holder) (sym parts.0) ∙ is, parts.0, parts.1))
-holder_forth x r seqid (holders.Open owner) is e = absurd cc
-holder_forth x r seqid (holders.Lock owner under opener) is e = absurd cc
-
-row_forth : (s : CoreState) (l : NfsLists) (at number : ℕ) (stateid : Stateid) (o : Option StateidRow) (r : StateidRow) → number_of s stateid.other ≡ Some number → find (is_stateid number) l.stateids ≡ o → row_returned at stateid.seqid o ≡ Ok r → IsReturned s l at stateid r
-row_forth s l at number stateid None r named found e = absurd cc
-row_forth s l at number stateid (Some x) r named found e =
-    elim (cases_Bool ((x.file == at) && not x.standing.closed)) [
-      | inr d ↦ (let no : bad ≡ Ok r = rw d at e in absurd cc)
-      | inl d ↦
-          let parts = and_parts (x.file == at) (not x.standing.closed) d in
-          let is = holder_forth x r stateid.seqid x.holder refl (rw d at e) in
-          let same : x ≡ r = is.2 in
-          record {
-            number = number;
-            write = is.0;
-            named = named;
-            found = found ∙ ap (λ (y : StateidRow). Some y) same;
-            file = ap (λ (y : StateidRow). y.file) (sym same) ∙ eqb-true x.file at parts.0;
-            live = ap (λ (y : StateidRow). y.standing.closed) (sym same) ∙ open_is x.standing.closed parts.1;
-            holder = is.1;
-            seqid = is.3;
-          }
-    ]
-  where
-    bad : Returning
-    bad = Err statuses.BadStateid
-
-    open_is : (b : Bool) → not b ≡ true → b ≡ false
-    open_is true h = absurd (true≢false (sym h))
-    open_is false h = refl
-
-number_forth : (s : CoreState) (l : NfsLists) (at : ℕ) (stateid : Stateid) (o : Option ℕ) (r : StateidRow) → number_of s stateid.other ≡ o → number_returned l at stateid.seqid o ≡ Ok r → IsReturned s l at stateid r
-number_forth s l at stateid None r named e = absurd cc
-number_forth s l at stateid (Some number) r named e = row_forth s l at number stateid (find (is_stateid number) l.stateids) r named refl e
+delegates_is : (h : Holder) → delegates h ≡ true → (write : Bool) × (h ≡ holders.Delegation write)
+delegates_is (holders.Delegation write) e = (write, refl)
+delegates_is (holders.Open owner) e = absurd (true≢false (sym e))
+delegates_is (holders.Lock owner under opener) e = absurd (true≢false (sym e))
 
 return_forth : (s : CoreState) (l : NfsLists) (at : ℕ) (stateid : Stateid) (r : StateidRow) → returned s l (Some at) stateid ≡ Ok r → IsReturned s l at stateid r
 unfolding returned
-return_forth s l at stateid r e = number_forth s l at stateid (number_of s stateid.other) r refl e
+return_forth s l at stateid r e = finds (λ (x : Returning). state_returned stateid.seqid x ≡ Ok r → IsReturned s l at stateid r) s l (Some at) stateid (λ _ f. absurd cc) (λ _ _ f. absurd cc) (λ f. absurd cc) by e
+  where
+    by : (x : StateidRow) → Some at ≡ Some x.file → number_of s stateid.other ≡ Some x.number → find (is_stateid x.number) l.stateids ≡ Some x → state_returned stateid.seqid (Ok x) ≡ Ok r → IsReturned s l at stateid r
+    by x file named there f =
+        let is = returns_is x r stateid.seqid f in
+        let holds = delegates_is x.holder is.2 in
+        subst (λ (y : StateidRow). IsReturned s l at stateid y) is.0 (record { number = x.number; write = holds.0; named = named; found = there; file = sym (same_Some at x.file file); live = is.1; holder = holds.1; seqid = is.3 })
 
 return_back : (s : CoreState) (l : NfsLists) (at : ℕ) (stateid : Stateid) (r : StateidRow) → IsReturned s l at stateid r → returned s l (Some at) stateid ≡ Ok r
-unfolding returned
-return_back s l at stateid r is =
-    ap (λ (o : Option ℕ). number_returned l at stateid.seqid o) is.named
-    ∙ ap (λ (o : Option StateidRow). row_returned at stateid.seqid o) is.found
-    ∙ rw (and_from (r.file == at) (not r.standing.closed) (eq-eqb r.file at is.file) (ap not is.live)) (ap (λ (h : Holder). holder_returned r stateid.seqid h) is.holder ∙ ap (λ (m : ℕ). seqid_returned r m) is.seqid ∙ itself)
+unfolding returned state_found
+return_back s l at stateid r is = rw is.named (rw is.found (rw (eq-eqb r.file at is.file) (rw is.live (rw is.holder (rw is.seqid (rw (never r.standing.seqid) refl))))))
   where
     never : (m : ℕ) → nat_lt m m ≡ false
     never m = grind (arith, nat_tests)
-
-    itself : seqid_returned r r.standing.seqid ≡ Ok r
-    itself = rw (never r.standing.seqid) refl
 
 pub return_exactly : (s : CoreState) (l : NfsLists) (at : ℕ) (stateid : Stateid) (r : StateidRow) → (returned s l (Some at) stateid ≡ Ok r) ↔ IsReturned s l at stateid r
 return_exactly s l at stateid r = (return_forth s l at stateid r, return_back s l at stateid r)

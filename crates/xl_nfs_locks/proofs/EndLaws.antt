@@ -6,66 +6,37 @@ use Rattle.std.specs.List.{find}
 use Rattle.xl_nfs.specs.Basics.{OwnerItem}
 use Rattle.xl_nfs.specs.Locks.{LockArgsItem, LockTestArgsItem, NewLockerItem, LockerItem, New, Known}
 use Rattle.xl_nfs.specs.Outcomes.{is_ok}
-use Rattle.xl_nfs.specs.declared.basics.Stateid.{Stateid}
 use Rattle.xl_nfs.specs.declared.locks.KnownLocker.{KnownLocker}
 use Rattle.xl_nfs.specs.declared.locks.UnlockArgs.{UnlockArgs}
 use Rattle.xl_nfs.specs.declared.status.NfsStatus.{NfsStatus}
 use Rattle.xl_nfs.specs.declared.status.NfsStatus.TheVariants as statuses
-use Rattle.xl_nfs_state.specs.State.{NfsLists, is_kept, is_owner, is_stateid}
+use Rattle.xl_nfs_state.specs.State.{NfsLists, is_kept}
 use Rattle.xl_nfs_state.specs.declared.client.ClientRow.{ClientRow}
 use Rattle.xl_nfs_state.specs.declared.kept.KeptRow.{KeptRow}
+use Rattle.xl_nfs_state.specs.declared.owner.OwnerKind.TheVariants as kinds
 use Rattle.xl_nfs_state.specs.declared.owner.SeqidState.{SeqidState}
-use Rattle.xl_nfs_state.specs.declared.stateid.Holder.{Holder}
-use Rattle.xl_nfs_state.specs.declared.stateid.Holder.TheVariants as holders
 use Rattle.xl_nfs_state.specs.declared.stateid.StateidRow.{StateidRow}
 use Rattle.xl_core.specs.State.{CoreState}
 use Rattle.xl_core.specs.declared.ask.Answer.{Answer}
 use Rattle.xl_core.specs.declared.ask.Answer.TheVariants as answers
-use Rattle.xl_nfs_locks.specs.Checks.{holder_found, row_found, number_found, locks_found}
-use Rattle.xl_nfs_locks.specs.FirstLocks.{join_again, join_answered, join_as, join_checked, join_of, join_standing, join_to, joined_by, both_of, found_joined, locker_under, lock_named, lock_new, lock_by, lock}
-use Rattle.xl_nfs_locks.specs.Locks.{access_above, lock_answered, lock_by_owner, lock_end, lock_found, lock_known, lock_standing, lock_to}
+use Rattle.xl_nfs_locks.specs.Checks.{locks_found}
+use Rattle.xl_nfs_locks.specs.FirstLocks.{join_again, join_answered, join_as, join_of, join_standing, join_to, joined_by, both_of, found_joined, locker_under, lock_named, lock_new, lock_by, lock}
+use Rattle.xl_nfs_locks.specs.Locks.{access_above, lock_answered, lock_by_owner, lock_end, lock_known, lock_standing, lock_to}
 use Rattle.xl_nfs_locks.specs.Ranges.{last_byte}
 use Rattle.xl_nfs_locks.specs.Releases.{holds_any, release_of, release}
 use Rattle.xl_nfs_locks.specs.Tests.{locker_of, tested_told, test_at, test_of, test_to, lock_test}
-use Rattle.xl_nfs_locks.specs.Unlocks.{unlock_status, unlocked_as, unlock_by_owner, unlock_to, unlock_standing, unlock_found, unlock}
+use Rattle.xl_nfs_locks.specs.Unlocks.{unlock_status, unlocked_as, unlock_by_owner, unlock_to, unlock_standing, unlock}
 use Rattle.xl_nfs_locks.specs.declared.joining.BothOwners.{BothOwners}
 use Rattle.xl_nfs_locks.specs.declared.joining.Joined.{Joined}
 use Rattle.xl_nfs_locks.specs.declared.joining.Joined.TheVariants.{Bad, Again, Joins}
 use Rattle.xl_nfs_opens.specs.Closing.{checked, standing_fault, opener_by}
 use Rattle.xl_nfs_opens.specs.Opens.{client_in, is_granted}
-use Rattle.xl_nfs_opens.specs.Renewing.{number_of}
 use Rattle.xl_nfs_opens.specs.Results.{ToldFits}
 use Rattle.xl_nfs_opens.specs.Seqids.{is_room_for}
-use Rattle.xl_nfs_opens.specs.declared.opener.Checked.{Checked}
-use Rattle.xl_nfs_opens.specs.declared.opener.Checked.TheVariants.{Refused, Repeated, Passed}
 use Rattle.xl_nfs_opens.specs.declared.opener.Opener.{Opener}
-use Rattle.xl_nfs_opens.proofs.EndLaws.{Ends, fault, ended, repeat_ends, IfFault, Refuses, owner_fault, checked_fault, standing_is_fault}
+use Rattle.xl_nfs_opens.proofs.EndLaws.{Ends, fault, ended, counts_ends, IfFault, OrFault, checked_fault, standing_is_fault, status_fault}
 use Rattle.xl_nfs_opens.proofs.ResultLaws.{IsFault, plain_39}
-use Rattle.xl_nfs_locks.proofs.LockLaws.{told_by, OrFault, end_fault}
-
--- ---- what names locks
-
-holder_fault : (l : NfsLists) (r : StateidRow) (op seqid : ℕ) (h : Holder) → Refuses (holder_found l r op seqid h)
-holder_fault l r op seqid (holders.Lock owner under opener) = owner_fault r op seqid owner (find (is_owner owner) l.owners)
-holder_fault l r op seqid (holders.Open owner) = fault statuses.BadStateid refl refl
-holder_fault l r op seqid (holders.Delegation write) = fault statuses.BadStateid refl refl
-
-row_fault : (l : NfsLists) (at op seqid : ℕ) (o : Option StateidRow) → Refuses (row_found l at op seqid o)
-row_fault l at op seqid None = fault statuses.BadStateid refl refl
-row_fault l at op seqid (Some r) =
-    elim (cases_Bool (r.file == at)) [
-      | inl e ↦ rw e (holder_fault l r op seqid r.holder)
-      | inr e ↦ rw e (fault statuses.BadStateid refl refl)
-    ]
-
-number_fault : (l : NfsLists) (at op seqid : ℕ) (o : Option ℕ) → Refuses (number_found l at op seqid o)
-number_fault l at op seqid None = fault statuses.StaleStateid refl refl
-number_fault l at op seqid (Some number) = row_fault l at op seqid (find (is_stateid number) l.stateids)
-
-found_fault : (s : CoreState) (l : NfsLists) (current : Option ℕ) (op seqid : ℕ) (stateid : Stateid) → Refuses (locks_found s l current op seqid stateid)
-unfolding locks_found
-found_fault s l None op seqid stateid = fault statuses.NoFileHandle refl refl
-found_fault s l (Some at) op seqid stateid = number_fault l at op seqid (number_of s stateid.other)
+use Rattle.xl_nfs_locks.proofs.LockLaws.{told_by, end_fault}
 
 -- ---- LOCK by a known owner
 
@@ -88,14 +59,11 @@ lock_standing_ends : (l : NfsLists) (current : Option ℕ) (a : LockArgsItem) (r
 lock_standing_ends l current a r owner seqids seqid (Some status) f = ended 12 (omega arith) current status f
 lock_standing_ends l current a r owner seqids seqid None f = lock_to_ends l current a r owner seqids seqid (lock_end a.kind (access_above l r.holder) (last_byte a.offset a.len)) (end_fault a.kind (access_above l r.holder) (last_byte a.offset a.len))
 
-lock_found_ends : (s : CoreState) (l : NfsLists) (current : Option ℕ) (a : LockArgsItem) (x : KnownLocker) (c : Checked) → Refuses c → Ends 12 current (lock_found s l current a x c)
-lock_found_ends s l current a x (Refused status) f = ended 12 (omega arith) current status f
-lock_found_ends s l current a x (Repeated owner) f = repeat_ends 12 (omega arith) s l current (find (is_kept owner) l.kept)
-lock_found_ends s l current a x (Passed r owner seqids) f = lock_standing_ends l current a r owner seqids x.seqid (standing_fault r seqids x.stateid.seqid true) (standing_is_fault r seqids x.stateid.seqid true)
-
 known_ends : (s : CoreState) (l : NfsLists) (current : Option ℕ) (a : LockArgsItem) (x : KnownLocker) → Ends 12 current (lock_known s l current a x)
 unfolding lock_known
-known_ends s l current a x = λ t. lock_found_ends t l current a x (locks_found t l current 12 x.seqid x.stateid) (found_fault t l current 12 x.seqid x.stateid)
+known_ends s l current a x = λ t.
+    counts_ends 12 (omega arith) t l current (λ r w seqids. lock_standing l current a r w seqids x.seqid (standing_fault r seqids x.stateid.seqid true)) (locks_found t l current 12 x.seqid x.stateid) (checked_fault kinds.Lock t l current 12 x.seqid x.stateid)
+    (λ r w seqids. lock_standing_ends l current a r w seqids x.seqid (standing_fault r seqids x.stateid.seqid true) (standing_is_fault r seqids x.stateid.seqid true))
 
 -- ---- LOCK under an open
 
@@ -135,14 +103,11 @@ join_standing_ends : (s : CoreState) (l : NfsLists) (current : Option ℕ) (a : 
 join_standing_ends s l current a x b r (Some status) f = ended 12 (omega arith) current status f
 join_standing_ends s l current a x b r None f = join_of_ends l current a x b r (locker_under r x.owner.owner (client_in s l x.owner.clientid))
 
-join_checked_ends : (s : CoreState) (l : NfsLists) (current : Option ℕ) (a : LockArgsItem) (x : NewLockerItem) (c : Checked) → Refuses c → Ends 12 current (join_checked s l current a x c)
-join_checked_ends s l current a x (Refused status) f = ended 12 (omega arith) current status f
-join_checked_ends s l current a x (Repeated owner) f = repeat_ends 12 (omega arith) s l current (find (is_kept owner) l.kept)
-join_checked_ends s l current a x (Passed r owner seqids) f = join_standing_ends s l current a x (both_of x owner seqids) r (standing_fault r seqids x.open_stateid.seqid true) (standing_is_fault r seqids x.open_stateid.seqid true)
-
 new_ends : (s : CoreState) (l : NfsLists) (current : Option ℕ) (a : LockArgsItem) (x : NewLockerItem) → Ends 12 current (lock_new s l current a x)
 unfolding lock_new lock_named
-new_ends s l current a x = λ t u. join_checked_ends u l current a x (checked u l current 12 x.open_seqid x.open_stateid) (checked_fault u l current 12 x.open_seqid x.open_stateid)
+new_ends s l current a x = λ t u.
+    counts_ends 12 (omega arith) u l current (λ r w seqids. join_standing u l current a x (both_of x w seqids) r (standing_fault r seqids x.open_stateid.seqid true)) (checked u l current 12 x.open_seqid x.open_stateid) (checked_fault kinds.Open u l current 12 x.open_seqid x.open_stateid)
+    (λ r w seqids. join_standing_ends u l current a x (both_of x w seqids) r (standing_fault r seqids x.open_stateid.seqid true) (standing_is_fault r seqids x.open_stateid.seqid true))
 
 by_ends : (s : CoreState) (l : NfsLists) (current : Option ℕ) (a : LockArgsItem) (x : LockerItem) → Ends 12 current (lock_by s l current a x)
 by_ends s l current a (New x) = new_ends s l current a x
@@ -186,14 +151,7 @@ test_ends s l current a = λ t. test_at_ends t l a current
 unlock_fault : (answer : Answer) → is_ok (unlock_status answer) ≡ false → IsFault (unlock_status answer)
 unlock_fault (answers.Granted c) e = absurd (true≢false e)
 unlock_fault answers.NotHeld e = absurd (true≢false e)
-unlock_fault (answers.Conflict c) e = fault statuses.ShareDenied refl refl
-unlock_fault (answers.Queued id) e = fault statuses.Delay refl refl
-unlock_fault (answers.Recall c) e = fault statuses.Delay refl refl
-unlock_fault (answers.Grace until) e = fault statuses.Grace refl refl
-unlock_fault (answers.NoGrace clock) e = fault statuses.NoGrace refl refl
-unlock_fault answers.NotRecorded e = fault statuses.ReclaimBad refl refl
-unlock_fault (answers.Full limit) e = fault statuses.Resource refl refl
-unlock_fault answers.StoreFailed e = fault statuses.ServerFault refl refl
+unlock_fault answer e = status_fault false answer refl
 
 unlocked_ends : (s : CoreState) (l : NfsLists) (current : Option ℕ) (a : UnlockArgs) (r : StateidRow) (owner : ℕ) (seqids : SeqidState) (answer : Answer) → Ends 14 current (unlocked_as s l current a r owner seqids (unlock_status answer))
 unlocked_ends s l current a r owner seqids answer =
@@ -214,14 +172,11 @@ unlock_standing_ends : (l : NfsLists) (current : Option ℕ) (a : UnlockArgs) (r
 unlock_standing_ends l current a r owner seqids (Some status) f = ended 14 (omega arith) current status f
 unlock_standing_ends l current a r owner seqids None f = unlock_to_ends l current a r owner seqids (last_byte a.offset a.len)
 
-unlock_found_ends : (s : CoreState) (l : NfsLists) (current : Option ℕ) (a : UnlockArgs) (c : Checked) → Refuses c → Ends 14 current (unlock_found s l current a c)
-unlock_found_ends s l current a (Refused status) f = ended 14 (omega arith) current status f
-unlock_found_ends s l current a (Repeated owner) f = repeat_ends 14 (omega arith) s l current (find (is_kept owner) l.kept)
-unlock_found_ends s l current a (Passed r owner seqids) f = unlock_standing_ends l current a r owner seqids (standing_fault r seqids a.stateid.seqid true) (standing_is_fault r seqids a.stateid.seqid true)
-
 pub unlock_ends : (s : CoreState) (l : NfsLists) (current : Option ℕ) (a : UnlockArgs) → Ends 14 current (unlock s l current a)
 unfolding unlock
-unlock_ends s l current a = λ t. unlock_found_ends t l current a (locks_found t l current 14 a.seqid a.stateid) (found_fault t l current 14 a.seqid a.stateid)
+unlock_ends s l current a = λ t.
+    counts_ends 14 (omega arith) t l current (λ r w seqids. unlock_standing l current a r w seqids (standing_fault r seqids a.stateid.seqid true)) (locks_found t l current 14 a.seqid a.stateid) (checked_fault kinds.Lock t l current 14 a.seqid a.stateid)
+    (λ r w seqids. unlock_standing_ends l current a r w seqids (standing_fault r seqids a.stateid.seqid true) (standing_is_fault r seqids a.stateid.seqid true))
 
 -- ---- RELEASE_LOCKOWNER
 

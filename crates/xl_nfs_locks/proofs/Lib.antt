@@ -1,4 +1,3 @@
-pub mod FoundLaws
 pub mod LockLaws
 pub mod FirstLaws
 pub mod EndLaws

@@ -26,16 +26,16 @@ use Rattle.xl_nfs_locks.specs.Tests.{locker_of}
 use Rattle.xl_nfs_locks.specs.declared.joining.BothOwners.{BothOwners}
 use Rattle.xl_nfs_locks.specs.declared.joining.Joined.{Joined}
 use Rattle.xl_nfs_locks.specs.declared.joining.Joined.TheVariants.{Bad, Again, Joins}
-use Rattle.xl_nfs_opens.specs.Closing.{checked, standing_fault, failed, next_seqids, state_told}
+use Rattle.xl_nfs_opens.specs.Closing.{checked, counts, standing_fault, failed, next_seqids, state_told}
 use Rattle.xl_core.specs.Ids.{number_in}
-use Rattle.xl_nfs_opens.specs.Opens.{all_rooms, client_in, is_granted, live, repeated, stood}
+use Rattle.xl_nfs_opens.specs.Opens.{all_rooms, client_in, is_granted, live, stood}
 use Rattle.xl_plan.specs.Plans.{Does, Asking}
+use Rattle.xl_nfs_opens.specs.Operations.{op_lock}
 use Rattle.xl_nfs_opens.specs.Plans.{Plan, status_of}
 use Rattle.xl_nfs_opens.specs.Renewing.{stateid_of, state_client, renewing}
 use Rattle.xl_nfs_opens.specs.Results.{spelled}
 use Rattle.xl_nfs_opens.specs.Seqids.{advances, counted, is_opener, is_room_for, opener_number, remembered}
 use Rattle.xl_nfs_opens.specs.declared.opener.Checked.{Checked}
-use Rattle.xl_nfs_opens.specs.declared.opener.Checked.TheVariants.{Refused, Repeated, Passed}
 use Rattle.xl_nfs_opens.specs.declared.opener.Opener.{Opener}
 use Rattle.xl_nfs_opens.specs.declared.told.Told.{Told}
 use Rattle.xl_nfs_opens.specs.declared.told.Told.TheVariants.{Ended, State, Kept}
@@ -44,15 +44,15 @@ use Rattle.xl_nfs_opens.specs.declared.told.Told.TheVariants.{Ended, State, Kept
 
 -- the open's owner has come this far with it, and the result is kept for it (NFS-24)
 abbrev pub counted_open : BothOwners → List ℕ → NfsLists → NfsLists
-counted_open b bytes l = counted b.number b.seqids.closed (next_seqids 12 b.open_seqid b.seqids.confirmed None) bytes l
+counted_open b bytes l = counted b.number b.seqids.closed (next_seqids op_lock b.open_seqid b.seqids.confirmed None) bytes l
 
 -- so has the lock owner, which comes if it is new
 abbrev pub counted_both : BothOwners → Opener → List ℕ → NfsLists → NfsLists
-counted_both b o bytes l = remembered o (next_seqids 12 b.lock_seqid true None) bytes (counted_open b bytes l)
+counted_both b o bytes l = remembered o (next_seqids op_lock b.lock_seqid true None) bytes (counted_open b bytes l)
 
 -- it was refused, and counts with both if its status does (NFS-24)
 abbrev pub both_refused : NfsLists → Option ℕ → BothOwners → Opener → Told → Plan
-both_refused l current b o told = Does [] (if advances (status_of told) then counted_both b o (spelled 12 told) l else l) (told, current)
+both_refused l current b o told = Does [] (if advances (status_of told) then counted_both b o (spelled op_lock told) l else l) (told, current)
 
 -- ---- the stateid
 
@@ -83,12 +83,12 @@ entered r l = entered_in r (with_stateids l (without (is_whose (whose.Stateid r.
 abbrev pub joined_new : CoreState → NfsLists → Option ℕ → BothOwners → Opener → StateidRow → Plan
 joined_new s l current b o r =
     let told = State (stateid_of (drawn s) (s.counter + 1) 1) in
-    let m = counted_both b o (spelled 12 told) l in
+    let m = counted_both b o (spelled op_lock told) l in
     Does (Draws ∷ []) (entered (lock_row (s.counter + 1) r b.number (opener_number o m)) m) (told, current)
 
 -- the owner has one under the open: its seqid is the next (NFS-26)
 abbrev pub joined_more : CoreState → NfsLists → Option ℕ → BothOwners → Opener → StateidRow → Plan
-joined_more s l current b o q = Does [] (counted_both b o (spelled 12 (state_told s q)) (stood q.number q 0 0 false l)) (state_told s q, current)
+joined_more s l current b o q = Does [] (counted_both b o (spelled op_lock (state_told s q)) (stood q.number q 0 0 false l)) (state_told s q, current)
 
 abbrev pub joined_by : CoreState → NfsLists → Option ℕ → BothOwners → Opener → StateidRow → Option StateidRow → Plan
 joined_by s l current b o r None = joined_new s l current b o r
@@ -122,7 +122,7 @@ fits_under number None = true
 fits_under number (Some q) = is_under number q.holder
 
 abbrev pub by_owner : StateidRow → OwnerRow → ℕ → Option StateidRow → Joined
-by_owner r w seqid q = if fits_under r.number q then by_verdict w q (verdict (Some w.seqids) 12 seqid) else Bad
+by_owner r w seqid q = if fits_under r.number q then by_verdict w q (verdict (Some w.seqids) op_lock seqid) else Bad
 
 abbrev pub by_row : NfsLists → StateidRow → ℕ → Option OwnerRow → Joined
 by_row l r seqid None = Joins None
@@ -144,33 +144,28 @@ join_as l current a b o r (Joins q) = join_in l current a b o r q
 
 -- ---- the checks of the open, in their order
 
-abbrev pub join_by : NfsLists → Option ℕ → LockArgsItem → NewLockerItem → BothOwners → StateidRow → Opener → Plan
-join_by l current a x b r o = join_as l current a b o r (found_joined l r o x.lock_seqid)
-
 -- the lock owner, if it is of the open's client (NFS-24)
 abbrev pub locker_under : StateidRow → List ℕ → Option ClientRow → Option Opener
 locker_under r owner None = None
 locker_under r owner (Some c) = if c.number == r.client then Some (locker_of c owner) else None
 
 abbrev pub join_of : NfsLists → Option ℕ → LockArgsItem → NewLockerItem → BothOwners → StateidRow → Option Opener → Plan
-join_of l current a x b r None = failed l current b.number b.seqids 12 b.open_seqid statuses.Inval
-join_of l current a x b r (Some o) = join_by l current a x b r o
+join_of l current a x b r None = failed l current b.number b.seqids op_lock b.open_seqid statuses.Inval
+join_of l current a x b r (Some o) = join_as l current a b o r (found_joined l r o x.lock_seqid)
 
 abbrev pub join_standing : CoreState → NfsLists → Option ℕ → LockArgsItem → NewLockerItem → BothOwners → StateidRow → Option NfsStatus → Plan
-join_standing s l current a x b r (Some status) = failed l current b.number b.seqids 12 b.open_seqid status
+join_standing s l current a x b r (Some status) = failed l current b.number b.seqids op_lock b.open_seqid status
 join_standing s l current a x b r None = join_of l current a x b r (locker_under r x.owner.owner (client_in s l x.owner.clientid))
 
 abbrev pub both_of : NewLockerItem → ℕ → SeqidState → BothOwners
 both_of x owner seqids = record { number = owner; seqids = seqids; open_seqid = x.open_seqid; lock_seqid = x.lock_seqid }
 
 abbrev pub join_checked : CoreState → NfsLists → Option ℕ → LockArgsItem → NewLockerItem → Checked → Plan
-join_checked s l current a x (Refused status) = Does [] l (Ended status, current)
-join_checked s l current a x (Repeated owner) = repeated s l current (find (is_kept owner) l.kept)
-join_checked s l current a x (Passed r owner seqids) = join_standing s l current a x (both_of x owner seqids) r (standing_fault r seqids x.open_stateid.seqid true)
+join_checked s l current a x c = counts s l current (λ r owner seqids. join_standing s l current a x (both_of x owner seqids) r (standing_fault r seqids x.open_stateid.seqid true)) c
 
 -- behind the renewal of the lock owner's client
 unfoldable pub lock_named : CoreState → NfsLists → Option ℕ → LockArgsItem → NewLockerItem → Plan
-lock_named s l current a x = renewing l (number_in s x.owner.clientid) (λ t. join_checked t l current a x (checked t l current 12 x.open_seqid x.open_stateid))
+lock_named s l current a x = renewing l (number_in s x.owner.clientid) (λ t. join_checked t l current a x (checked t l current op_lock x.open_seqid x.open_stateid))
 
 -- behind the renewal of the open's client
 unfoldable pub lock_new : CoreState → NfsLists → Option ℕ → LockArgsItem → NewLockerItem → Plan

@@ -6,7 +6,7 @@ use Rattle.xl_nfs.specs.declared.basics.LockType.{LockType}
 use Rattle.xl_nfs.specs.declared.locks.KnownLocker.{KnownLocker}
 use Rattle.xl_nfs.specs.declared.status.NfsStatus.{NfsStatus}
 use Rattle.xl_nfs.specs.declared.status.NfsStatus.TheVariants as statuses
-use Rattle.xl_nfs_state.specs.State.{NfsLists, is_kept, is_stateid}
+use Rattle.xl_nfs_state.specs.State.{NfsLists, is_stateid}
 use Rattle.xl_nfs_state.specs.declared.owner.SeqidState.{SeqidState}
 use Rattle.xl_nfs_state.specs.declared.stateid.Holder.{Holder}
 use Rattle.xl_nfs_state.specs.declared.stateid.Holder.TheVariants as holders
@@ -16,15 +16,13 @@ use Rattle.xl_core.specs.declared.ask.Answer.{Answer}
 use Rattle.xl_nfs_locks.specs.Checks.{locks_found}
 use Rattle.xl_nfs_locks.specs.Denials.{lock_told}
 use Rattle.xl_nfs_locks.specs.Ranges.{last_byte, lock_ask, may_lock}
-use Rattle.xl_nfs_opens.specs.Closing.{standing_fault, failed, next_seqids, done_lists, state_told, opener_by}
-use Rattle.xl_nfs_opens.specs.Opens.{all_rooms, is_granted, repeated}
+use Rattle.xl_nfs_opens.specs.Closing.{counts, standing_fault, failed, told_lists, done_lists, state_told, opener_by}
+use Rattle.xl_nfs_opens.specs.Opens.{all_rooms, is_granted}
 use Rattle.xl_plan.specs.Plans.{Does, Asking}
-use Rattle.xl_nfs_opens.specs.Plans.{Plan, status_of}
+use Rattle.xl_nfs_opens.specs.Operations.{op_lock}
+use Rattle.xl_nfs_opens.specs.Plans.{Plan}
 use Rattle.xl_nfs_opens.specs.Renewing.{state_client, renewing}
-use Rattle.xl_nfs_opens.specs.Results.{spelled}
-use Rattle.xl_nfs_opens.specs.Seqids.{advances, counted}
 use Rattle.xl_nfs_opens.specs.declared.opener.Checked.{Checked}
-use Rattle.xl_nfs_opens.specs.declared.opener.Checked.TheVariants.{Refused, Repeated, Passed}
 use Rattle.xl_nfs_opens.specs.declared.opener.Opener.{Opener}
 use Rattle.xl_nfs_opens.specs.declared.told.Told.{Told}
 use Rattle.xl_nfs_opens.specs.declared.told.Told.TheVariants.{Ended}
@@ -33,15 +31,14 @@ use Rattle.xl_nfs_opens.specs.declared.told.Told.TheVariants.{Ended}
 
 -- it was refused, and is kept if its status counts
 abbrev pub refused_lists : NfsLists → ℕ → SeqidState → ℕ → Told → NfsLists
-refused_lists l owner seqids seqid told =
-    if advances (status_of told) then counted owner seqids.closed (next_seqids 12 seqid seqids.confirmed None) (spelled 12 told) l else l
+refused_lists l owner seqids seqid told = told_lists l owner seqids op_lock seqid told
 
 abbrev pub lock_refused : NfsLists → Option ℕ → ℕ → SeqidState → ℕ → Told → Plan
 lock_refused l current owner seqids seqid told = Does [] (refused_lists l owner seqids seqid told) (told, current)
 
 abbrev pub lock_answered : NfsLists → Option ℕ → StateidRow → ℕ → SeqidState → ℕ → Bool → Answer → CoreState → Plan
 lock_answered l current r owner seqids seqid reclaim answer s =
-    if is_granted answer then Does [] (done_lists s l r owner seqids 12 seqid seqids.confirmed None 0 0 false) (state_told s r, current)
+    if is_granted answer then Does [] (done_lists s l r owner seqids op_lock seqid seqids.confirmed None 0 0 false) (state_told s r, current)
     else lock_refused l current owner seqids seqid (lock_told s l reclaim answer)
 
 abbrev pub lock_by_owner : NfsLists → Option ℕ → LockArgsItem → StateidRow → ℕ → SeqidState → ℕ → ℕ → Option Opener → Plan
@@ -66,18 +63,16 @@ lock_end kind access None = Err statuses.Inval
 lock_end kind access (Some last) = if may_lock kind access then Ok last else Err statuses.OpenMode
 
 abbrev pub lock_to : NfsLists → Option ℕ → LockArgsItem → StateidRow → ℕ → SeqidState → ℕ → Result ℕ NfsStatus → Plan
-lock_to l current a r owner seqids seqid (Err status) = failed l current owner seqids 12 seqid status
+lock_to l current a r owner seqids seqid (Err status) = failed l current owner seqids op_lock seqid status
 lock_to l current a r owner seqids seqid (Ok last) = lock_by_owner l current a r owner seqids seqid last (opener_by l r.client owner)
 
 abbrev pub lock_standing : NfsLists → Option ℕ → LockArgsItem → StateidRow → ℕ → SeqidState → ℕ → Option NfsStatus → Plan
-lock_standing l current a r owner seqids seqid (Some status) = failed l current owner seqids 12 seqid status
+lock_standing l current a r owner seqids seqid (Some status) = failed l current owner seqids op_lock seqid status
 lock_standing l current a r owner seqids seqid None = lock_to l current a r owner seqids seqid (lock_end a.kind (access_above l r.holder) (last_byte a.offset a.len))
 
 abbrev pub lock_found : CoreState → NfsLists → Option ℕ → LockArgsItem → KnownLocker → Checked → Plan
-lock_found s l current a x (Refused status) = Does [] l (Ended status, current)
-lock_found s l current a x (Repeated owner) = repeated s l current (find (is_kept owner) l.kept)
-lock_found s l current a x (Passed r owner seqids) = lock_standing l current a r owner seqids x.seqid (standing_fault r seqids x.stateid.seqid true)
+lock_found s l current a x c = counts s l current (λ r owner seqids. lock_standing l current a r owner seqids x.seqid (standing_fault r seqids x.stateid.seqid true)) c
 
 -- the client is renewed before
 unfoldable pub lock_known : CoreState → NfsLists → Option ℕ → LockArgsItem → KnownLocker → Plan
-lock_known s l current a x = renewing l (state_client s l x.stateid) (λ t. lock_found t l current a x (locks_found t l current 12 x.seqid x.stateid))
+lock_known s l current a x = renewing l (state_client s l x.stateid) (λ t. lock_found t l current a x (locks_found t l current op_lock x.seqid x.stateid))

@@ -4,12 +4,10 @@ ghost use Rattle.std.specs.List.{find};
 ghost use Rattle.xl_base.specs.Outside.{HandedOn};
 ghost use Rattle.xl_core.specs.State.{CoreState, MayBe};
 ghost use Rattle.xl_nfs.specs.Locks.{shown_lock_args, shown_new_locker};
-ghost use Rattle.xl_nfs.specs.Outcomes.{is_ok};
 ghost use Rattle.xl_nfs_state.specs.State.{NfsLists, is_client, is_owner, is_stateid, is_kept};
-ghost use Rattle.xl_nfs_locks.specs.FirstLocks.{both_of, both_refused, by_owner, by_row, can_enter, counted_both, counted_open, entered, fits_under, found_joined, join_again, join_answered, join_as, join_by, join_checked, join_in, join_of, join_standing, join_to, joined_by, joined_more, joined_new, lock_named, lock_new, lock_row, locker_under, IsJoined};
+ghost use Rattle.xl_nfs_locks.specs.FirstLocks.{both_refused, by_owner, can_enter, counted_both, counted_open, entered, fits_under, found_joined, join_again, join_answered, join_as, join_checked, join_in, join_of, join_standing, join_to, joined_by, joined_more, joined_new, lock_named, lock_new, lock_row, locker_under, IsJoined};
 ghost use Rattle.xl_nfs_locks.specs.Locks.{lock_end};
-ghost use Rattle.xl_nfs_locks.specs.Ranges.{last_byte};
-ghost use Rattle.xl_nfs_opens.specs.Closing.{standing_fault, IsChecked};
+ghost use Rattle.xl_nfs_opens.specs.Closing.{failed, standing_fault, IsChecked};
 ghost use Rattle.xl_nfs_opens.specs.Opens.{client_in, is_granted};
 ghost use Rattle.xl_nfs_opens.specs.Plans.{carried};
 ghost use Rattle.xl_nfs_opens.specs.Results.{spelled, ToldFits};
@@ -26,14 +24,47 @@ use xl_base::{Keeper, Sequence};
 use xl_core::{Answer, Core, number_in};
 use xl_nfs::{LockArgs, NewLocker, NfsStatus, operation};
 use xl_nfs_opens::{
-    Checked, Done, Opener, Told, advances, asked, beside, check, client_in, count, drawn, ended_as,
-    fail, find_opener, held_on, is_room_for, next_seqids, opener_number, remember, renew_for,
-    repeat, result_bytes, stand, standing_fault, state_client, state_told, stateid_of,
+    Checked, Done, Found, Opener, Told, advances, asked, beside, check, client_in, count, drawn,
+    ended_as, fail, find_opener, held_on, is_room_for, next_seqids, opener_number, remember,
+    renew_for, repeat, result_bytes, stand, standing_fault, state_client, state_told, stateid_of,
 };
 use xl_nfs_state::{
-    ClientRow, Holder, NfsState, OwnerRow, ResultBytes, SeqidState, SeqidVerdict, Standing,
-    StateidRow, Whose, verdict,
+    ClientRow, Holder, NfsState, OwnerKind, OwnerRow, ResultBytes, SeqidState, SeqidVerdict,
+    Standing, StateidRow, Whose, verdict,
 };
+
+/// Such a LOCK at the current handle.
+#[derive(Clone, Copy)]
+struct NewLock<'a> {
+    /// The current handle.
+    current: Option<u32>,
+    /// What is asked.
+    args: &'a LockArgs<'a>,
+    /// Who asks, and under which open.
+    given: &'a NewLocker<'a>,
+}
+
+/// The same, once the open is found.
+#[derive(Clone, Copy)]
+struct JoinTurn<'a> {
+    /// The request.
+    asked: NewLock<'a>,
+    /// With whose seqids it counts.
+    both: BothOwners,
+    /// The open.
+    above: StateidRow,
+}
+
+/// The same, once the lock owner is found.
+#[derive(Clone, Copy)]
+struct JoinOn<'a> {
+    /// The request.
+    turn: JoinTurn<'a>,
+    /// The lock owner.
+    locker: &'a Opener,
+    /// What it has under the open.
+    had: Option<StateidRow>,
+}
 
 /// With whose seqids such a LOCK counts.
 #[derive(Clone, Copy)]
@@ -246,27 +277,31 @@ fn join_answered(
     alloc: Global,
     state: &mut NfsState,
     core: &mut Core,
-    current: Option<u32>,
-    both: BothOwners,
-    locker: &Opener,
-    above: &StateidRow,
-    had: Option<StateidRow>,
-    reclaim: bool,
+    on: &JoinOn,
     answer: Answer,
 ) -> Result<(Told, Option<u32>), AllocError>
-    requires owner { IsSome (find (is_owner both.number) state.old.owners) }
-    requires client { IsSome (find (is_client locker.now.client true) state.old.clients) }
-    requires had { IfSome had (λ lock. (find (is_stateid lock.number) state.old.stateids ≡ Some lock) × (lock.standing.closed ≡ false)) }
+    requires owner { IsSome (find (is_owner on.now.turn.both.number) state.old.owners) }
+    requires client { IsSome (find (is_client on.now.locker.now.client true) state.old.clients) }
+    requires had { IfSome on.now.had (λ lock. (find (is_stateid lock.number) state.old.stateids ≡ Some lock) × (lock.standing.closed ≡ false)) }
     requires ready { IsReady 2 core.old }
-    ensures done { (n : ℕ) → IfOk result (λ r. carried n core.old state.old (join_answered state.old current both locker.now above.now had reclaim answer core.old) ≡ (r.0, r.1, [], state.new, core.new)) }
+    ensures done { (n : ℕ) → IfOk result (λ r. carried n core.old state.old (join_answered state.old on.now.turn.asked.current on.now.turn.both on.now.locker.now on.now.turn.above on.now.had on.now.turn.asked.args.now.reclaim answer core.old) ≡ (r.0, r.1, [], state.new, core.new)) }
     ensures leaves { OnOk result (Leaves 2 core.old core.new) }
 {
+    let (turn, current) = (&on.turn, on.turn.asked.current);
     if !is_granted(answer) {
-        let told = lock_told(alloc, state, core, reclaim, answer)?;
-        let ended = refuse_both(alloc, state, current, both, locker, told)?;
+        let told = lock_told(alloc, state, core, turn.asked.args.reclaim, answer)?;
+        let ended = refuse_both(alloc, state, current, turn.both, on.locker, told)?;
         return Ok(ended);
     }
-    let told = join_granted(alloc, state, core, both, locker, above, had)?;
+    let told = join_granted(
+        alloc,
+        state,
+        core,
+        turn.both,
+        on.locker,
+        &turn.above,
+        on.had,
+    )?;
     Ok((told, current))
 }
 
@@ -277,38 +312,24 @@ fn join_bytes<K: Keeper>(
     state: &mut NfsState,
     core: &mut Core,
     keeper: &mut K,
-    current: Option<u32>,
-    args: &LockArgs,
-    both: BothOwners,
-    locker: &Opener,
-    above: &StateidRow,
-    had: Option<StateidRow>,
+    on: &JoinOn,
     last: u64,
 ) -> Result<Done, AllocError>
     requires ready { IsReady 4 core.old }
-    requires owner { IsSome (find (is_owner both.number) state.old.owners) }
-    requires client { IsSome (find (is_client locker.now.client true) state.old.clients) }
-    requires had { IfSome had (λ lock. (find (is_stateid lock.number) state.old.stateids ≡ Some lock) × (lock.standing.closed ≡ false)) }
-    requires room { is_room_for locker.now state.old ≡ true }
-    requires ends { args.now.offset ≤ last }
-    ensures done { (n : ℕ) → IfOk result (λ r. MayBe n core.new → carried n core.old state.old (join_to state.old current (shown_lock_args args.now) both locker.now above.now had (Ok last)) ≡ (r.0, r.1, r.2, state.new, core.new)) }
+    requires owner { IsSome (find (is_owner on.now.turn.both.number) state.old.owners) }
+    requires client { IsSome (find (is_client on.now.locker.now.client true) state.old.clients) }
+    requires had { IfSome on.now.had (λ lock. (find (is_stateid lock.number) state.old.stateids ≡ Some lock) × (lock.standing.closed ≡ false)) }
+    requires room { is_room_for on.now.locker.now state.old ≡ true }
+    requires ends { on.now.turn.asked.args.now.offset ≤ last }
+    ensures done { (n : ℕ) → IfOk result (λ r. MayBe n core.new → carried n core.old state.old (join_to state.old on.now.turn.asked.current (shown_lock_args on.now.turn.asked.args.now) on.now.turn.both on.now.locker.now on.now.turn.above on.now.had (Ok last)) ≡ (r.0, r.1, r.2, state.new, core.new)) }
     ensures leaves { OnOk result (Leaves 4 core.old core.new) }
     ensures keeper { HandedOn keeper.old keeper.new }
 {
-    let reclaim = args.reclaim;
-    let request = lock_ask(
-        alloc,
-        locker,
-        above.file,
-        args.kind,
-        reclaim,
-        args.offset,
-        last,
-    )?;
+    let (args, file) = (on.turn.asked.args, on.turn.above.file);
+    let (kind, reclaim, offset) = (args.kind, args.reclaim, args.offset);
+    let request = lock_ask(alloc, on.locker, file, kind, reclaim, offset, last)?;
     let (said, effects) = asked(alloc, core, keeper, request)?;
-    let (told, handle) = join_answered(
-        alloc, state, core, current, both, locker, above, had, reclaim, said,
-    )?;
+    let (told, handle) = join_answered(alloc, state, core, on, said)?;
     Ok((told, handle, effects))
 }
 
@@ -319,34 +340,29 @@ fn join_in<K: Keeper>(
     state: &mut NfsState,
     core: &mut Core,
     keeper: &mut K,
-    current: Option<u32>,
-    args: &LockArgs,
-    both: BothOwners,
-    locker: &Opener,
-    above: &StateidRow,
-    had: Option<StateidRow>,
+    on: &JoinOn,
 ) -> Result<Done, AllocError>
     requires ready { IsReady 4 core.old }
-    requires owner { IsSome (find (is_owner both.number) state.old.owners) }
-    requires client { IsSome (find (is_client locker.now.client true) state.old.clients) }
-    requires had { IfSome had (λ lock. (find (is_stateid lock.number) state.old.stateids ≡ Some lock) × (lock.standing.closed ≡ false)) }
-    ensures done { (n : ℕ) → IfOk result (λ r. MayBe n core.new → carried n core.old state.old (join_in state.old current (shown_lock_args args.now) both locker.now above.now had) ≡ (r.0, r.1, r.2, state.new, core.new)) }
+    requires owner { IsSome (find (is_owner on.now.turn.both.number) state.old.owners) }
+    requires client { IsSome (find (is_client on.now.locker.now.client true) state.old.clients) }
+    requires had { IfSome on.now.had (λ lock. (find (is_stateid lock.number) state.old.stateids ≡ Some lock) × (lock.standing.closed ≡ false)) }
+    ensures done { (n : ℕ) → IfOk result (λ r. MayBe n core.new → carried n core.old state.old (join_in state.old on.now.turn.asked.current (shown_lock_args on.now.turn.asked.args.now) on.now.turn.both on.now.locker.now on.now.turn.above on.now.had) ≡ (r.0, r.1, r.2, state.new, core.new)) }
     ensures leaves { OnOk result (Leaves 4 core.old core.new) }
     ensures keeper { HandedOn keeper.old keeper.new }
 {
-    match lock_end(args.kind, above.standing.access, args.offset, args.len) {
+    let (turn, locker, args) = (&on.turn, on.locker, on.turn.asked.args);
+    let (access, current) = (turn.above.standing.access, turn.asked.current);
+    match lock_end(args.kind, access, args.offset, args.len) {
         Err(status) => {
             let told = Told::Ended(status);
-            let ended = refuse_both(alloc, state, current, both, locker, told)?;
+            let ended = refuse_both(alloc, state, current, turn.both, locker, told)?;
             Ok(beside(alloc, ended))
         }
         Ok(_) if !is_room_for(state, locker) => {
             Ok(ended_as(alloc, NfsStatus::Resource, current))
         }
         Ok(last) => {
-            let done = join_bytes(
-                alloc, state, core, keeper, current, args, both, locker, above, had, last,
-            )?;
+            let done = join_bytes(alloc, state, core, keeper, on, last)?;
             Ok(done)
         }
     }
@@ -422,30 +438,30 @@ fn join_as<K: Keeper>(
     state: &mut NfsState,
     core: &mut Core,
     keeper: &mut K,
-    current: Option<u32>,
-    args: &LockArgs,
-    both: BothOwners,
+    turn: &JoinTurn,
     locker: &Opener,
-    above: &StateidRow,
     joined: Joined,
 ) -> Result<Done, AllocError>
     requires ready { IsReady 4 core.old }
-    requires owner { IsSome (find (is_owner both.number) state.old.owners) }
+    requires owner { IsSome (find (is_owner turn.now.both.number) state.old.owners) }
     requires client { IsSome (find (is_client locker.now.client true) state.old.clients) }
     requires joined { IsJoined state.old joined }
-    ensures done { (n : ℕ) → IfOk result (λ r. MayBe n core.new → carried n core.old state.old (join_as state.old current (shown_lock_args args.now) both locker.now above.now joined) ≡ (r.0, r.1, r.2, state.new, core.new)) }
+    ensures done { (n : ℕ) → IfOk result (λ r. MayBe n core.new → carried n core.old state.old (join_as state.old turn.now.asked.current (shown_lock_args turn.now.asked.args.now) turn.now.both locker.now turn.now.above joined) ≡ (r.0, r.1, r.2, state.new, core.new)) }
     ensures leaves { OnOk result (Leaves 4 core.old core.new) }
     ensures keeper { HandedOn keeper.old keeper.new }
 {
+    let current = turn.asked.current;
     match joined {
         Joined::Bad => Ok(ended_as(alloc, NfsStatus::BadSeqid, current)),
         Joined::Again(owner) => {
-            let done = join_again(alloc, state, current, both, owner)?;
+            let done = join_again(alloc, state, current, turn.both, owner)?;
             Ok(done)
         }
-        Joined::Joins(had) => join_in(
-            alloc, state, core, keeper, current, args, both, locker, above, had,
-        ),
+        Joined::Joins(had) => {
+            let turn = *turn;
+            let on = JoinOn { turn, locker, had };
+            join_in(alloc, state, core, keeper, &on)
+        }
     }
 }
 
@@ -464,6 +480,28 @@ fn locker_under(
     }
 }
 
+/// It failed so, and counts with the open's owner if its status does.
+fn fail_open(
+    alloc: Global,
+    state: &mut NfsState,
+    turn: &JoinTurn,
+    status: NfsStatus,
+) -> Result<Done, AllocError>
+    requires owner { IsSome (find (is_owner turn.now.both.number) state.old.owners) }
+    requires fits { ToldFits 12 (Told.Ended status) }
+    ensures done { (n : ℕ) (s : CoreState) → IfOk result (λ r. carried n s state.old (failed state.old turn.now.asked.current turn.now.both.number turn.now.both.seqids 12 turn.now.both.open_seqid status) ≡ (r.0, r.1, r.2, state.new, s)) }
+{
+    let both = turn.both;
+    let found = Found {
+        row: turn.above,
+        owner: both.number,
+        seqids: both.seqids,
+    };
+    let (op, current) = (operation::LOCK, turn.asked.current);
+    let done = fail(alloc, state, current, &found, op, both.open_seqid, status)?;
+    Ok(done)
+}
+
 /// LOCK by a lock owner of the open's client.
 #[tactic(auto, using(crate::proofs::LockLaws::inval_fits, crate::proofs::FirstLaws::locker_there, xl_plan::proofs::BudgetLaws::leaves_self, xl_plan::proofs::BudgetLaws::leaves_more))]
 fn join_of<K: Keeper>(
@@ -471,29 +509,22 @@ fn join_of<K: Keeper>(
     state: &mut NfsState,
     core: &mut Core,
     keeper: &mut K,
-    current: Option<u32>,
-    args: &LockArgs,
-    given: &NewLocker,
-    both: BothOwners,
-    above: &StateidRow,
+    turn: &JoinTurn,
 ) -> Result<Done, AllocError>
     requires ready { IsReady 4 core.old }
-    requires owner { IsSome (find (is_owner both.number) state.old.owners) }
-    ensures done { (n : ℕ) → IfOk result (λ r. MayBe n core.new → carried n core.old state.old (join_of state.old current (shown_lock_args args.now) (shown_new_locker given.now) both above.now (locker_under above.now given.now.owner.owner.now (client_in core.old state.old given.now.owner.clientid))) ≡ (r.0, r.1, r.2, state.new, core.new)) }
+    requires owner { IsSome (find (is_owner turn.now.both.number) state.old.owners) }
+    ensures done { (n : ℕ) → IfOk result (λ r. MayBe n core.new → carried n core.old state.old (join_of state.old turn.now.asked.current (shown_lock_args turn.now.asked.args.now) (shown_new_locker turn.now.asked.given.now) turn.now.both turn.now.above (locker_under turn.now.above turn.now.asked.given.now.owner.owner.now (client_in core.old state.old turn.now.asked.given.now.owner.clientid))) ≡ (r.0, r.1, r.2, state.new, core.new)) }
     ensures leaves { OnOk result (Leaves 4 core.old core.new) }
     ensures keeper { HandedOn keeper.old keeper.new }
 {
+    let (above, given) = (&turn.above, turn.asked.given);
     let client = client_in(state, core, given.owner.clientid);
     let Some(locker) = locker_under(alloc, above, given.owner.owner, client)? else {
-        let (op, status) = (operation::LOCK, NfsStatus::Inval);
-        let (owner, seqids, seqid) = (both.number, both.seqids, both.open_seqid);
-        let done = fail(alloc, state, current, owner, seqids, op, seqid, status)?;
+        let done = fail_open(alloc, state, turn, NfsStatus::Inval)?;
         return Ok(done);
     };
     let joined = find_joined(state, above, &locker, given.lock_seqid);
-    let done = join_as(
-        alloc, state, core, keeper, current, args, both, &locker, above, joined,
-    )?;
+    let done = join_as(alloc, state, core, keeper, turn, &locker, joined)?;
     Ok(done)
 }
 
@@ -504,27 +535,20 @@ fn join_passed<K: Keeper>(
     state: &mut NfsState,
     core: &mut Core,
     keeper: &mut K,
-    current: Option<u32>,
-    args: &LockArgs,
-    given: &NewLocker,
-    both: BothOwners,
-    above: &StateidRow,
+    turn: &JoinTurn,
 ) -> Result<Done, AllocError>
     requires ready { IsReady 4 core.old }
-    requires owner { IsSome (find (is_owner both.number) state.old.owners) }
-    ensures done { (n : ℕ) → IfOk result (λ r. MayBe n core.new → carried n core.old state.old (join_standing core.old state.old current (shown_lock_args args.now) (shown_new_locker given.now) both above.now (standing_fault above.now both.seqids given.now.open_stateid.seqid true)) ≡ (r.0, r.1, r.2, state.new, core.new)) }
+    requires owner { IsSome (find (is_owner turn.now.both.number) state.old.owners) }
+    ensures done { (n : ℕ) → IfOk result (λ r. MayBe n core.new → carried n core.old state.old (join_standing core.old state.old turn.now.asked.current (shown_lock_args turn.now.asked.args.now) (shown_new_locker turn.now.asked.given.now) turn.now.both turn.now.above (standing_fault turn.now.above turn.now.both.seqids turn.now.asked.given.now.open_stateid.seqid true)) ≡ (r.0, r.1, r.2, state.new, core.new)) }
     ensures leaves { OnOk result (Leaves 4 core.old core.new) }
     ensures keeper { HandedOn keeper.old keeper.new }
 {
-    if let Some(status) = standing_fault(above, both.seqids, given.open_stateid.seqid, true) {
-        let (owner, seqids, seqid) = (both.number, both.seqids, both.open_seqid);
-        let op = operation::LOCK;
-        let done = fail(alloc, state, current, owner, seqids, op, seqid, status)?;
+    let seqid = turn.asked.given.open_stateid.seqid;
+    if let Some(status) = standing_fault(&turn.above, turn.both.seqids, seqid, true) {
+        let done = fail_open(alloc, state, turn, status)?;
         return Ok(done);
     }
-    let done = join_of(
-        alloc, state, core, keeper, current, args, given, both, above,
-    )?;
+    let done = join_of(alloc, state, core, keeper, turn)?;
     Ok(done)
 }
 
@@ -535,33 +559,31 @@ fn join_checked<K: Keeper>(
     state: &mut NfsState,
     core: &mut Core,
     keeper: &mut K,
-    current: Option<u32>,
-    args: &LockArgs,
-    given: &NewLocker,
-    found: Checked,
+    asked: &NewLock,
+    checked: Checked,
 ) -> Result<Done, AllocError>
     requires ready { IsReady 4 core.old }
-    requires found { IsChecked state.old found }
-    ensures done { (n : ℕ) → IfOk result (λ r. MayBe n core.new → carried n core.old state.old (join_checked core.old state.old current (shown_lock_args args.now) (shown_new_locker given.now) found) ≡ (r.0, r.1, r.2, state.new, core.new)) }
+    requires found { IsChecked state.old checked }
+    ensures done { (n : ℕ) → IfOk result (λ r. MayBe n core.new → carried n core.old state.old (join_checked core.old state.old asked.now.current (shown_lock_args asked.now.args.now) (shown_new_locker asked.now.given.now) checked) ≡ (r.0, r.1, r.2, state.new, core.new)) }
     ensures leaves { OnOk result (Leaves 4 core.old core.new) }
     ensures keeper { HandedOn keeper.old keeper.new }
 {
-    match found {
-        Checked::Refused(status) => Ok(ended_as(alloc, status, current)),
+    match checked {
+        Checked::Refused(status) => Ok(ended_as(alloc, status, asked.current)),
         Checked::Repeated(owner) => {
-            let done = repeat(alloc, state, core, current, owner)?;
+            let done = repeat(alloc, state, core, asked.current, owner)?;
             Ok(done)
         }
         Checked::Passed(above, number, seqids) => {
             let both = BothOwners {
                 number,
                 seqids,
-                open_seqid: given.open_seqid,
-                lock_seqid: given.lock_seqid,
+                open_seqid: asked.given.open_seqid,
+                lock_seqid: asked.given.lock_seqid,
             };
-            join_passed(
-                alloc, state, core, keeper, current, args, given, both, &above,
-            )
+            let asked = *asked;
+            let turn = JoinTurn { asked, both, above };
+            join_passed(alloc, state, core, keeper, &turn)
         }
     }
 }
@@ -585,15 +607,14 @@ fn lock_named<K: Keeper>(
     let client = number_in(core, given.owner.clientid);
     renew_for(alloc, state, core, client)?;
     let op = operation::LOCK;
-    let found = check(
-        state,
-        core,
+    let (seqid, stateid) = (given.open_seqid, &given.open_stateid);
+    let found = check(OwnerKind::Open, state, core, current, op, seqid, stateid);
+    let asked = NewLock {
         current,
-        op,
-        given.open_seqid,
-        &given.open_stateid,
-    );
-    let done = join_checked(alloc, state, core, keeper, current, args, given, found)?;
+        args,
+        given,
+    };
+    let done = join_checked(alloc, state, core, keeper, &asked, found)?;
     Ok(done)
 }
 

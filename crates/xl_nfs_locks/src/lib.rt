@@ -2,7 +2,6 @@
 #![tactic(auto)]
 
 mod asks;
-mod checking;
 mod denials;
 mod joining;
 mod locking;

@@ -15,7 +15,6 @@ ghost use Rattle.xl_plan.specs.Budgets.{IsReady};
 ghost use Rattle.xl_nfs_opens.specs.Short.{Leaves};
 
 use crate::asks::lock_ask;
-use crate::checking::find_locks;
 use crate::denials::lock_told;
 use crate::ranges::{last_byte, may_lock};
 use std::alloc::{AllocError, Global};
@@ -23,32 +22,45 @@ use xl_base::Keeper;
 use xl_core::{Answer, Core};
 use xl_nfs::{KnownLocker, LockArgs, LockType, NfsStatus, operation};
 use xl_nfs_opens::{
-    Checked, Done, Opener, Told, advances, asked, count, ended_as, fail, finish, next_seqids,
-    opener_by, renew_for, repeat, result_bytes, standing_fault, state_client,
+    Checked, Done, Found, Opener, Told, asked, check, count_told, ended_as, fail, finish,
+    next_seqids, opener_by, renew_for, repeat, standing_fault, state_client,
 };
-use xl_nfs_state::{Holder, NfsState, SeqidState, StateidRow};
+use xl_nfs_state::{Holder, NfsState, OwnerKind};
+
+/// A LOCK by a lock owner that has a stateid under the open, at the current handle.
+#[derive(Clone, Copy)]
+struct KnownLock<'a> {
+    /// The current handle.
+    current: Option<u32>,
+    /// What is asked.
+    args: &'a LockArgs<'a>,
+    /// Who asks.
+    known: &'a KnownLocker,
+}
+
+/// The same, once its stateid is found.
+#[derive(Clone, Copy)]
+struct LockTurn<'a> {
+    /// The request.
+    asked: KnownLock<'a>,
+    /// What is found.
+    found: Found,
+}
 
 /// It was refused; the result is kept if its status counts.
 fn refuse(
     alloc: Global,
     state: &mut NfsState,
-    current: Option<u32>,
-    owner: u64,
-    seqids: SeqidState,
-    seqid: u32,
+    turn: &LockTurn,
     told: Told,
 ) -> Result<(Told, Option<u32>), AllocError>
-    requires there { IsSome (find (is_owner owner) state.old.owners) }
+    requires there { IsSome (find (is_owner turn.now.found.owner) state.old.owners) }
     requires fits { ToldFits 12 told }
-    ensures { (n : ℕ) (s : CoreState) → IfOk result (λ r. carried n s state.old (lock_refused state.old current owner seqids seqid told) ≡ (r.0, r.1, [], state.new, s)) }
+    ensures { (n : ℕ) (s : CoreState) → IfOk result (λ r. carried n s state.old (lock_refused state.old turn.now.asked.current turn.now.found.owner turn.now.found.seqids turn.now.asked.known.now.seqid told) ≡ (r.0, r.1, [], state.new, s)) }
 {
-    let op = operation::LOCK;
-    if advances(told.status()) {
-        let bytes = result_bytes(alloc, op, &told)?;
-        let next = next_seqids(op, seqid, seqids.confirmed, None);
-        count(state, owner, seqids.closed, next, bytes)?;
-    }
-    Ok((told, current))
+    let seqid = turn.asked.known.seqid;
+    count_told(alloc, state, &turn.found, operation::LOCK, seqid, &told)?;
+    Ok((told, turn.asked.current))
 }
 
 /// Whether it is granted.
@@ -64,38 +76,24 @@ fn lock_answered(
     alloc: Global,
     state: &mut NfsState,
     core: &Core,
-    current: Option<u32>,
-    row: &StateidRow,
-    owner: u64,
-    seqids: SeqidState,
-    seqid: u32,
-    reclaim: bool,
+    turn: &LockTurn,
     answer: Answer,
 ) -> Result<(Told, Option<u32>), AllocError>
-    requires owner { IsSome (find (is_owner owner) state.old.owners) }
-    requires there { find (is_stateid row.now.number) state.old.stateids ≡ Some row.now }
-    requires open { row.now.standing.closed ≡ false }
-    ensures { (n : ℕ) → IfOk result (λ r. carried n core.now state.old (lock_answered state.old current row.now owner seqids seqid reclaim answer core.now) ≡ (r.0, r.1, [], state.new, core.now)) }
+    requires owner { IsSome (find (is_owner turn.now.found.owner) state.old.owners) }
+    requires there { find (is_stateid turn.now.found.row.number) state.old.stateids ≡ Some turn.now.found.row }
+    requires open { turn.now.found.row.standing.closed ≡ false }
+    ensures { (n : ℕ) → IfOk result (λ r. carried n core.now state.old (lock_answered state.old turn.now.asked.current turn.now.found.row turn.now.found.owner turn.now.found.seqids turn.now.asked.known.now.seqid turn.now.asked.args.now.reclaim answer core.now) ≡ (r.0, r.1, [], state.new, core.now)) }
 {
     if !is_granted(answer) {
-        let told = lock_told(alloc, state, core, reclaim, answer)?;
-        let ended = refuse(alloc, state, current, owner, seqids, seqid, told)?;
+        let told = lock_told(alloc, state, core, turn.asked.args.reclaim, answer)?;
+        let ended = refuse(alloc, state, turn, told)?;
         return Ok(ended);
     }
-    let op = operation::LOCK;
-    let next = next_seqids(op, seqid, seqids.confirmed, None);
-    let told = finish(
-        alloc,
-        state,
-        core,
-        row,
-        owner,
-        seqids.closed,
-        op,
-        next,
-        (0, 0, false),
-    )?;
-    Ok((told, current))
+    let found = &turn.found;
+    let confirmed = found.seqids.confirmed;
+    let next = next_seqids(operation::LOCK, turn.asked.known.seqid, confirmed, None);
+    let told = finish(alloc, state, core, found, next, (0, 0, false))?;
+    Ok((told, turn.asked.current))
 }
 
 /// LOCK of bytes by the lock owner: the core is asked.
@@ -104,30 +102,23 @@ fn lock_bytes<K: Keeper>(
     state: &mut NfsState,
     core: &mut Core,
     keeper: &mut K,
-    current: Option<u32>,
-    args: &LockArgs,
-    row: &StateidRow,
-    owner: u64,
-    seqids: SeqidState,
-    seqid: u32,
+    turn: &LockTurn,
     last: u64,
     by: &Opener,
 ) -> Result<Done, AllocError>
     requires ready { IsReady 2 core.old }
-    requires owner { IsSome (find (is_owner owner) state.old.owners) }
-    requires there { find (is_stateid row.now.number) state.old.stateids ≡ Some row.now }
-    requires open { row.now.standing.closed ≡ false }
-    requires ends { args.now.offset ≤ last }
-    ensures done { (n : ℕ) → IfOk result (λ r. MayBe n core.new → carried n core.old state.old (lock_by_owner state.old current (shown_lock_args args.now) row.now owner seqids seqid last (Some by.now)) ≡ (r.0, r.1, r.2, state.new, core.new)) }
+    requires owner { IsSome (find (is_owner turn.now.found.owner) state.old.owners) }
+    requires there { find (is_stateid turn.now.found.row.number) state.old.stateids ≡ Some turn.now.found.row }
+    requires open { turn.now.found.row.standing.closed ≡ false }
+    requires ends { turn.now.asked.args.now.offset ≤ last }
+    ensures done { (n : ℕ) → IfOk result (λ r. MayBe n core.new → carried n core.old state.old (lock_by_owner state.old turn.now.asked.current (shown_lock_args turn.now.asked.args.now) turn.now.found.row turn.now.found.owner turn.now.found.seqids turn.now.asked.known.now.seqid last (Some by.now)) ≡ (r.0, r.1, r.2, state.new, core.new)) }
     ensures leaves { OnOk result (Leaves 2 core.old core.new) }
     ensures keeper { HandedOn keeper.old keeper.new }
 {
-    let reclaim = args.reclaim;
-    let request = lock_ask(alloc, by, row.file, args.kind, reclaim, args.offset, last)?;
+    let (args, file) = (turn.asked.args, turn.found.row.file);
+    let request = lock_ask(alloc, by, file, args.kind, args.reclaim, args.offset, last)?;
     let (said, effects) = asked(alloc, core, keeper, request)?;
-    let (told, handle) = lock_answered(
-        alloc, state, core, current, row, owner, seqids, seqid, reclaim, said,
-    )?;
+    let (told, handle) = lock_answered(alloc, state, core, turn, said)?;
     Ok((told, handle, effects))
 }
 
@@ -166,35 +157,30 @@ fn lock_to<K: Keeper>(
     state: &mut NfsState,
     core: &mut Core,
     keeper: &mut K,
-    current: Option<u32>,
-    args: &LockArgs,
-    row: &StateidRow,
-    owner: u64,
-    seqids: SeqidState,
-    seqid: u32,
+    turn: &LockTurn,
     access: u32,
 ) -> Result<Done, AllocError>
     requires ready { IsReady 2 core.old }
-    requires owner { IsSome (find (is_owner owner) state.old.owners) }
-    requires there { find (is_stateid row.now.number) state.old.stateids ≡ Some row.now }
-    requires open { row.now.standing.closed ≡ false }
-    ensures done { (n : ℕ) → IfOk result (λ r. MayBe n core.new → carried n core.old state.old (lock_to state.old current (shown_lock_args args.now) row.now owner seqids seqid (lock_end args.now.kind access (last_byte args.now.offset args.now.len))) ≡ (r.0, r.1, r.2, state.new, core.new)) }
+    requires owner { IsSome (find (is_owner turn.now.found.owner) state.old.owners) }
+    requires there { find (is_stateid turn.now.found.row.number) state.old.stateids ≡ Some turn.now.found.row }
+    requires open { turn.now.found.row.standing.closed ≡ false }
+    ensures done { (n : ℕ) → IfOk result (λ r. MayBe n core.new → carried n core.old state.old (lock_to state.old turn.now.asked.current (shown_lock_args turn.now.asked.args.now) turn.now.found.row turn.now.found.owner turn.now.found.seqids turn.now.asked.known.now.seqid (lock_end turn.now.asked.args.now.kind access (last_byte turn.now.asked.args.now.offset turn.now.asked.args.now.len))) ≡ (r.0, r.1, r.2, state.new, core.new)) }
     ensures leaves { OnOk result (Leaves 2 core.old core.new) }
     ensures keeper { HandedOn keeper.old keeper.new }
 {
+    let (args, current) = (turn.asked.args, turn.asked.current);
     match lock_end(args.kind, access, args.offset, args.len) {
         Err(status) => {
-            let op = operation::LOCK;
-            let done = fail(alloc, state, current, owner, seqids, op, seqid, status)?;
+            let (op, seqid) = (operation::LOCK, turn.asked.known.seqid);
+            let done = fail(alloc, state, current, &turn.found, op, seqid, status)?;
             Ok(done)
         }
         Ok(last) => {
-            let Some(by) = opener_by(alloc, state, row.client, owner)? else {
+            let (client, owner) = (turn.found.row.client, turn.found.owner);
+            let Some(by) = opener_by(alloc, state, client, owner)? else {
                 return Ok(ended_as(alloc, NfsStatus::ServerFault, current));
             };
-            let granted = lock_bytes(
-                alloc, state, core, keeper, current, args, row, owner, seqids, seqid, last, &by,
-            )?;
+            let granted = lock_bytes(alloc, state, core, keeper, turn, last, &by)?;
             Ok(granted)
         }
     }
@@ -207,31 +193,24 @@ fn lock_passed<K: Keeper>(
     state: &mut NfsState,
     core: &mut Core,
     keeper: &mut K,
-    current: Option<u32>,
-    args: &LockArgs,
-    known: &KnownLocker,
-    row: &StateidRow,
-    owner: u64,
-    seqids: SeqidState,
+    turn: &LockTurn,
 ) -> Result<Done, AllocError>
     requires ready { IsReady 2 core.old }
-    requires owner { IsSome (find (is_owner owner) state.old.owners) }
-    requires there { find (is_stateid row.now.number) state.old.stateids ≡ Some row.now }
-    requires open { row.now.standing.closed ≡ false }
-    ensures done { (n : ℕ) → IfOk result (λ r. MayBe n core.new → carried n core.old state.old (lock_standing state.old current (shown_lock_args args.now) row.now owner seqids known.now.seqid (standing_fault row.now seqids known.now.stateid.seqid true)) ≡ (r.0, r.1, r.2, state.new, core.new)) }
+    requires owner { IsSome (find (is_owner turn.now.found.owner) state.old.owners) }
+    requires there { find (is_stateid turn.now.found.row.number) state.old.stateids ≡ Some turn.now.found.row }
+    requires open { turn.now.found.row.standing.closed ≡ false }
+    ensures done { (n : ℕ) → IfOk result (λ r. MayBe n core.new → carried n core.old state.old (lock_standing state.old turn.now.asked.current (shown_lock_args turn.now.asked.args.now) turn.now.found.row turn.now.found.owner turn.now.found.seqids turn.now.asked.known.now.seqid (standing_fault turn.now.found.row turn.now.found.seqids turn.now.asked.known.now.stateid.seqid true)) ≡ (r.0, r.1, r.2, state.new, core.new)) }
     ensures leaves { OnOk result (Leaves 2 core.old core.new) }
     ensures keeper { HandedOn keeper.old keeper.new }
 {
-    let seqid = known.seqid;
-    if let Some(status) = standing_fault(row, seqids, known.stateid.seqid, true) {
-        let op = operation::LOCK;
-        let done = fail(alloc, state, current, owner, seqids, op, seqid, status)?;
+    let (known, found) = (turn.asked.known, &turn.found);
+    if let Some(status) = standing_fault(&found.row, found.seqids, known.stateid.seqid, true) {
+        let (op, current) = (operation::LOCK, turn.asked.current);
+        let done = fail(alloc, state, current, found, op, known.seqid, status)?;
         return Ok(done);
     }
-    let access = access_above(state, row.holder);
-    let done = lock_to(
-        alloc, state, core, keeper, current, args, row, owner, seqids, seqid, access,
-    )?;
+    let access = access_above(state, found.row.holder);
+    let done = lock_to(alloc, state, core, keeper, turn, access)?;
     Ok(done)
 }
 
@@ -242,33 +221,36 @@ fn lock_found<K: Keeper>(
     state: &mut NfsState,
     core: &mut Core,
     keeper: &mut K,
-    current: Option<u32>,
-    args: &LockArgs,
-    known: &KnownLocker,
-    found: Checked,
+    asked: &KnownLock,
+    checked: Checked,
 ) -> Result<Done, AllocError>
     requires ready { IsReady 2 core.old }
-    requires found { IsChecked state.old found }
-    ensures done { (n : ℕ) → IfOk result (λ r. MayBe n core.new → carried n core.old state.old (lock_found core.old state.old current (shown_lock_args args.now) known.now found) ≡ (r.0, r.1, r.2, state.new, core.new)) }
+    requires found { IsChecked state.old checked }
+    ensures done { (n : ℕ) → IfOk result (λ r. MayBe n core.new → carried n core.old state.old (lock_found core.old state.old asked.now.current (shown_lock_args asked.now.args.now) asked.now.known.now checked) ≡ (r.0, r.1, r.2, state.new, core.new)) }
     ensures leaves { OnOk result (Leaves 2 core.old core.new) }
     ensures keeper { HandedOn keeper.old keeper.new }
 {
-    match found {
-        Checked::Refused(status) => Ok(ended_as(alloc, status, current)),
+    match checked {
+        Checked::Refused(status) => Ok(ended_as(alloc, status, asked.current)),
         Checked::Repeated(owner) => {
-            let done = repeat(alloc, state, core, current, owner)?;
+            let done = repeat(alloc, state, core, asked.current, owner)?;
             Ok(done)
         }
-        Checked::Passed(row, owner, seqids) => lock_passed(
-            alloc, state, core, keeper, current, args, known, &row, owner, seqids,
-        ),
+        Checked::Passed(row, owner, seqids) => {
+            let found = Found { row, owner, seqids };
+            let turn = LockTurn {
+                asked: *asked,
+                found,
+            };
+            lock_passed(alloc, state, core, keeper, &turn)
+        }
     }
 }
 
 /// LOCK by a lock owner that has a stateid under the open: the bytes of the range are the owner's, in this mode. DENIED
 /// with a lock that stands against it; INVAL for a range of no bytes or past the last one, OPENMODE if the open's
 /// access doesn't allow it; BAD_STATEID, OLD_STATEID, STALE_STATEID and BAD_SEQID by the lock's stateid.
-#[tactic(auto, unfolding(crate::specs::Locks::lock_known), using(crate::proofs::FoundLaws::locks_there, xl_plan::proofs::BudgetLaws::leaves_then, xl_plan::proofs::BudgetLaws::ready_then))]
+#[tactic(auto, unfolding(crate::specs::Locks::lock_known), using(xl_nfs_opens::proofs::CheckLaws::passed_there, xl_plan::proofs::BudgetLaws::leaves_then, xl_plan::proofs::BudgetLaws::ready_then))]
 pub(crate) fn lock_known<K: Keeper>(
     alloc: Global,
     state: &mut NfsState,
@@ -285,8 +267,13 @@ pub(crate) fn lock_known<K: Keeper>(
 {
     let client = state_client(state, core, &known.stateid);
     renew_for(alloc, state, core, client)?;
-    let op = operation::LOCK;
-    let found = find_locks(state, core, current, op, known.seqid, &known.stateid);
-    let done = lock_found(alloc, state, core, keeper, current, args, known, found)?;
+    let (op, seqid, stateid) = (operation::LOCK, known.seqid, &known.stateid);
+    let found = check(OwnerKind::Lock, state, core, current, op, seqid, stateid);
+    let asked = KnownLock {
+        current,
+        args,
+        known,
+    };
+    let done = lock_found(alloc, state, core, keeper, &asked, found)?;
     Ok(done)
 }

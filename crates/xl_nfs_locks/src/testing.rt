@@ -46,52 +46,29 @@ fn tested_told(
     }
 }
 
-/// LOCKT of bytes: the core is asked.
-fn test_bytes<K: Keeper>(
-    alloc: Global,
-    state: &NfsState,
-    core: &mut Core,
-    keeper: &mut K,
-    current: Option<u32>,
-    args: &LockTestArgs,
-    file: u32,
-    by: &Opener,
-    last: u64,
-) -> Result<Done, AllocError>
-    requires ready { IsReady 2 core.old }
-    requires ends { args.now.offset ≤ last }
-    ensures done { (n : ℕ) → IfOk result (λ r. MayBe n core.new → carried n core.old state.now (test_to state.now current (shown_lock_test_args args.now) file by.now (Some last)) ≡ (r.0, r.1, r.2, state.now, core.new)) }
-    ensures leaves { OnOk result (Leaves 2 core.old core.new) }
-    ensures keeper { HandedOn keeper.old keeper.new }
-{
-    let request = test_ask(alloc, by, file, args.kind, args.offset, last)?;
-    let (said, effects) = asked(alloc, core, keeper, request)?;
-    let told = tested_told(alloc, state, core, said)?;
-    Ok((told, current, effects))
-}
-
-/// LOCKT of a range by a lock owner.
+/// LOCKT of a range by a lock owner, on this file, which is the current one: the core is asked.
 #[tactic(auto, using(xl_plan::proofs::BudgetLaws::leaves_self, xl_plan::proofs::BudgetLaws::leaves_more))]
 fn test_to<K: Keeper>(
     alloc: Global,
     state: &NfsState,
     core: &mut Core,
     keeper: &mut K,
-    current: Option<u32>,
     args: &LockTestArgs,
     file: u32,
     by: &Opener,
 ) -> Result<Done, AllocError>
     requires ready { IsReady 2 core.old }
-    ensures done { (n : ℕ) → IfOk result (λ r. MayBe n core.new → carried n core.old state.now (test_to state.now current (shown_lock_test_args args.now) file by.now (last_byte args.now.offset args.now.len)) ≡ (r.0, r.1, r.2, state.now, core.new)) }
+    ensures done { (n : ℕ) → IfOk result (λ r. MayBe n core.new → carried n core.old state.now (test_to state.now (Some file) (shown_lock_test_args args.now) file by.now (last_byte args.now.offset args.now.len)) ≡ (r.0, r.1, r.2, state.now, core.new)) }
     ensures leaves { OnOk result (Leaves 2 core.old core.new) }
     ensures keeper { HandedOn keeper.old keeper.new }
 {
     let Some(last) = last_byte(args.offset, args.len) else {
-        return Ok(ended_as(alloc, NfsStatus::Inval, current));
+        return Ok(ended_as(alloc, NfsStatus::Inval, Some(file)));
     };
-    let done = test_bytes(alloc, state, core, keeper, current, args, file, by, last)?;
-    Ok(done)
+    let request = test_ask(alloc, by, file, args.kind, args.offset, last)?;
+    let (said, effects) = asked(alloc, core, keeper, request)?;
+    let told = tested_told(alloc, state, core, said)?;
+    Ok((told, Some(file), effects))
 }
 
 /// LOCKT, once the lease of the client is renewed.
@@ -119,7 +96,7 @@ fn test_at<K: Keeper>(
         return Ok(ended_as(alloc, NfsStatus::StaleClientId, current));
     };
     let by = locker_of(alloc, row, args.owner.owner)?;
-    let done = test_to(alloc, state, core, keeper, current, args, at, &by)?;
+    let done = test_to(alloc, state, core, keeper, args, at, &by)?;
     Ok(done)
 }
 

@@ -1,9 +1,9 @@
 -- How the operations on opens end: what they tell has a spelling, and one that isn't OK leaves the current handle.
-use Rattle.std.proofs.Common.{◌≡◌, ℕ, ◌<◌, ◌^◌, Bool, true, false, not, if◌then◌else◌, List, Option, Some, None, refl, inl, inr, arith}
+use Rattle.std.proofs.Common.{◌≡◌, ℕ, ◌<◌, ◌^◌, Bool, true, false, if◌then◌else◌, List, [], ◌∷◌, Option, Some, None, refl, inl, inr, arith}
 use Rattle.std.proofs.lemmas.Bool.{cases_Bool, true≢false}
-use Rattle.std.specs.Bool.{◌==◌, beq}
-use Rattle.std.specs.List.{find}
-use Rattle.std.specs.Prelude.{◌&&◌, ◌||◌, nat_le, nat_lt, Result, Ok, Err}
+use Rattle.std.specs.Bool.{◌==◌}
+use Rattle.std.specs.List.{AllByRecursion, find}
+use Rattle.std.specs.Prelude.{◌&&◌, ◌||◌, nat_le, Result, Ok, Err}
 use Rattle.xl_nfs.specs.Opens.{OpenArgsItem, OpenHowItem, NoCreate, Create, Unchecked, Guarded, Exclusive, OpenClaimItem, Null, Previous, DelegateCurrent, DelegatePrevious}
 use Rattle.xl_nfs.specs.Outcomes.{is_ok, is_denied}
 use Rattle.xl_nfs.specs.Results.{ResultItem, OpenAnswer, nfs_result}
@@ -22,27 +22,24 @@ use Rattle.xl_nfs_opens.specs.Results.{ToldFits}
 use Rattle.xl_nfs_opens.specs.declared.told.Told.{Told}
 use Rattle.xl_nfs_opens.specs.declared.told.Told.TheVariants.{Ended}
 use Rattle.xl_core.specs.declared.ask.Answer.TheVariants as answers
-use Rattle.xl_nfs_state.specs.State.{without_owner, is_kept, is_owner, is_stateid}
-use Rattle.xl_nfs_state.specs.Verdict.{verdict}
+use Rattle.xl_nfs_state.specs.State.{without_owner, is_kept}
 use Rattle.xl_nfs_state.specs.declared.client.ClientRow.{ClientRow}
 use Rattle.xl_nfs_state.specs.declared.kept.KeptRow.{KeptRow}
-use Rattle.xl_nfs_state.specs.declared.owner.OwnerRow.{OwnerRow}
+use Rattle.xl_nfs_state.specs.declared.owner.OwnerKind.{OwnerKind}
+use Rattle.xl_nfs_state.specs.declared.owner.OwnerKind.TheVariants as kinds
 use Rattle.xl_nfs_state.specs.declared.owner.SeqidState.{SeqidState}
-use Rattle.xl_nfs_state.specs.declared.seqid.SeqidVerdict.{SeqidVerdict}
-use Rattle.xl_nfs_state.specs.declared.seqid.SeqidVerdict.TheVariants as verdicts
-use Rattle.xl_nfs_state.specs.declared.stateid.Holder.{Holder}
-use Rattle.xl_nfs_state.specs.declared.stateid.Holder.TheVariants as holders
 use Rattle.xl_nfs_state.specs.declared.stateid.StateidRow.{StateidRow}
-use Rattle.xl_nfs_opens.specs.Closing.{seqid_checked, owner_checked, holder_checked, row_checked, number_checked, checked, standing_fault, confirm_done, confirm_by, open_confirm, can_weaken, close_done, close_by, close, Returning, seqid_returned, holder_returned, row_returned, number_returned, returned, return_done, deleg_return}
-use Rattle.xl_nfs_opens.specs.Downgrades.{range_fault, first_fault, downgrade_fault, downgrade_done, downgrade_by, open_downgrade}
-use Rattle.xl_nfs_opens.specs.Opens.{check_claim, check_bits, check_how, found_name, named_file, is_delegation, by_delegation, file_of_claim, or_else, opened_file, judged, handle_by, handle_again, repeated, reclaims, open_held, has_room, granted_by, is_granted, answer_status, granted_wish, wish_of, answered, open_on, open_by, open_as, open_judged, opener_of, open_of, client_in, open_at, open_claimed, open_file}
-use Rattle.xl_nfs_opens.specs.Renewing.{number_of}
+use Rattle.xl_nfs_opens.specs.Checks.{failing, or_else}
+use Rattle.xl_nfs_opens.specs.Closing.{checked, checked_as, counts, standing_checks, standing_fault, confirm_done, open_confirm, can_weaken, close_done, close, Returning, returned, returned_checks, state_returned, return_done, deleg_return}
+use Rattle.xl_nfs_opens.specs.Downgrades.{range_fault, first_fault, downgrade_fault, downgrade_done, open_downgrade}
+use Rattle.xl_nfs_opens.specs.Opens.{check_claim, check_bits, check_how, found_name, named_file, is_delegation, by_delegation, file_of_claim, opened_file, judged, handle_by, handle_again, repeated, reclaims, open_held, has_room, granted_by, is_granted, answer_status, granted_wish, wish_of, answered, open_on, open_by, open_as, open_judged, opener_of, open_of, client_in, open_at, open_claimed, open_file}
 use Rattle.xl_nfs_opens.specs.Seqids.{read_status, kept_status, is_short}
 use Rattle.xl_nfs_opens.specs.declared.opener.Checked.{Checked}
 use Rattle.xl_nfs_opens.specs.declared.opener.Checked.TheVariants.{Refused, Repeated, Passed}
 use Rattle.xl_nfs_opens.specs.declared.opener.Judged.{Judged}
 use Rattle.xl_nfs_opens.specs.declared.opener.Judged.TheVariants as judgements
 use Rattle.xl_nfs_opens.specs.declared.opener.Opener.{Opener}
+use Rattle.xl_nfs_opens.proofs.CheckLaws.{checks, finds}
 use Rattle.xl_nfs_opens.proofs.ResultLaws.{IsFault, fault_fits, plain_8}
 
 -- the result of the operation of this number has a spelling, and where it isn't OK the current handle stays
@@ -79,11 +76,17 @@ abbrev pub IfFault : Option NfsStatus → Type 0
 IfFault None = Unit {0}
 IfFault (Some status) = IsFault status
 
-abbrev pub OrFault : Result ℕ NfsStatus → Type 0
-OrFault (Ok file) = Unit {0}
+abbrev pub OrFault : {A : Type 0} → Result A NfsStatus → Type 0
+OrFault (Ok x) = Unit {0}
 OrFault (Err status) = IsFault status
 
-or_fault : (o : Option NfsStatus) (rest : Result ℕ NfsStatus) → IfFault o → OrFault rest → OrFault (or_else o rest)
+-- a row of checks fails with what stands in it
+failing_fault : (checks : List (Bool × NfsStatus)) → AllByRecursion (λ c. IsFault c.1) checks → IfFault (failing checks)
+failing_fault [] all = tt
+failing_fault ((true, status) ∷ checks) all = all.0
+failing_fault ((false, status) ∷ checks) all = failing_fault checks all.1
+
+or_fault : {A : Type 0} (o : Option NfsStatus) (rest : Result A NfsStatus) → IfFault o → OrFault rest → OrFault (or_else o rest)
 or_fault None rest first second = second
 or_fault (Some status) rest first second = first
 
@@ -155,7 +158,7 @@ conflict_fault true = fault statuses.ReclaimConflict refl refl
 conflict_fault false = fault statuses.ShareDenied refl refl
 
 -- an answer that grants nothing is told as a failure
-status_fault : (reclaim : Bool) (answer : Answer) → is_granted answer ≡ false → IsFault (answer_status reclaim answer)
+pub status_fault : (reclaim : Bool) (answer : Answer) → is_granted answer ≡ false → IsFault (answer_status reclaim answer)
 status_fault reclaim (answers.Granted c) e = absurd (true≢false e)
 status_fault reclaim (answers.Conflict c) e = conflict_fault reclaim
 status_fault reclaim (answers.Queued id) e = fault statuses.Delay refl refl
@@ -217,72 +220,30 @@ abbrev pub Refuses : Checked → Type 0
 Refuses (Refused status) = IsFault status
 Refuses c = Unit {0}
 
-closed_fault : (b : Bool) → IsFault (if b then statuses.BadStateid else statuses.BadSeqid)
-closed_fault true = fault statuses.BadStateid refl refl
-closed_fault false = fault statuses.BadSeqid refl refl
-
-seqid_fault : (r : StateidRow) (owner : ℕ) (seqids : SeqidState) (v : SeqidVerdict) → Refuses (seqid_checked r owner seqids v)
-seqid_fault r owner seqids verdicts.Repeat = tt
-seqid_fault r owner seqids verdicts.Next =
-    elim (cases_Bool r.standing.closed) [
-      | inl e ↦ rw e (fault statuses.BadStateid refl refl)
-      | inr e ↦ rw e tt
-    ]
-seqid_fault r owner seqids verdicts.New = closed_fault r.standing.closed
-seqid_fault r owner seqids (verdicts.Bad last) = closed_fault r.standing.closed
-
-pub owner_fault : (r : StateidRow) (op seqid owner : ℕ) (o : Option OwnerRow) → Refuses (owner_checked r op seqid owner o)
-owner_fault r op seqid owner None = fault statuses.BadStateid refl refl
-owner_fault r op seqid owner (Some o) = seqid_fault r owner o.seqids (verdict (Some o.seqids) op seqid)
-
-holder_fault : (l : NfsLists) (r : StateidRow) (op seqid : ℕ) (h : Holder) → Refuses (holder_checked l r op seqid h)
-holder_fault l r op seqid (holders.Open owner) = owner_fault r op seqid owner (find (is_owner owner) l.owners)
-holder_fault l r op seqid (holders.Lock owner under opener) = fault statuses.BadStateid refl refl
-holder_fault l r op seqid (holders.Delegation write) = fault statuses.BadStateid refl refl
-
-row_fault : (l : NfsLists) (at op seqid : ℕ) (o : Option StateidRow) → Refuses (row_checked l at op seqid o)
-row_fault l at op seqid None = fault statuses.BadStateid refl refl
-row_fault l at op seqid (Some r) =
-    elim (cases_Bool (r.file == at)) [
-      | inl e ↦ rw e (holder_fault l r op seqid r.holder)
-      | inr e ↦ rw e (fault statuses.BadStateid refl refl)
-    ]
-
-number_fault : (l : NfsLists) (at op seqid : ℕ) (o : Option ℕ) → Refuses (number_checked l at op seqid o)
-number_fault l at op seqid None = fault statuses.StaleStateid refl refl
-number_fault l at op seqid (Some number) = row_fault l at op seqid (find (is_stateid number) l.stateids)
-
-pub checked_fault : (s : CoreState) (l : NfsLists) (current : Option ℕ) (op seqid : ℕ) (stateid : Stateid) → Refuses (checked s l current op seqid stateid)
-unfolding checked
-checked_fault s l None op seqid stateid = fault statuses.NoFileHandle refl refl
-checked_fault s l (Some at) op seqid stateid = number_fault l at op seqid (number_of s stateid.other)
+pub checked_fault : (kind : OwnerKind) (s : CoreState) (l : NfsLists) (current : Option ℕ) (op seqid : ℕ) (stateid : Stateid) → Refuses (checked_as kind s l current op seqid stateid)
+checked_fault kind s l current op seqid stateid =
+    checks Refuses kind s l current op seqid stateid (λ _. fault statuses.NoFileHandle refl refl) (λ _ _. fault statuses.StaleStateid refl refl) (fault statuses.BadStateid refl refl) (λ _ _ _ _ _ _ _ _. fault statuses.BadSeqid refl refl) (λ _. tt) (λ _ _ _ _ _ _ _. tt)
 
 pub standing_is_fault : (r : StateidRow) (seqids : SeqidState) (seqid : ℕ) (confirmed : Bool) → IfFault (standing_fault r seqids seqid confirmed)
 unfolding standing_fault
 standing_is_fault r seqids seqid confirmed =
-    elim (cases_Bool (nat_lt seqid r.standing.seqid)) [
-      | inl e ↦ rw e (fault statuses.OldStateid refl refl)
-      | inr e ↦ rw e (elim (cases_Bool (nat_lt r.standing.seqid seqid)) [
-        | inl d ↦ rw d (fault statuses.BadStateid refl refl)
-        | inr d ↦ rw d (elim (cases_Bool (beq seqids.confirmed confirmed)) [
-          | inl b ↦ rw b tt
-          | inr b ↦ rw b (fault statuses.BadStateid refl refl)
-        ])
-      ])
-    ]
+    failing_fault (standing_checks r seqids seqid confirmed) (fault statuses.OldStateid refl refl, (fault statuses.BadStateid refl refl, (fault statuses.BadStateid refl refl, tt)))
+
+-- a request on a stateid ends so, if it does once it passed
+pub counts_ends : (number : ℕ) → number < 2 ^ 32 → (s : CoreState) (l : NfsLists) (current : Option ℕ) (rest : StateidRow → ℕ → SeqidState → Plan) (c : Checked) → Refuses c → ((r : StateidRow) (w : ℕ) (seqids : SeqidState) → Ends number current (rest r w seqids)) → Ends number current (counts s l current rest c)
+counts_ends number le s l current rest (Refused status) f each = ended number le current status f
+counts_ends number le s l current rest (Repeated owner) f each = repeat_ends number le s l current (find (is_kept owner) l.kept)
+counts_ends number le s l current rest (Passed r w seqids) f each = each r w seqids
 
 confirm_done_ends : (s : CoreState) (l : NfsLists) (current : Option ℕ) (a : OpenConfirmArgs) (r : StateidRow) (owner : ℕ) (seqids : SeqidState) (o : Option NfsStatus) → IfFault o → Ends 20 current (confirm_done s l current a r owner seqids o)
 confirm_done_ends s l current a r owner seqids None f = (tt, λ _. refl)
 confirm_done_ends s l current a r owner seqids (Some status) f = ended 20 (omega arith) current status f
 
-confirm_by_ends : (s : CoreState) (l : NfsLists) (current : Option ℕ) (a : OpenConfirmArgs) (c : Checked) → Refuses c → Ends 20 current (confirm_by s l current a c)
-confirm_by_ends s l current a (Refused status) f = ended 20 (omega arith) current status f
-confirm_by_ends s l current a (Repeated owner) f = repeat_ends 20 (omega arith) s l current (find (is_kept owner) l.kept)
-confirm_by_ends s l current a (Passed r owner seqids) f = confirm_done_ends s l current a r owner seqids (standing_fault r seqids a.stateid.seqid false) (standing_is_fault r seqids a.stateid.seqid false)
-
 pub confirm_ends : (s : CoreState) (l : NfsLists) (current : Option ℕ) (a : OpenConfirmArgs) → Ends 20 current (open_confirm s l current a)
 unfolding open_confirm
-confirm_ends s l current a = λ t. confirm_by_ends t l current a (checked t l current 20 a.seqid a.stateid) (checked_fault t l current 20 a.seqid a.stateid)
+confirm_ends s l current a = λ t.
+    counts_ends 20 (omega arith) t l current (λ r w seqids. confirm_done t l current a r w seqids (standing_fault r seqids a.stateid.seqid false)) (checked t l current 20 a.seqid a.stateid) (checked_fault kinds.Open t l current 20 a.seqid a.stateid)
+    (λ r w seqids. confirm_done_ends t l current a r w seqids (standing_fault r seqids a.stateid.seqid false) (standing_is_fault r seqids a.stateid.seqid false))
 
 range_is_fault : (r : StateidRow) (a : OpenDowngradeArgs) → IfFault (range_fault r a)
 range_is_fault r a =
@@ -303,65 +264,29 @@ downgrade_done_ends : (s : CoreState) (l : NfsLists) (current : Option ℕ) (a :
 downgrade_done_ends s l current a r owner seqids None f = (tt, λ _. refl)
 downgrade_done_ends s l current a r owner seqids (Some status) f = ended 21 (omega arith) current status f
 
-downgrade_by_ends : (s : CoreState) (l : NfsLists) (current : Option ℕ) (a : OpenDowngradeArgs) (c : Checked) → Refuses c → Ends 21 current (downgrade_by s l current a c)
-downgrade_by_ends s l current a (Refused status) f = ended 21 (omega arith) current status f
-downgrade_by_ends s l current a (Repeated owner) f = repeat_ends 21 (omega arith) s l current (find (is_kept owner) l.kept)
-downgrade_by_ends s l current a (Passed r owner seqids) f = downgrade_done_ends s l current a r owner seqids (downgrade_fault r seqids a) (downgrade_is_fault r seqids a)
-
 pub downgrade_ends : (s : CoreState) (l : NfsLists) (current : Option ℕ) (a : OpenDowngradeArgs) → Ends 21 current (open_downgrade s l current a)
 unfolding open_downgrade
-downgrade_ends s l current a = λ t. downgrade_by_ends t l current a (checked t l current 21 a.seqid a.stateid) (checked_fault t l current 21 a.seqid a.stateid)
+downgrade_ends s l current a = λ t.
+    counts_ends 21 (omega arith) t l current (λ r w seqids. downgrade_done t l current a r w seqids (downgrade_fault r seqids a)) (checked t l current 21 a.seqid a.stateid) (checked_fault kinds.Open t l current 21 a.seqid a.stateid)
+    (λ r w seqids. downgrade_done_ends t l current a r w seqids (downgrade_fault r seqids a) (downgrade_is_fault r seqids a))
 
 close_done_ends : (s : CoreState) (l : NfsLists) (current : Option ℕ) (a : CloseArgs) (r : StateidRow) (owner : ℕ) (seqids : SeqidState) (o : Option NfsStatus) → IfFault o → Ends 4 current (close_done s l current a r owner seqids o)
 close_done_ends s l current a r owner seqids None f = λ t. (tt, λ _. refl)
 close_done_ends s l current a r owner seqids (Some status) f = ended 4 (omega arith) current status f
 
-close_by_ends : (s : CoreState) (l : NfsLists) (current : Option ℕ) (a : CloseArgs) (c : Checked) → Refuses c → Ends 4 current (close_by s l current a c)
-close_by_ends s l current a (Refused status) f = ended 4 (omega arith) current status f
-close_by_ends s l current a (Repeated owner) f = repeat_ends 4 (omega arith) s l current (find (is_kept owner) l.kept)
-close_by_ends s l current a (Passed r owner seqids) f = close_done_ends s l current a r owner seqids (standing_fault r seqids a.stateid.seqid true) (standing_is_fault r seqids a.stateid.seqid true)
-
 pub close_ends : (s : CoreState) (l : NfsLists) (current : Option ℕ) (a : CloseArgs) → Ends 4 current (close s l current a)
 unfolding close
-close_ends s l current a = λ t. close_by_ends t l current a (checked t l current 4 a.seqid a.stateid) (checked_fault t l current 4 a.seqid a.stateid)
+close_ends s l current a = λ t.
+    counts_ends 4 (omega arith) t l current (λ r w seqids. close_done t l current a r w seqids (standing_fault r seqids a.stateid.seqid true)) (checked t l current 4 a.seqid a.stateid) (checked_fault kinds.Open t l current 4 a.seqid a.stateid)
+    (λ r w seqids. close_done_ends t l current a r w seqids (standing_fault r seqids a.stateid.seqid true) (standing_is_fault r seqids a.stateid.seqid true))
 
-abbrev ReturnFault : Returning → Type 0
-ReturnFault (Ok r) = Unit {0}
-ReturnFault (Err status) = IsFault status
-
-returned_seqid : (r : StateidRow) (seqid : ℕ) → ReturnFault (seqid_returned r seqid)
-returned_seqid r seqid =
-    elim (cases_Bool (nat_lt seqid r.standing.seqid)) [
-      | inl e ↦ rw e (fault statuses.OldStateid refl refl)
-      | inr e ↦ rw e (elim (cases_Bool (nat_lt r.standing.seqid seqid)) [
-        | inl d ↦ rw d (fault statuses.BadStateid refl refl)
-        | inr d ↦ rw d tt
-      ])
-    ]
-
-returned_holder : (r : StateidRow) (seqid : ℕ) (h : Holder) → ReturnFault (holder_returned r seqid h)
-returned_holder r seqid (holders.Delegation write) = returned_seqid r seqid
-returned_holder r seqid (holders.Open owner) = fault statuses.BadStateid refl refl
-returned_holder r seqid (holders.Lock owner under opener) = fault statuses.BadStateid refl refl
-
-returned_row : (at seqid : ℕ) (o : Option StateidRow) → ReturnFault (row_returned at seqid o)
-returned_row at seqid None = fault statuses.BadStateid refl refl
-returned_row at seqid (Some r) =
-    elim (cases_Bool ((r.file == at) && not r.standing.closed)) [
-      | inl e ↦ rw e (returned_holder r seqid r.holder)
-      | inr e ↦ rw e (fault statuses.BadStateid refl refl)
-    ]
-
-returned_number : (l : NfsLists) (at seqid : ℕ) (o : Option ℕ) → ReturnFault (number_returned l at seqid o)
-returned_number l at seqid None = fault statuses.StaleStateid refl refl
-returned_number l at seqid (Some number) = returned_row at seqid (find (is_stateid number) l.stateids)
-
-returned_fault : (s : CoreState) (l : NfsLists) (current : Option ℕ) (stateid : Stateid) → ReturnFault (returned s l current stateid)
+returned_fault : (s : CoreState) (l : NfsLists) (current : Option ℕ) (stateid : Stateid) → OrFault (returned s l current stateid)
 unfolding returned
-returned_fault s l None stateid = fault statuses.NoFileHandle refl refl
-returned_fault s l (Some at) stateid = returned_number l at stateid.seqid (number_of s stateid.other)
+returned_fault s l current stateid =
+    finds (λ (x : Returning). OrFault (state_returned stateid.seqid x)) s l current stateid (λ _. fault statuses.NoFileHandle refl refl) (λ _ _. fault statuses.StaleStateid refl refl) (fault statuses.BadStateid refl refl)
+    (λ r file number there. or_fault (failing (returned_checks r stateid.seqid)) (Ok r) (failing_fault (returned_checks r stateid.seqid) (fault statuses.BadStateid refl refl, (fault statuses.OldStateid refl refl, (fault statuses.BadStateid refl refl, tt)))) tt)
 
-return_done_ends : (s : CoreState) (l : NfsLists) (current : Option ℕ) (x : Returning) → ReturnFault x → Ends 8 current (return_done s l current x)
+return_done_ends : (s : CoreState) (l : NfsLists) (current : Option ℕ) (x : Returning) → OrFault x → Ends 8 current (return_done s l current x)
 return_done_ends s l current (Err status) f = ended 8 (omega arith) current status f
 return_done_ends s l current (Ok r) f = (plain_8 statuses.Ok, λ _. refl)
 

@@ -4,7 +4,7 @@ use Rattle.std.proofs.lemmas.Bool.{cases_Bool, and_parts}
 use Rattle.std.specs.Bool.{◌==◌}
 use Rattle.std.specs.List.{filter, find}
 use Rattle.std.specs.Option.{option_and_then}
-use Rattle.std.specs.Prelude.{◌&&◌, ◌||◌, nat_lt, not, if◌then◌else◌}
+use Rattle.std.specs.Prelude.{◌&&◌, ◌||◌, if◌then◌else◌}
 use Rattle.xl_base.proofs.Members.{all_in}
 use Rattle.xl_base.specs.Stable.{Stable}
 use Rattle.xl_base.specs.declared.name.Owner.{Owner}
@@ -23,17 +23,13 @@ use Rattle.xl_nfs.specs.declared.basics.Stateid.{Stateid}
 use Rattle.xl_nfs.specs.declared.opens.OpenConfirmArgs.{OpenConfirmArgs}
 use Rattle.xl_nfs.specs.declared.opens.OpenDowngradeArgs.{OpenDowngradeArgs}
 use Rattle.xl_nfs.specs.declared.status.NfsStatus.{NfsStatus}
-use Rattle.xl_nfs.specs.declared.status.NfsStatus.TheVariants as statuses
 use Rattle.xl_nfs_state.specs.State.{NfsLists, without_owner, is_client, is_kept, is_owner, is_stateid, is_whose}
-use Rattle.xl_nfs_state.specs.Verdict.{verdict}
 use Rattle.xl_nfs_state.specs.declared.client.ClientRow.{ClientRow}
 use Rattle.xl_nfs_state.specs.declared.kept.KeptRow.{KeptRow}
+use Rattle.xl_nfs_state.specs.declared.owner.OwnerKind.{OwnerKind}
+use Rattle.xl_nfs_state.specs.declared.owner.OwnerKind.TheVariants as kinds
 use Rattle.xl_nfs_state.specs.declared.owner.OwnerRow.{OwnerRow}
 use Rattle.xl_nfs_state.specs.declared.owner.SeqidState.{SeqidState}
-use Rattle.xl_nfs_state.specs.declared.seqid.SeqidVerdict.{SeqidVerdict}
-use Rattle.xl_nfs_state.specs.declared.seqid.SeqidVerdict.TheVariants as verdicts
-use Rattle.xl_nfs_state.specs.declared.stateid.Holder.{Holder}
-use Rattle.xl_nfs_state.specs.declared.stateid.Holder.TheVariants as holders
 use Rattle.xl_nfs_state.specs.declared.stateid.StateidRow.{StateidRow}
 use Rattle.xl_nfs_state.specs.declared.stateid.Whose.TheVariants as whose
 use Rattle.xl_table.proofs.WriteBack.{is_of-true}
@@ -55,8 +51,8 @@ use Rattle.xl_core.specs.State.{CoreState}
 use Rattle.xl_core.specs.Ticks.{renew}
 use Rattle.xl_core.specs.declared.ask.Answer.{Answer}
 use Rattle.xl_core.specs.Ids.{number_in}
-use Rattle.xl_nfs_opens.specs.Closing.{seqid_checked, owner_checked, holder_checked, row_checked, number_checked, checked, standing_fault, confirm_done, confirm_by, open_confirm, opener_named, opener_by, share_by_opener, share_of_open, Returning, seqid_returned, holder_returned, row_returned, number_returned, returned, cache_of_client, cache_of, return_done, deleg_return}
-use Rattle.xl_nfs_opens.specs.Downgrades.{downgrade_fault, downgrade_done, downgrade_by, open_downgrade, weakens}
+use Rattle.xl_nfs_opens.specs.Closing.{checked_as, counts, standing_fault, confirm_done, open_confirm, opener_named, opener_by, share_by_opener, share_of_open, Returning, returned, state_returned, cache_of_client, cache_of, return_done, deleg_return}
+use Rattle.xl_nfs_opens.specs.Downgrades.{downgrade_fault, downgrade_done, open_downgrade, weakens}
 use Rattle.xl_nfs_opens.specs.Opens.{rights_of, share_by, share_held, gives, given_up, gives_all, share_ask, all_rooms, repeated, reclaims, open_held, has_room, granted_wish, wish_of, cache_by, cache_held, granted_by, is_granted, answered, open_on, open_by, open_as, open_judged, opener_of, open_of, client_in, open_at, claim_client, open_claimed, open_file, judged, opened_file}
 use Rattle.xl_nfs_opens.specs.Owners.{is_named, is_holder, is_claimant, Names, IsBy, AreBy}
 use Rattle.xl_plan.specs.Plans.{deeds_of}
@@ -69,6 +65,7 @@ use Rattle.xl_nfs_opens.specs.declared.opener.Checked.TheVariants.{Refused, Repe
 use Rattle.xl_nfs_opens.specs.declared.opener.Judged.{Judged}
 use Rattle.xl_nfs_opens.specs.declared.opener.Judged.TheVariants as judgements
 use Rattle.xl_nfs_opens.specs.declared.opener.Opener.{Opener}
+use Rattle.xl_nfs_opens.proofs.CheckLaws.{finds, passes, returns_is}
 use Rattle.xl_nfs_opens.proofs.OwnerLaws.{own_client, wished_fit}
 use Rattle.xl_plan.proofs.PlanLaws.{at_append}
 
@@ -246,44 +243,9 @@ open_own n files others s l current a good =
 
 -- ---- what names an open
 
-row_client : (x r : StateidRow) (owner w : ℕ) (seqids v : SeqidState) → Passed x owner seqids ≡ Passed r w v → x ≡ r
-row_client x r owner w seqids v e = cc
-
-pub next_client : (x r : StateidRow) (owner w : ℕ) (seqids t : SeqidState) (b : Bool) → (if b then Refused statuses.BadStateid else Passed x owner seqids) ≡ Passed r w t → (if b then None else Some x.client) ≡ Some r.client
-next_client x r owner w seqids t true e = absurd cc
-next_client x r owner w seqids t false e = ap (λ (y : StateidRow). Some y.client) (row_client x r owner w seqids t e)
-
-seqid_client : (x r : StateidRow) (owner w : ℕ) (seqids t : SeqidState) (v : SeqidVerdict) → seqid_checked x owner seqids v ≡ Passed r w t → client_if_live (Some x) ≡ Some r.client
-seqid_client x r owner w seqids t verdicts.Repeat e = absurd cc
-seqid_client x r owner w seqids t verdicts.Next e = next_client x r owner w seqids t x.standing.closed e
-seqid_client x r owner w seqids t verdicts.New e = absurd cc
-seqid_client x r owner w seqids t (verdicts.Bad last) e = absurd cc
-
-pub owner_client : (x r : StateidRow) (op seqid owner w : ℕ) (t : SeqidState) (o : Option OwnerRow) → owner_checked x op seqid owner o ≡ Passed r w t → client_if_live (Some x) ≡ Some r.client
-owner_client x r op seqid owner w t None e = absurd cc
-owner_client x r op seqid owner w t (Some o) e = seqid_client x r owner w o.seqids t (verdict (Some o.seqids) op seqid) e
-
-holder_client : (l : NfsLists) (x r : StateidRow) (op seqid w : ℕ) (t : SeqidState) (h : Holder) → holder_checked l x op seqid h ≡ Passed r w t → client_if_live (Some x) ≡ Some r.client
-holder_client l x r op seqid w t (holders.Open owner) e = owner_client x r op seqid owner w t (find (is_owner owner) l.owners) e
-holder_client l x r op seqid w t (holders.Lock owner under opener) e = absurd cc
-holder_client l x r op seqid w t (holders.Delegation write) e = absurd cc
-
-found_client : (l : NfsLists) (r : StateidRow) (at op seqid w : ℕ) (t : SeqidState) (o : Option StateidRow) → row_checked l at op seqid o ≡ Passed r w t → client_if_live o ≡ Some r.client
-found_client l r at op seqid w t None e = absurd cc
-found_client l r at op seqid w t (Some x) e =
-    elim (cases_Bool (x.file == at)) [
-      | inl same ↦ holder_client l x r op seqid w t x.holder (rw same at e)
-      | inr other ↦ (let no : Refused statuses.BadStateid ≡ Passed r w t = rw other at e in absurd cc)
-    ]
-
-number_client : (l : NfsLists) (r : StateidRow) (at op seqid w : ℕ) (t : SeqidState) (o : Option ℕ) → number_checked l at op seqid o ≡ Passed r w t → state_numbered l o ≡ Some r.client
-number_client l r at op seqid w t None e = absurd cc
-number_client l r at op seqid w t (Some number) e = found_client l r at op seqid w t (find (is_stateid number) l.stateids) e
-
-pub checked_client : (s : CoreState) (l : NfsLists) (current : Option ℕ) (op seqid : ℕ) (stateid : Stateid) (r : StateidRow) (w : ℕ) (t : SeqidState) → checked s l current op seqid stateid ≡ Passed r w t → state_client s l stateid ≡ Some r.client
-unfolding checked
-checked_client s l None op seqid stateid r w t e = absurd cc
-checked_client s l (Some at) op seqid stateid r w t e = number_client l r at op seqid w t (number_in_other s stateid.other) e
+pub checked_client : (kind : OwnerKind) (s : CoreState) (l : NfsLists) (current : Option ℕ) (op seqid : ℕ) (stateid : Stateid) (r : StateidRow) (w : ℕ) (t : SeqidState) → checked_as kind s l current op seqid stateid ≡ Passed r w t → state_client s l stateid ≡ Some r.client
+checked_client kind s l current op seqid stateid r w t e =
+    passes (λ x u v. state_client s l stateid ≡ Some x.client) kind s l current op seqid stateid (λ x u o file is live next. ap (λ (y : Option ℕ). state_numbered l y) is.number ∙ (ap client_if_live is.found ∙ rw live refl)) r w t e
 
 -- ---- CLOSE and the others
 
@@ -308,14 +270,23 @@ confirm_done_own : (n : ℕ) (s : CoreState) (l : NfsLists) (current : Option �
 confirm_done_own n s l current a r owner seqids Client None = (tt, tt)
 confirm_done_own n s l current a r owner seqids Client (Some status) = (tt, tt)
 
-confirm_by_own : (n : ℕ) (s : CoreState) (l : NfsLists) (current : Option ℕ) (a : OpenConfirmArgs) (Client : List ℕ → Type 0) (c : Checked) → Owned n s Client (confirm_by s l current a c)
-confirm_by_own n s l current a Client (Refused status) = (tt, tt)
-confirm_by_own n s l current a Client (Repeated owner) = repeat_own n s l current Client (find (is_kept owner) l.kept)
-confirm_by_own n s l current a Client (Passed r owner seqids) = confirm_done_own n s l current a r owner seqids Client (standing_fault r seqids a.stateid.seqid false)
+-- a request on a stateid is by the client that this names
+pub counts_own : (n : ℕ) (s : CoreState) (l : NfsLists) (current : Option ℕ) (kind : OwnerKind) (op seqid : ℕ) (stateid : Stateid) (rest : CoreState → StateidRow → ℕ → SeqidState → Plan) → IsGood s
+    → ((t : CoreState) (r : StateidRow) (w : ℕ) (v : SeqidState) → IsGood t → ((x : ClientRow) → find (is_client r.client true) l.clients ≡ Some x → is_holder s l stateid x.id) → Owned n t (λ id. is_holder s l stateid id) (rest t r w v))
+    → Owned n s (λ id. is_holder s l stateid id) (renewing l (state_client s l stateid) (λ t. counts t l current (rest t) (checked_as kind t l current op seqid stateid)))
+counts_own n s l current kind op seqid stateid rest good each =
+    state_own n s l stateid (λ t. counts t l current (rest t) (checked_as kind t l current op seqid stateid)) good (λ t stable left. by t stable left (checked_as kind t l current op seqid stateid) refl)
+  where
+    by : (t : CoreState) → t.stable ≡ s.stable → IsGood t → (c : Checked) → checked_as kind t l current op seqid stateid ≡ c → Owned n t (λ id. is_holder s l stateid id) (counts t l current (rest t) c)
+    by t stable left (Refused status) e = (tt, tt)
+    by t stable left (Repeated owner) e = repeat_own n t l current (λ id. is_holder s l stateid id) (find (is_kept owner) l.kept)
+    by t stable left (Passed r w v) e = each t r w v left (λ x there. holder_as s t l stateid x.id stable (by_number l (state_client t l stateid) r.client x (checked_client kind t l current op seqid stateid r w v e) there))
 
 pub confirm_own : (n : ℕ) (s : CoreState) (l : NfsLists) (current : Option ℕ) (a : OpenConfirmArgs) → IsGood s → Owned n s (Names s l (OpenConfirm a)) (open_confirm s l current a)
 unfolding open_confirm
-confirm_own n s l current a good = state_own n s l a.stateid (λ t. confirm_by t l current a (checked t l current 20 a.seqid a.stateid)) good (λ t stable left. confirm_by_own n t l current a (λ id. is_holder s l a.stateid id) (checked t l current 20 a.seqid a.stateid))
+confirm_own n s l current a good =
+    counts_own n s l current kinds.Open 20 a.seqid a.stateid (λ t r w v. confirm_done t l current a r w v (standing_fault r v a.stateid.seqid false)) good
+    (λ t r w v left each. confirm_done_own n t l current a r w v (λ id. is_holder s l a.stateid id) (standing_fault r v a.stateid.seqid false))
 
 weakens_own : (n : ℕ) (s : CoreState) (Client : List ℕ → Type 0) (share : Option Claim) (access deny : Rwd) → ((claim : Claim) → share ≡ Some claim → IsIn claim s.claims × ((id : List ℕ) × Client id × (party_named s.names (NfsParty id) ≡ Some claim.party))) → AreFit n s (weakens share access deny) × AreBy n s Client (weakens share access deny)
 weakens_own n s Client None access deny each = (tt, tt)
@@ -329,16 +300,11 @@ downgrade_done_own : (n : ℕ) (s : CoreState) (l : NfsLists) (current : Option 
 downgrade_done_own n s l current a r owner seqids Client None good each = weakens_own n s Client (share_of_open s l r owner) (rights_of a.access) (rights_of a.deny) (λ claim h. (let one = open_share s l Client r owner claim good each h in (one.0.0, one.1)))
 downgrade_done_own n s l current a r owner seqids Client (Some status) good each = (tt, tt)
 
-downgrade_by_own : (n : ℕ) (s : CoreState) (l : NfsLists) (current : Option ℕ) (a : OpenDowngradeArgs) (Client : List ℕ → Type 0) (c : Checked) → IsGood s → ((r : StateidRow) (w : ℕ) (v : SeqidState) (x : ClientRow) → c ≡ Passed r w v → find (is_client r.client true) l.clients ≡ Some x → Client x.id) → Owned n s Client (downgrade_by s l current a c)
-downgrade_by_own n s l current a Client (Refused status) good each = (tt, tt)
-downgrade_by_own n s l current a Client (Repeated owner) good each = repeat_own n s l current Client (find (is_kept owner) l.kept)
-downgrade_by_own n s l current a Client (Passed r owner seqids) good each = downgrade_done_own n s l current a r owner seqids Client (downgrade_fault r seqids a) good (λ x found. each r owner seqids x refl found)
-
 pub downgrade_own : (n : ℕ) (s : CoreState) (l : NfsLists) (current : Option ℕ) (a : OpenDowngradeArgs) → IsGood s → Owned n s (Names s l (OpenDowngrade a)) (open_downgrade s l current a)
 unfolding open_downgrade
-downgrade_own n s l current a good = state_own n s l a.stateid (λ t. downgrade_by t l current a (checked t l current 21 a.seqid a.stateid)) good
-    (λ t stable left. downgrade_by_own n t l current a (λ id. is_holder s l a.stateid id) (checked t l current 21 a.seqid a.stateid) left
-    (λ r w v x e found. holder_as s t l a.stateid x.id stable (by_number l (state_client t l a.stateid) r.client x (checked_client t l current 21 a.seqid a.stateid r w v e) found)))
+downgrade_own n s l current a good =
+    counts_own n s l current kinds.Open 21 a.seqid a.stateid (λ t r w v. downgrade_done t l current a r w v (downgrade_fault r v a)) good
+    (λ t r w v left each. downgrade_done_own n t l current a r w v (λ id. is_holder s l a.stateid id) (downgrade_fault r v a) left each)
 
 pub no_range : (w : What) → is_cache w ≡ true → is_range w ≡ false
 no_range (whats.Cache kind running) h = refl
@@ -366,46 +332,13 @@ pub return_done_own : (n : ℕ) (s : CoreState) (l : NfsLists) (current : Option
 return_done_own n s l current Client (Err status) each = (tt, tt)
 return_done_own n s l current Client (Ok r) each = gives_own n s Client (cache_of s l r) (λ claim e. client_cache s Client r.file (find (is_client r.client true) l.clients) claim (λ c found. each r c refl found) e)
 
-returned_seqid_is : (x r : StateidRow) (seqid : ℕ) → seqid_returned x seqid ≡ Ok r → x ≡ r
-returned_seqid_is x r seqid e = by (nat_lt seqid x.standing.seqid) (nat_lt x.standing.seqid seqid) e
-  where
-    by : (a b : Bool) → (let no : Returning = Err statuses.BadStateid in let old : Returning = Err statuses.OldStateid in (if a then old else if b then no else Ok x) ≡ Ok r) → x ≡ r
-    by true b e = absurd cc
-    by false true e = absurd cc
-    by false false e = cc
-
-returned_holder_is : (x r : StateidRow) (seqid : ℕ) (h : Holder) → holder_returned x seqid h ≡ Ok r → x ≡ r
-returned_holder_is x r seqid (holders.Delegation write) e = returned_seqid_is x r seqid e
-returned_holder_is x r seqid (holders.Open owner) e = absurd cc
-returned_holder_is x r seqid (holders.Lock owner under opener) e = absurd cc
-
-returned_row_client : (at seqid : ℕ) (o : Option StateidRow) (r : StateidRow) → row_returned at seqid o ≡ Ok r → client_if_live o ≡ Some r.client
-returned_row_client at seqid None r e = absurd cc
-returned_row_client at seqid (Some x) r e =
-    elim (cases_Bool ((x.file == at) && not x.standing.closed)) [
-      | inl d ↦
-          let live : x.standing.closed ≡ false = open_is x.standing.closed (and_parts (x.file == at) (not x.standing.closed) d).1 in
-          let same : x ≡ r = returned_holder_is x r seqid x.holder (rw d at e) in
-          rw live (ap (λ (y : StateidRow). Some y.client) same)
-      | inr d ↦ (let no : fails ≡ Ok r = rw d at e in absurd cc)
-    ]
-  where
-    fails : Returning
-    fails = Err statuses.BadStateid
-
-    open_is : (b : Bool) → not b ≡ true → b ≡ false
-    open_is true h = absurd (true≢false (sym h))
-    open_is false h = refl
-
-returned_number_client : (l : NfsLists) (at seqid : ℕ) (o : Option ℕ) (r : StateidRow) → number_returned l at seqid o ≡ Ok r → state_numbered l o ≡ Some r.client
-returned_number_client l at seqid None r e = absurd cc
-returned_number_client l at seqid (Some number) r e = returned_row_client at seqid (find (is_stateid number) l.stateids) r e
-
 -- the stateid names the delegation's client
 returned_client : (s : CoreState) (l : NfsLists) (current : Option ℕ) (stateid : Stateid) (r : StateidRow) → returned s l current stateid ≡ Ok r → state_client s l stateid ≡ Some r.client
 unfolding returned
-returned_client s l None stateid r e = absurd cc
-returned_client s l (Some at) stateid r e = returned_number_client l at stateid.seqid (number_in_other s stateid.other) r e
+returned_client s l current stateid r e = finds (λ (x : Returning). state_returned stateid.seqid x ≡ Ok r → state_client s l stateid ≡ Some r.client) s l current stateid (λ _ f. absurd cc) (λ _ _ f. absurd cc) (λ f. absurd cc) by e
+  where
+    by : (x : StateidRow) → current ≡ Some x.file → number_in_other s stateid.other ≡ Some x.number → find (is_stateid x.number) l.stateids ≡ Some x → state_returned stateid.seqid (Ok x) ≡ Ok r → state_client s l stateid ≡ Some r.client
+    by x file number there f = (let is = returns_is x r stateid.seqid f in ap (λ (y : Option ℕ). state_numbered l y) number ∙ (ap client_if_live there ∙ rw is.1 (ap (λ (y : StateidRow). Some y.client) is.0)))
 
 pub return_own : (n : ℕ) (s : CoreState) (l : NfsLists) (current : Option ℕ) (stateid : Stateid) → IsGood s → Owned n s (Names s l (DelegReturn stateid)) (deleg_return s l current stateid)
 unfolding deleg_return

@@ -91,13 +91,13 @@ number_gone number (s ∷ ss) =
     ]
 
 -- what is found by a number has it
+pub is_number : (ss : List StateidRow) (number : ℕ) (r : StateidRow) → find (is_stateid number) ss ≡ Some r → number ≡ r.number
+is_number [] number r e = absurd (true≢false (ap is_some (sym e)))
+is_number (x ∷ xs) number r e =
+    elim (cases_Bool (number == x.number)) [
+      | inl h ↦ eqb-true number x.number h ∙ ap (λ (y : StateidRow). y.number) (same_Some x r (rw h at e))
+      | inr h ↦ is_number xs number r (rw h at e)
+    ]
+
 pub same_number : (ss : List StateidRow) (number : ℕ) (r : StateidRow) → find (is_stateid number) ss ≡ Some r → find (is_stateid r.number) ss ≡ Some r
-same_number ss number r found = subst (λ (m : ℕ). find (is_stateid m) ss ≡ Some r) (eqb-true number r.number (test_of ss found)) found
-  where
-    test_of : (xs : List StateidRow) → find (is_stateid number) xs ≡ Some r → (number == r.number) ≡ true
-    test_of [] e = absurd (true≢false (ap is_some (sym e)))
-    test_of (x ∷ xs) e =
-        elim (cases_Bool (number == x.number)) [
-          | inl h ↦ (let same : x ≡ r = same_Some x r (rw h at e) in subst (λ (y : StateidRow). (number == y.number) ≡ true) same h)
-          | inr h ↦ test_of xs (rw h at e)
-        ]
+same_number ss number r found = subst (λ (m : ℕ). find (is_stateid m) ss ≡ Some r) (is_number ss number r found) found

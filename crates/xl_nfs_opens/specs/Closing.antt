@@ -1,5 +1,5 @@
 -- The check of a stateid (RFC 7530 9.1.4, 9.1.7), and what opens come to: OPEN_CONFIRM, OPEN_DOWNGRADE, CLOSE and DELEGRETURN (RFC 7530 16.18, 16.19, 16.2, 16.6).
-use Rattle.std.specs.Prelude.{◌≡◌, ℕ, Bool, true, false, not, ◌&&◌, ◌==◌, nat_le, nat_lt, if◌then◌else◌, List, [], ◌∷◌, ◌++◌, Option, Some, None, IsSome, Result, Ok, Err}
+use Rattle.std.specs.Prelude.{◌≡◌, ℕ, Bool, true, false, not, ◌&&◌, ◌||◌, ◌==◌, nat_le, nat_lt, if◌then◌else◌, List, [], ◌∷◌, ◌++◌, Option, Some, None, IsSome, Result, Ok, Err}
 use Rattle.std.specs.Bool.{beq}
 use Rattle.std.specs.List.{filter, find}
 use Rattle.xl_matrix.specs.declared.claim.Claim.{Claim}
@@ -12,6 +12,8 @@ use Rattle.xl_nfs.specs.declared.status.NfsStatus.TheVariants as statuses
 use Rattle.xl_nfs_state.specs.State.{NfsLists, with_stateids, without, is_client, is_owner, is_stateid, is_kept, is_whose}
 use Rattle.xl_nfs_state.specs.Verdict.{verdict, next_seqid}
 use Rattle.xl_nfs_state.specs.declared.client.ClientRow.{ClientRow}
+use Rattle.xl_nfs_state.specs.declared.owner.OwnerKind.{OwnerKind}
+use Rattle.xl_nfs_state.specs.declared.owner.OwnerKind.TheVariants as kinds
 use Rattle.xl_nfs_state.specs.declared.owner.OwnerRow.{OwnerRow}
 use Rattle.xl_nfs_state.specs.declared.owner.SeqidState.{SeqidState}
 use Rattle.xl_nfs_state.specs.declared.seqid.SeqidVerdict.{SeqidVerdict}
@@ -23,9 +25,11 @@ use Rattle.xl_nfs_state.specs.declared.stateid.Whose.TheVariants as whose
 use Rattle.xl_core.specs.Deeds.{Deed, Asks}
 use Rattle.xl_core.specs.State.{CoreState}
 use Rattle.xl_nfs_opens.specs.Asks.{all_ones, unlock_ask}
+use Rattle.xl_nfs_opens.specs.Checks.{found, failing, or_else}
 use Rattle.xl_nfs_opens.specs.Opens.{all_rooms, cache_held, rights_of, repeated, share_held, gives, freed, stood}
 use Rattle.xl_plan.specs.Plans.{Does, Behind}
-use Rattle.xl_nfs_opens.specs.Plans.{Plan}
+use Rattle.xl_nfs_opens.specs.Operations.{op_close, op_open_confirm}
+use Rattle.xl_nfs_opens.specs.Plans.{Plan, status_of}
 use Rattle.xl_nfs_opens.specs.Renewing.{stateid_of, number_of, state_client, renewing}
 use Rattle.xl_nfs_opens.specs.Results.{spelled}
 use Rattle.xl_nfs_opens.specs.Seqids.{advances, counted}
@@ -37,43 +41,51 @@ use Rattle.xl_nfs_opens.specs.declared.told.Told.TheVariants.{Ended, State}
 
 -- ---- the check of a stateid
 
+-- the row of a stateid of this start, on the current file
+unfoldable pub state_found : CoreState → NfsLists → Option ℕ → Stateid → Result StateidRow NfsStatus
+state_found s l current stateid =
+    found current (Err statuses.NoFileHandle) (λ at. found (number_of s stateid.other) (Err statuses.StaleStateid) (λ number. found (find (is_stateid number) l.stateids) (Err statuses.BadStateid) (λ r. if r.file == at then Ok r else Err statuses.BadStateid)))
+
+-- the owner of an open, or of locks, that a stateid is of
+abbrev pub owner_as : OwnerKind → Holder → Option ℕ
+owner_as kinds.Open (holders.Open owner) = Some owner
+owner_as kinds.Lock (holders.Lock owner under opener) = Some owner
+owner_as _ _ = None
+
 -- by the owner's seqid; an open that was closed is known to the repeat of its CLOSE alone (NFS-22)
 abbrev pub seqid_checked : StateidRow → ℕ → SeqidState → SeqidVerdict → Checked
 seqid_checked r owner seqids verdicts.Repeat = Repeated owner
 seqid_checked r owner seqids verdicts.Next = if r.standing.closed then Refused statuses.BadStateid else Passed r owner seqids
 seqid_checked r owner seqids _ = Refused (if r.standing.closed then statuses.BadStateid else statuses.BadSeqid)
 
-abbrev pub owner_checked : StateidRow → ℕ → ℕ → ℕ → Option OwnerRow → Checked
-owner_checked r op seqid owner None = Refused statuses.BadStateid
-owner_checked r op seqid owner (Some o) = seqid_checked r owner o.seqids (verdict (Some o.seqids) op seqid)
+abbrev pub state_checked : OwnerKind → NfsLists → ℕ → ℕ → Result StateidRow NfsStatus → Checked
+state_checked kind l op seqid (Err status) = Refused status
+state_checked kind l op seqid (Ok r) =
+    found (owner_as kind r.holder) (Refused statuses.BadStateid) (λ owner. found (find (is_owner owner) l.owners) (Refused statuses.BadStateid) (λ o. seqid_checked r owner o.seqids (verdict (Some o.seqids) op seqid)))
 
--- it is of an open
-abbrev pub holder_checked : NfsLists → StateidRow → ℕ → ℕ → Holder → Checked
-holder_checked l r op seqid (holders.Open owner) = owner_checked r op seqid owner (find (is_owner owner) l.owners)
-holder_checked l r op seqid _ = Refused statuses.BadStateid
+-- what is found for a stateid of an owner of this kind, and what the owner's seqid says
+unfoldable pub checked_as : OwnerKind → CoreState → NfsLists → Option ℕ → ℕ → ℕ → Stateid → Checked
+checked_as kind s l current op seqid stateid = state_checked kind l op seqid (state_found s l current stateid)
 
--- it is of the current file
-abbrev pub row_checked : NfsLists → ℕ → ℕ → ℕ → Option StateidRow → Checked
-row_checked l at op seqid None = Refused statuses.BadStateid
-row_checked l at op seqid (Some r) = if r.file == at then holder_checked l r op seqid r.holder else Refused statuses.BadStateid
-
--- it is of this start
-abbrev pub number_checked : NfsLists → ℕ → ℕ → ℕ → Option ℕ → Checked
-number_checked l at op seqid None = Refused statuses.StaleStateid
-number_checked l at op seqid (Some number) = row_checked l at op seqid (find (is_stateid number) l.stateids)
-
--- what is found for a stateid, and what its owner's seqid says
-unfoldable pub checked : CoreState → NfsLists → Option ℕ → ℕ → ℕ → Stateid → Checked
-checked s l None op seqid stateid = Refused statuses.NoFileHandle
-checked s l (Some at) op seqid stateid = number_checked l at op seqid (number_of s stateid.other)
+-- the same of an open
+abbrev pub checked : CoreState → NfsLists → Option ℕ → ℕ → ℕ → Stateid → Checked
+checked s l current op seqid stateid = checked_as kinds.Open s l current op seqid stateid
 
 -- the stateid's own seqid, and whether its owner was confirmed, as it has to be, or not
+abbrev pub standing_checks : StateidRow → SeqidState → ℕ → Bool → List (Bool × NfsStatus)
+standing_checks r seqids seqid confirmed =
+    (nat_lt seqid r.standing.seqid, statuses.OldStateid) ∷ (nat_lt r.standing.seqid seqid, statuses.BadStateid) ∷ (not (beq seqids.confirmed confirmed), statuses.BadStateid) ∷ []
+
 unfoldable pub standing_fault : StateidRow → SeqidState → ℕ → Bool → Option NfsStatus
-standing_fault r seqids seqid confirmed =
-    if nat_lt seqid r.standing.seqid then Some statuses.OldStateid
-    else if nat_lt r.standing.seqid seqid then Some statuses.BadStateid
-    else if beq seqids.confirmed confirmed then None
-    else Some statuses.BadStateid
+standing_fault r seqids seqid confirmed = failing (standing_checks r seqids seqid confirmed)
+
+-- ---- a request that counts with its owner's seqid
+
+-- it is refused, and nothing is kept of it; if it comes again, what was kept is the answer; else this becomes of it
+abbrev pub counts : CoreState → NfsLists → Option ℕ → (StateidRow → ℕ → SeqidState → Plan) → Checked → Plan
+counts s l current rest (Refused status) = Does [] l (Ended status, current)
+counts s l current rest (Repeated owner) = repeated s l current (find (is_kept owner) l.kept)
+counts s l current rest (Passed r owner seqids) = rest r owner seqids
 
 -- ---- what is remembered of a request on an open
 
@@ -81,10 +93,14 @@ standing_fault r seqids seqid confirmed =
 abbrev pub next_seqids : ℕ → ℕ → Bool → Option ℕ → SeqidState
 next_seqids op seqid confirmed closed = record { seqid = seqid; op = op; confirmed = confirmed; closed = closed }
 
+-- it was answered so, and is kept if that counts
+abbrev pub told_lists : NfsLists → ℕ → SeqidState → ℕ → ℕ → Told → NfsLists
+told_lists l owner seqids op seqid told =
+    if advances (status_of told) then counted owner seqids.closed (next_seqids op seqid seqids.confirmed None) (spelled op told) l else l
+
 -- it failed so
 abbrev pub failed_lists : NfsLists → ℕ → SeqidState → ℕ → ℕ → NfsStatus → NfsLists
-failed_lists l owner seqids op seqid status =
-    if advances status then counted owner seqids.closed (next_seqids op seqid seqids.confirmed None) (spelled op (Ended status)) l else l
+failed_lists l owner seqids op seqid status = told_lists l owner seqids op seqid (Ended status)
 
 abbrev pub failed : NfsLists → Option ℕ → ℕ → SeqidState → ℕ → ℕ → NfsStatus → Plan
 failed l current owner seqids op seqid status = Does [] (failed_lists l owner seqids op seqid status) (Ended status, current)
@@ -101,16 +117,14 @@ done_lists s l r owner seqids op seqid confirmed closing access deny closed =
 -- ---- OPEN_CONFIRM
 
 abbrev pub confirm_done : CoreState → NfsLists → Option ℕ → OpenConfirmArgs → StateidRow → ℕ → SeqidState → Option NfsStatus → Plan
-confirm_done s l current a r owner seqids (Some status) = failed l current owner seqids 20 a.seqid status
-confirm_done s l current a r owner seqids None = Does [] (done_lists s l r owner seqids 20 a.seqid true None r.standing.access r.standing.deny false) (state_told s r, current)
+confirm_done s l current a r owner seqids (Some status) = failed l current owner seqids op_open_confirm a.seqid status
+confirm_done s l current a r owner seqids None = Does [] (done_lists s l r owner seqids op_open_confirm a.seqid true None r.standing.access r.standing.deny false) (state_told s r, current)
 
 abbrev pub confirm_by : CoreState → NfsLists → Option ℕ → OpenConfirmArgs → Checked → Plan
-confirm_by s l current a (Refused status) = Does [] l (Ended status, current)
-confirm_by s l current a (Repeated owner) = repeated s l current (find (is_kept owner) l.kept)
-confirm_by s l current a (Passed r owner seqids) = confirm_done s l current a r owner seqids (standing_fault r seqids a.stateid.seqid false)
+confirm_by s l current a c = counts s l current (λ r owner seqids. confirm_done s l current a r owner seqids (standing_fault r seqids a.stateid.seqid false)) c
 
 unfoldable pub open_confirm : CoreState → NfsLists → Option ℕ → OpenConfirmArgs → Plan
-open_confirm s l current a = renewing l (state_client s l a.stateid) (λ t. confirm_by t l current a (checked t l current 20 a.seqid a.stateid))
+open_confirm s l current a = renewing l (state_client s l a.stateid) (λ t. confirm_by t l current a (checked t l current op_open_confirm a.seqid a.stateid))
 
 -- ---- OPEN_DOWNGRADE
 
@@ -166,20 +180,18 @@ locks_gone number l = with_stateids l (without (is_whose (whose.Under number)) l
 -- the share goes, and the stateids of the locks; the open is closed
 abbrev pub share_closed : CoreState → NfsLists → Option ℕ → CloseArgs → StateidRow → ℕ → SeqidState → Plan
 share_closed s l current a r owner seqids =
-    Does (gives (share_of_open s l r owner)) (locks_gone r.number (done_lists s l r owner seqids 4 a.seqid seqids.confirmed (Some r.number) r.standing.access r.standing.deny true)) (state_told s r, current)
+    Does (gives (share_of_open s l r owner)) (locks_gone r.number (done_lists s l r owner seqids op_close a.seqid seqids.confirmed (Some r.number) r.standing.access r.standing.deny true)) (state_told s r, current)
 
 -- the locks under it end before its share (NFS-31)
 abbrev pub close_done : CoreState → NfsLists → Option ℕ → CloseArgs → StateidRow → ℕ → SeqidState → Option NfsStatus → Plan
-close_done s l current a r owner seqids (Some status) = failed l current owner seqids 4 a.seqid status
+close_done s l current a r owner seqids (Some status) = failed l current owner seqids op_close a.seqid status
 close_done s l current a r owner seqids None = Behind (ends_locks l r (locks_under l r.number)) l (λ t. share_closed t l current a r owner seqids)
 
 abbrev pub close_by : CoreState → NfsLists → Option ℕ → CloseArgs → Checked → Plan
-close_by s l current a (Refused status) = Does [] l (Ended status, current)
-close_by s l current a (Repeated owner) = repeated s l current (find (is_kept owner) l.kept)
-close_by s l current a (Passed r owner seqids) = close_done s l current a r owner seqids (standing_fault r seqids a.stateid.seqid true)
+close_by s l current a c = counts s l current (λ r owner seqids. close_done s l current a r owner seqids (standing_fault r seqids a.stateid.seqid true)) c
 
 unfoldable pub close : CoreState → NfsLists → Option ℕ → CloseArgs → Plan
-close s l current a = renewing l (state_client s l a.stateid) (λ t. close_by t l current a (checked t l current 4 a.seqid a.stateid))
+close s l current a = renewing l (state_client s l a.stateid) (λ t. close_by t l current a (checked t l current op_close a.seqid a.stateid))
 
 -- ---- DELEGRETURN
 
@@ -187,28 +199,21 @@ close s l current a = renewing l (state_client s l a.stateid) (λ t. close_by t 
 abbrev pub Returning : Type 0
 Returning = Result StateidRow NfsStatus
 
--- the stateid's own seqid
-abbrev pub seqid_returned : StateidRow → ℕ → Returning
-seqid_returned r seqid = if nat_lt seqid r.standing.seqid then Err statuses.OldStateid else if nat_lt r.standing.seqid seqid then Err statuses.BadStateid else Ok r
+abbrev pub delegates : Holder → Bool
+delegates (holders.Delegation write) = true
+delegates _ = false
 
--- it is of a delegation
-abbrev pub holder_returned : StateidRow → ℕ → Holder → Returning
-holder_returned r seqid (holders.Delegation write) = seqid_returned r seqid
-holder_returned r seqid _ = Err statuses.BadStateid
+-- it is of a delegation and wasn't closed; and its own seqid
+abbrev pub returned_checks : StateidRow → ℕ → List (Bool × NfsStatus)
+returned_checks r seqid =
+    (r.standing.closed || not (delegates r.holder), statuses.BadStateid) ∷ (nat_lt seqid r.standing.seqid, statuses.OldStateid) ∷ (nat_lt r.standing.seqid seqid, statuses.BadStateid) ∷ []
 
--- it is of the current file, and wasn't closed
-abbrev pub row_returned : ℕ → ℕ → Option StateidRow → Returning
-row_returned at seqid None = Err statuses.BadStateid
-row_returned at seqid (Some r) = if (r.file == at) && not r.standing.closed then holder_returned r seqid r.holder else Err statuses.BadStateid
-
--- it is of this start
-abbrev pub number_returned : NfsLists → ℕ → ℕ → Option ℕ → Returning
-number_returned l at seqid None = Err statuses.StaleStateid
-number_returned l at seqid (Some number) = row_returned at seqid (find (is_stateid number) l.stateids)
+abbrev pub state_returned : ℕ → Returning → Returning
+state_returned seqid (Err status) = Err status
+state_returned seqid (Ok r) = or_else (failing (returned_checks r seqid)) (Ok r)
 
 unfoldable pub returned : CoreState → NfsLists → Option ℕ → Stateid → Returning
-returned s l None stateid = Err statuses.NoFileHandle
-returned s l (Some at) stateid = number_returned l at stateid.seqid (number_of s stateid.other)
+returned s l current stateid = state_returned stateid.seqid (state_found s l current stateid)
 
 -- how it ends
 abbrev pub returned_status : Returning → NfsStatus

@@ -1,3 +1,5 @@
+pub mod Checks
+pub mod Operations
 pub mod Short
 pub mod Files
 pub mod Seqids

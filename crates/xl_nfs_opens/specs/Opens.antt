@@ -52,8 +52,10 @@ use Rattle.xl_core.specs.declared.ask.Ask.{Ask}
 use Rattle.xl_core.specs.declared.ask.Who.TheVariants.{Named}
 use Rattle.std.specs.List.{filter}
 use Rattle.xl_core.specs.Ids.{number_in}
+use Rattle.xl_nfs_opens.specs.Checks.{or_else}
 use Rattle.xl_nfs_opens.specs.Files.{file_named}
 use Rattle.xl_plan.specs.Plans.{Does, Behind, Asking}
+use Rattle.xl_nfs_opens.specs.Operations.{op_open}
 use Rattle.xl_nfs_opens.specs.Plans.{Plan}
 use Rattle.xl_nfs_opens.specs.Renewing.{same_stateid, stateid_of, number_of as number_in_other, state_client, renewing}
 use Rattle.xl_nfs_opens.specs.Results.{spelled}
@@ -126,11 +128,6 @@ file_of_claim files s l client at (Previous type) = Ok at
 file_of_claim files s l client at (DelegateCurrent a) = by_delegation s l client a.stateid (named_file files a.name)
 file_of_claim files s l client at (DelegatePrevious name) = Err statuses.NotSupp
 
--- a check that fails, before the others
-abbrev pub or_else : Option NfsStatus → Result ℕ NfsStatus → Result ℕ NfsStatus
-or_else None rest = rest
-or_else (Some status) rest = Err status
-
 -- the file that this client opens, or the first check that fails
 unfoldable pub opened_file : List (List ℕ) → CoreState → NfsLists → ℕ → ℕ → OpenArgsItem → Result ℕ NfsStatus
 opened_file files s l client at a = or_else (check_claim at a.claim) (or_else (check_bits a) (or_else (check_how a.how) (file_of_claim files s l client at a.claim)))
@@ -145,7 +142,7 @@ judged_row r (verdicts.Bad last) = if r.seqids.confirmed then judgements.Bad els
 
 abbrev pub judged_by : ℕ → Option OwnerRow → Judged
 judged_by seqid None = judgements.New
-judged_by seqid (Some r) = judged_row r (verdict (Some r.seqids) 18 seqid)
+judged_by seqid (Some r) = judged_row r (verdict (Some r.seqids) op_open seqid)
 
 -- what the owner's seqid says; one that was never confirmed and doesn't repeat is new (NFS-18)
 unfoldable pub judged : NfsLists → Opener → ℕ → Judged
@@ -308,11 +305,11 @@ answer_status reclaim answers.StoreFailed = statuses.ServerFault
 
 -- the owner's requests have come this far; a reclaim confirms its owner (NFS-18)
 abbrev pub open_seqids : OpenArgsItem → Bool → SeqidState
-open_seqids a confirmed = record { seqid = a.seqid; op = 18; confirmed = confirmed; closed = None }
+open_seqids a confirmed = record { seqid = a.seqid; op = op_open; confirmed = confirmed; closed = None }
 
 -- of a request that is refused so
 abbrev pub refused_lists : Opener → OpenArgsItem → Bool → NfsStatus → NfsLists → NfsLists
-refused_lists o a confirmed status l = if advances status then remembered o (open_seqids a confirmed) (spelled 18 (Ended status)) l else l
+refused_lists o a confirmed status l = if advances status then remembered o (open_seqids a confirmed) (spelled op_open (Ended status)) l else l
 
 abbrev pub refused : NfsLists → Option ℕ → Opener → OpenArgsItem → Bool → NfsStatus → Plan
 refused l current o a confirmed status = Does [] (refused_lists o a confirmed status l) (Ended status, current)
@@ -409,14 +406,14 @@ granted_new s l o a file confirmed write =
     let number = opener_number o l in
     let t = drawn s in
     let told = opened_told (drawn_for write t) (s.counter + 1) 1 confirmed (delegation_told t write) in
-    Does (Draws ∷ draws_for write) (kept_for number (spelled 18 told) (delegated t o file write (entered (open_row (s.counter + 1) o number file a) (seated o (open_seqids a confirmed) l)))) (told, Some file)
+    Does (Draws ∷ draws_for write) (kept_for number (spelled op_open told) (delegated t o file write (entered (open_row (s.counter + 1) o number file a) (seated o (open_seqids a confirmed) l)))) (told, Some file)
 
 -- it has one: that has the rights of both from then on
 abbrev pub granted_more : CoreState → NfsLists → Opener → OpenArgsItem → ℕ → Bool → Option Bool → StateidRow → Plan
 granted_more s l o a file confirmed write r =
     let number = opener_number o l in
     let told = opened_told (drawn_for write s) r.number (next_seqid r.standing.seqid) confirmed (delegation_told s write) in
-    Does (draws_for write) (kept_for number (spelled 18 told) (delegated s o file write (seated o (open_seqids a confirmed) (stood r.number r (either_bits r.standing.access a.access) (either_bits r.standing.deny a.deny) false l)))) (told, Some file)
+    Does (draws_for write) (kept_for number (spelled op_open told) (delegated s o file write (seated o (open_seqids a confirmed) (stood r.number r (either_bits r.standing.access a.access) (either_bits r.standing.deny a.deny) false l)))) (told, Some file)
 
 abbrev pub granted_by : CoreState → NfsLists → Opener → OpenArgsItem → ℕ → Bool → Option Bool → Option StateidRow → Plan
 granted_by s l o a file confirmed write None = granted_new s l o a file confirmed write

@@ -1,25 +1,25 @@
-//! The check of a stateid, OPEN_CONFIRM, CLOSE and DELEGRETURN (RFC 7530 9.1.4, 16.18, 16.2, 16.6).
+//! OPEN_CONFIRM, CLOSE and DELEGRETURN (RFC 7530 16.18, 16.2, 16.6).
 ghost use Rattle.xl_nfs_state.specs.Verdict.{verdict};
 ghost use Rattle.xl_nfs_opens.specs.Seqids.{counted};
 ghost use Rattle.xl_nfs_opens.specs.Opens.{stood};
-ghost use Rattle.xl_nfs.specs.Outcomes.{is_ok};
-ghost use Rattle.std.specs.Prelude.{◌≡◌, ℕ, false, true, None, Some, IsSome, IfSome, IfOk, OnOk};
+ghost use Rattle.std.specs.Prelude.{◌≡◌, ℕ, false, true, None, Some, Ok, IsSome, IfSome, IfOk, OnOk};
 ghost use Rattle.std.specs.List.{find};
 ghost use Rattle.xl_base.specs.Lists.{IsIn};
 ghost use Rattle.xl_base.specs.Outside.{HandedOn};
 ghost use Rattle.xl_core.specs.State.{CoreState};
 ghost use Rattle.xl_nfs_state.specs.State.{is_owner, is_stateid};
-ghost use Rattle.xl_nfs_opens.specs.Closing.{checked, close, close_by, close_done, share_closed, confirm_by, confirm_done, deleg_return, failed, holder_returned, cache_of, next_seqids, open_confirm, opener_by, owner_checked, return_done, returned, row_checked, seqid_checked, share_of_open, standing_fault, state_told, IsChecked};
+ghost use Rattle.xl_nfs_opens.specs.Closing.{close, close_by, close_done, share_closed, confirm_by, confirm_done, deleg_return, failed, cache_of, next_seqids, open_confirm, opener_by, return_done, returned, delegates, share_of_open, standing_fault, state_returned, state_told, told_lists, IsChecked};
 ghost use Rattle.xl_nfs_opens.specs.Plans.{carried};
 ghost use Rattle.xl_nfs_opens.specs.Results.{spelled, ToldFits};
 ghost use Rattle.xl_plan.specs.Budgets.{IsReady};
 ghost use Rattle.xl_nfs_opens.specs.Short.{Leaves};
 
+use crate::checking::{check, find_state, standing_fault};
 use crate::delegating::cache_held;
 use crate::done::{Done, ended_as};
 use crate::ending::end_locks;
 use crate::entering::stand;
-use crate::opener::{Checked, Opener};
+use crate::opener::{Checked, Found, Opener};
 use crate::renewing::{number_of, renew_for, state_client, stateid_of};
 use crate::repeats::repeat;
 use crate::results::result_bytes;
@@ -31,84 +31,9 @@ use xl_base::{Keeper, Sequence};
 use xl_core::Core;
 use xl_matrix::Claim;
 use xl_nfs::{CloseArgs, NfsStatus, OpenConfirmArgs, Stateid, operation};
-use xl_nfs_state::{Holder, NfsState, SeqidState, SeqidVerdict, StateidRow, Whose, verdict};
-
-/// By the owner's seqid.
-fn check_seqid(row: &StateidRow, op: u32, seqid: u32, owner: u64, seqids: SeqidState) -> Checked
-    ensures { result ≡ seqid_checked row.now owner seqids (verdict (Some seqids) op seqid) }
-{
-    let closed = row.standing.closed;
-    match verdict(Some(seqids), op, seqid) {
-        SeqidVerdict::Repeat => Checked::Repeated(owner),
-        SeqidVerdict::Next if !closed => Checked::Passed(*row, owner, seqids),
-        _ if closed => Checked::Refused(NfsStatus::BadStateid),
-        _ => Checked::Refused(NfsStatus::BadSeqid),
-    }
-}
-
-/// By the owner of the open.
-pub fn check_owner(state: &NfsState, row: &StateidRow, op: u32, seqid: u32, owner: u64) -> Checked
-    ensures { result ≡ owner_checked row.now op seqid owner (find (is_owner owner) state.now.owners) }
-{
-    match state.find_owner(owner) {
-        Some(found) => check_seqid(row, op, seqid, owner, found.seqids),
-        None => Checked::Refused(NfsStatus::BadStateid),
-    }
-}
-
-/// By the stateid that is found: it is of an open, and of the current file.
-fn check_row(state: &NfsState, at: u32, op: u32, seqid: u32, row: &StateidRow) -> Checked
-    ensures { result ≡ row_checked state.now at op seqid (Some row.now) }
-{
-    match row.holder {
-        Holder::Open(owner) if row.file == at => check_owner(state, row, op, seqid, owner),
-        _ => Checked::Refused(NfsStatus::BadStateid),
-    }
-}
-
-/// What is found for a stateid, and what its owner's seqid says.
-#[tactic(auto, unfolding(crate::specs::Closing::checked))]
-pub fn check(
-    state: &NfsState,
-    core: &Core,
-    current: Option<u32>,
-    op: u32,
-    seqid: u32,
-    stateid: &Stateid,
-) -> Checked
-    ensures { result ≡ checked core.now state.now current op seqid stateid.now }
-{
-    let Some(at) = current else {
-        return Checked::Refused(NfsStatus::NoFileHandle);
-    };
-    let Some(number) = number_of(core, &stateid.other) else {
-        return Checked::Refused(NfsStatus::StaleStateid);
-    };
-    match state.find_stateid(number) {
-        Some(row) => check_row(state, at, op, seqid, row),
-        None => Checked::Refused(NfsStatus::BadStateid),
-    }
-}
-
-/// What is wrong with the stateid's own seqid, or with its owner, which has to be confirmed, or not.
-#[tactic(auto, unfolding(crate::specs::Closing::standing_fault))]
-pub fn standing_fault(
-    row: &StateidRow,
-    seqids: SeqidState,
-    seqid: u32,
-    confirmed: bool,
-) -> Option<NfsStatus>
-    ensures value { result ≡ standing_fault row.now seqids seqid confirmed }
-    ensures fails { IfSome result (λ status. is_ok status ≡ false) }
-{
-    if seqid < row.standing.seqid {
-        Some(NfsStatus::OldStateid)
-    } else if row.standing.seqid < seqid || seqids.confirmed != confirmed {
-        Some(NfsStatus::BadStateid)
-    } else {
-        None
-    }
-}
+use xl_nfs_state::{
+    Holder, NfsState, OwnerKind, SeqidState, SeqidVerdict, StateidRow, Whose, verdict,
+};
 
 /// How far the owner's requests have come with this one.
 pub fn next_seqids(op: u32, seqid: u32, confirmed: bool, closed: Option<u64>) -> SeqidState
@@ -122,28 +47,44 @@ pub fn next_seqids(op: u32, seqid: u32, confirmed: bool, closed: Option<u64>) ->
     }
 }
 
+/// The owner's request was answered so; the result is kept if it counts.
+pub fn count_told(
+    alloc: Global,
+    state: &mut NfsState,
+    found: &Found,
+    op: u32,
+    seqid: u32,
+    told: &Told,
+) -> Result<(), AllocError>
+    requires there { IsSome (find (is_owner found.now.owner) state.old.owners) }
+    requires fits { ToldFits op told.now }
+    ensures { OnOk result (state.new ≡ told_lists state.old found.now.owner found.now.seqids op seqid told.now) }
+{
+    if advances(told.status()) {
+        let bytes = result_bytes(alloc, op, told)?;
+        let next = next_seqids(op, seqid, found.seqids.confirmed, None);
+        count(state, found.owner, found.seqids.closed, next, bytes)?;
+    }
+    Ok(())
+}
+
 /// It failed so; the result is kept if it counts.
 pub fn fail(
     alloc: Global,
     state: &mut NfsState,
     current: Option<u32>,
-    owner: u64,
-    seqids: SeqidState,
+    found: &Found,
     op: u32,
     seqid: u32,
     status: NfsStatus,
 ) -> Result<Done, AllocError>
-    requires there { IsSome (find (is_owner owner) state.old.owners) }
+    requires there { IsSome (find (is_owner found.now.owner) state.old.owners) }
     requires fits { ToldFits op (Told.Ended status) }
-    ensures done { (n : ℕ) (s : CoreState) → IfOk result (λ r. carried n s state.old (failed state.old current owner seqids op seqid status) ≡ (r.0, r.1, r.2, state.new, s)) }
+    ensures done { (n : ℕ) (s : CoreState) → IfOk result (λ r. carried n s state.old (failed state.old current found.now.owner found.now.seqids op seqid status) ≡ (r.0, r.1, r.2, state.new, s)) }
     ensures told { IfOk result (λ r. r.0 ≡ Told.Ended status) }
 {
     let told = Told::Ended(status);
-    if advances(status) {
-        let bytes = result_bytes(alloc, op, &told)?;
-        let next = next_seqids(op, seqid, seqids.confirmed, None);
-        count(state, owner, seqids.closed, next, bytes)?;
-    }
+    count_told(alloc, state, found, op, seqid, &told)?;
     Ok((told, current, Sequence::new(alloc)))
 }
 
@@ -160,24 +101,21 @@ pub fn finish(
     alloc: Global,
     state: &mut NfsState,
     core: &Core,
-    row: &StateidRow,
-    owner: u64,
-    closed_before: Option<u64>,
-    op: u32,
+    found: &Found,
     seqids: SeqidState,
     standing: (u32, u32, bool),
 ) -> Result<Told, AllocError>
-    requires owner { IsSome (find (is_owner owner) state.old.owners) }
-    requires there { find (is_stateid row.now.number) state.old.stateids ≡ Some row.now }
-    requires open { row.now.standing.closed ≡ false }
-    ensures told { IfOk result (λ told. told ≡ state_told core.now row.now) }
-    ensures lists { OnOk result (state.new ≡ counted owner closed_before seqids (spelled op (state_told core.now row.now)) (stood row.now.number row.now standing.0 standing.1 standing.2 state.old)) }
+    requires owner { IsSome (find (is_owner found.now.owner) state.old.owners) }
+    requires there { find (is_stateid found.now.row.number) state.old.stateids ≡ Some found.now.row }
+    requires open { found.now.row.standing.closed ≡ false }
+    ensures told { IfOk result (λ told. told ≡ state_told core.now found.now.row) }
+    ensures lists { OnOk result (state.new ≡ counted found.now.owner found.now.seqids.closed seqids (spelled seqids.op (state_told core.now found.now.row)) (stood found.now.row.number found.now.row standing.0 standing.1 standing.2 state.old)) }
 {
     let (access, deny, closed) = standing;
-    let told = state_told(core, row);
-    let bytes = result_bytes(alloc, op, &told)?;
-    stand(state, row, access, deny, closed);
-    count(state, owner, closed_before, seqids, bytes)?;
+    let told = state_told(core, &found.row);
+    let bytes = result_bytes(alloc, seqids.op, &told)?;
+    stand(state, &found.row, access, deny, closed);
+    count(state, found.owner, found.seqids.closed, seqids, bytes)?;
     Ok(told)
 }
 
@@ -189,33 +127,21 @@ fn confirm_passed(
     core: &Core,
     current: Option<u32>,
     args: &OpenConfirmArgs,
-    row: &StateidRow,
-    owner: u64,
-    seqids: SeqidState,
+    found: &Found,
 ) -> Result<Done, AllocError>
-    requires owner { IsSome (find (is_owner owner) state.old.owners) }
-    requires there { find (is_stateid row.now.number) state.old.stateids ≡ Some row.now }
-    requires open { row.now.standing.closed ≡ false }
-    ensures done { (n : ℕ) → IfOk result (λ r. carried n core.now state.old (confirm_done core.now state.old current args.now row.now owner seqids (standing_fault row.now seqids args.now.stateid.seqid false)) ≡ (r.0, r.1, r.2, state.new, core.now)) }
+    requires owner { IsSome (find (is_owner found.now.owner) state.old.owners) }
+    requires there { find (is_stateid found.now.row.number) state.old.stateids ≡ Some found.now.row }
+    requires open { found.now.row.standing.closed ≡ false }
+    ensures done { (n : ℕ) → IfOk result (λ r. carried n core.now state.old (confirm_done core.now state.old current args.now found.now.row found.now.owner found.now.seqids (standing_fault found.now.row found.now.seqids args.now.stateid.seqid false)) ≡ (r.0, r.1, r.2, state.new, core.now)) }
 {
     let op = operation::OPEN_CONFIRM;
-    if let Some(status) = standing_fault(row, seqids, args.stateid.seqid, false) {
-        let done = fail(alloc, state, current, owner, seqids, op, args.seqid, status)?;
+    if let Some(status) = standing_fault(&found.row, found.seqids, args.stateid.seqid, false) {
+        let done = fail(alloc, state, current, found, op, args.seqid, status)?;
         return Ok(done);
     }
     let next = next_seqids(op, args.seqid, true, None);
-    let standing = (row.standing.access, row.standing.deny, false);
-    let told = finish(
-        alloc,
-        state,
-        core,
-        row,
-        owner,
-        seqids.closed,
-        op,
-        next,
-        standing,
-    )?;
+    let standing = (found.row.standing.access, found.row.standing.deny, false);
+    let told = finish(alloc, state, core, found, next, standing)?;
     Ok((told, current, Sequence::new(alloc)))
 }
 
@@ -226,16 +152,17 @@ fn confirm_by(
     core: &Core,
     current: Option<u32>,
     args: &OpenConfirmArgs,
-    found: Checked,
+    checked: Checked,
 ) -> Result<Done, AllocError>
-    requires found { IsChecked state.old found }
-    ensures done { (n : ℕ) → IfOk result (λ r. carried n core.now state.old (confirm_by core.now state.old current args.now found) ≡ (r.0, r.1, r.2, state.new, core.now)) }
+    requires found { IsChecked state.old checked }
+    ensures done { (n : ℕ) → IfOk result (λ r. carried n core.now state.old (confirm_by core.now state.old current args.now checked) ≡ (r.0, r.1, r.2, state.new, core.now)) }
 {
-    match found {
+    match checked {
         Checked::Refused(status) => Ok(ended_as(alloc, status, current)),
         Checked::Repeated(owner) => repeat(alloc, state, core, current, owner),
         Checked::Passed(row, owner, seqids) => {
-            confirm_passed(alloc, state, core, current, args, &row, owner, seqids)
+            let found = Found { row, owner, seqids };
+            confirm_passed(alloc, state, core, current, args, &found)
         }
     }
 }
@@ -256,7 +183,15 @@ pub fn open_confirm(
     let client = state_client(state, core, &args.stateid);
     renew_for(alloc, state, core, client)?;
     let op = operation::OPEN_CONFIRM;
-    let found = check(state, core, current, op, args.seqid, &args.stateid);
+    let found = check(
+        OwnerKind::Open,
+        state,
+        core,
+        current,
+        op,
+        args.seqid,
+        &args.stateid,
+    );
     let done = confirm_by(alloc, state, core, current, args, found)?;
     Ok(done)
 }
@@ -310,33 +245,26 @@ fn close_share(
     core: &mut Core,
     current: Option<u32>,
     args: &CloseArgs,
-    row: &StateidRow,
-    owner: u64,
-    seqids: SeqidState,
+    found: &Found,
 ) -> Result<Done, AllocError>
     requires ready { IsReady 0 core.old }
-    requires owner { IsSome (find (is_owner owner) state.old.owners) }
-    requires there { find (is_stateid row.now.number) state.old.stateids ≡ Some row.now }
-    requires open { row.now.standing.closed ≡ false }
-    ensures done { (n : ℕ) → IfOk result (λ r. carried n core.old state.old (share_closed core.old state.old current args.now row.now owner seqids) ≡ (r.0, r.1, r.2, state.new, core.new)) }
+    requires owner { IsSome (find (is_owner found.now.owner) state.old.owners) }
+    requires there { find (is_stateid found.now.row.number) state.old.stateids ≡ Some found.now.row }
+    requires open { found.now.row.standing.closed ≡ false }
+    ensures done { (n : ℕ) → IfOk result (λ r. carried n core.old state.old (share_closed core.old state.old current args.now found.now.row found.now.owner found.now.seqids) ≡ (r.0, r.1, r.2, state.new, core.new)) }
     ensures leaves { OnOk result (Leaves 0 core.old core.new) }
 {
     let op = operation::CLOSE;
-    let share = share_of_open(alloc, state, core, row, owner)?;
-    let next = next_seqids(op, args.seqid, seqids.confirmed, Some(row.number));
-    let standing = (row.standing.access, row.standing.deny, true);
-    let told = finish(
-        alloc,
-        state,
-        core,
-        row,
-        owner,
-        seqids.closed,
+    let share = share_of_open(alloc, state, core, &found.row, found.owner)?;
+    let next = next_seqids(
         op,
-        next,
-        standing,
-    )?;
-    state.drop_stateids(Whose::Under(row.number));
+        args.seqid,
+        found.seqids.confirmed,
+        Some(found.row.number),
+    );
+    let standing = (found.row.standing.access, found.row.standing.deny, true);
+    let told = finish(alloc, state, core, found, next, standing)?;
+    state.drop_stateids(Whose::Under(found.row.number));
     give(alloc, core, share);
     Ok((told, current, Sequence::new(alloc)))
 }
@@ -350,25 +278,23 @@ fn close_passed<K: Keeper>(
     keeper: &mut K,
     current: Option<u32>,
     args: &CloseArgs,
-    row: &StateidRow,
-    owner: u64,
-    seqids: SeqidState,
+    found: &Found,
 ) -> Result<Done, AllocError>
     requires ready { IsReady 2 core.old }
-    requires owner { IsSome (find (is_owner owner) state.old.owners) }
-    requires there { find (is_stateid row.now.number) state.old.stateids ≡ Some row.now }
-    requires open { row.now.standing.closed ≡ false }
-    ensures done { (n : ℕ) → IfOk result (λ r. carried n core.old state.old (close_done core.old state.old current args.now row.now owner seqids (standing_fault row.now seqids args.now.stateid.seqid true)) ≡ (r.0, r.1, r.2, state.new, core.new)) }
+    requires owner { IsSome (find (is_owner found.now.owner) state.old.owners) }
+    requires there { find (is_stateid found.now.row.number) state.old.stateids ≡ Some found.now.row }
+    requires open { found.now.row.standing.closed ≡ false }
+    ensures done { (n : ℕ) → IfOk result (λ r. carried n core.old state.old (close_done core.old state.old current args.now found.now.row found.now.owner found.now.seqids (standing_fault found.now.row found.now.seqids args.now.stateid.seqid true)) ≡ (r.0, r.1, r.2, state.new, core.new)) }
     ensures leaves { OnOk result (Leaves 0 core.old core.new) }
     ensures keeper { HandedOn keeper.old keeper.new }
 {
     let op = operation::CLOSE;
-    if let Some(status) = standing_fault(row, seqids, args.stateid.seqid, true) {
-        let done = fail(alloc, state, current, owner, seqids, op, args.seqid, status)?;
+    if let Some(status) = standing_fault(&found.row, found.seqids, args.stateid.seqid, true) {
+        let done = fail(alloc, state, current, found, op, args.seqid, status)?;
         return Ok(done);
     }
-    end_locks(alloc, state, core, keeper, row)?;
-    let done = close_share(alloc, state, core, current, args, row, owner, seqids)?;
+    end_locks(alloc, state, core, keeper, &found.row)?;
+    let done = close_share(alloc, state, core, current, args, found)?;
     Ok(done)
 }
 
@@ -380,21 +306,20 @@ fn close_by<K: Keeper>(
     keeper: &mut K,
     current: Option<u32>,
     args: &CloseArgs,
-    found: Checked,
+    checked: Checked,
 ) -> Result<Done, AllocError>
     requires ready { IsReady 2 core.old }
-    requires found { IsChecked state.old found }
-    ensures done { (n : ℕ) → IfOk result (λ r. carried n core.old state.old (close_by core.old state.old current args.now found) ≡ (r.0, r.1, r.2, state.new, core.new)) }
+    requires found { IsChecked state.old checked }
+    ensures done { (n : ℕ) → IfOk result (λ r. carried n core.old state.old (close_by core.old state.old current args.now checked) ≡ (r.0, r.1, r.2, state.new, core.new)) }
     ensures leaves { OnOk result (Leaves 0 core.old core.new) }
     ensures keeper { HandedOn keeper.old keeper.new }
 {
-    match found {
+    match checked {
         Checked::Refused(status) => Ok(ended_as(alloc, status, current)),
         Checked::Repeated(owner) => repeat(alloc, state, core, current, owner),
         Checked::Passed(row, owner, seqids) => {
-            close_passed(
-                alloc, state, core, keeper, current, args, &row, owner, seqids,
-            )
+            let found = Found { row, owner, seqids };
+            close_passed(alloc, state, core, keeper, current, args, &found)
         }
     }
 }
@@ -417,19 +342,38 @@ pub fn close<K: Keeper>(
     let client = state_client(state, core, &args.stateid);
     renew_for(alloc, state, core, client)?;
     let op = operation::CLOSE;
-    let found = check(state, core, current, op, args.seqid, &args.stateid);
+    let found = check(
+        OwnerKind::Open,
+        state,
+        core,
+        current,
+        op,
+        args.seqid,
+        &args.stateid,
+    );
     let done = close_by(alloc, state, core, keeper, current, args, found)?;
     Ok(done)
 }
 
-/// By the stateid's own seqid.
-fn check_returned(row: &StateidRow, seqid: u32) -> Result<StateidRow, NfsStatus>
-    ensures { result ≡ holder_returned row.now seqid row.now.holder }
+/// Whether it is a delegation.
+fn delegates(holder: Holder) -> bool
+    ensures { result ≡ delegates holder }
 {
-    match row.holder {
-        Holder::Delegation { .. } if seqid < row.standing.seqid => Err(NfsStatus::OldStateid),
-        Holder::Delegation { .. } if seqid == row.standing.seqid => Ok(*row),
-        _ => Err(NfsStatus::BadStateid),
+    matches!(holder, Holder::Delegation { .. })
+}
+
+/// The row, if it is of a delegation and not closed, by its own seqid.
+fn check_returned(row: StateidRow, seqid: u32) -> Result<StateidRow, NfsStatus>
+    ensures { result ≡ state_returned seqid (Ok row) }
+{
+    if row.standing.closed || !delegates(row.holder) {
+        Err(NfsStatus::BadStateid)
+    } else if seqid < row.standing.seqid {
+        Err(NfsStatus::OldStateid)
+    } else if row.standing.seqid < seqid {
+        Err(NfsStatus::BadStateid)
+    } else {
+        Ok(row)
     }
 }
 
@@ -443,16 +387,8 @@ fn returned(
 ) -> Result<StateidRow, NfsStatus>
     ensures { result ≡ returned core.now state.now current stateid.now }
 {
-    let Some(at) = current else {
-        return Err(NfsStatus::NoFileHandle);
-    };
-    let Some(number) = number_of(core, &stateid.other) else {
-        return Err(NfsStatus::StaleStateid);
-    };
-    match state.find_stateid(number) {
-        Some(row) if row.file == at && !row.standing.closed => check_returned(row, stateid.seqid),
-        _ => Err(NfsStatus::BadStateid),
-    }
+    let row = find_state(state, core, current, stateid)?;
+    check_returned(row, stateid.seqid)
 }
 
 /// The cache that stands for a delegation.

@@ -9,9 +9,10 @@ ghost use Rattle.xl_nfs_opens.specs.Plans.{carried};
 ghost use Rattle.xl_plan.specs.Budgets.{IsReady};
 ghost use Rattle.xl_nfs_opens.specs.Short.{Leaves};
 
-use crate::closing::{check, fail, finish, next_seqids, share_of_open, standing_fault};
+use crate::checking::{check, standing_fault};
+use crate::closing::{fail, finish, next_seqids, share_of_open};
 use crate::done::{Done, ended_as};
-use crate::opener::Checked;
+use crate::opener::{Checked, Found};
 use crate::renewing::{renew_for, state_client};
 use crate::repeats::repeat;
 use crate::shares::{rights_of, weaken};
@@ -20,7 +21,7 @@ use xl_base::Sequence;
 use xl_core::Core;
 use xl_matrix::rights_within;
 use xl_nfs::{NfsStatus, OpenDowngradeArgs, operation};
-use xl_nfs_state::{NfsState, SeqidState, StateidRow};
+use xl_nfs_state::{NfsState, OwnerKind, SeqidState, StateidRow};
 
 /// Whether an access is left, and both lie within what the open has.
 #[tactic(auto, unfolding(crate::specs::Closing::can_weaken))]
@@ -62,36 +63,24 @@ fn downgrade_passed(
     core: &mut Core,
     current: Option<u32>,
     args: &OpenDowngradeArgs,
-    row: &StateidRow,
-    owner: u64,
-    seqids: SeqidState,
+    found: &Found,
 ) -> Result<Done, AllocError>
     requires ready { IsReady 0 core.old }
-    requires owner { IsSome (find (is_owner owner) state.old.owners) }
-    requires there { find (is_stateid row.now.number) state.old.stateids ≡ Some row.now }
-    requires open { row.now.standing.closed ≡ false }
-    ensures done { (n : ℕ) → IfOk result (λ r. carried n core.old state.old (downgrade_done core.old state.old current args.now row.now owner seqids (downgrade_fault row.now seqids args.now)) ≡ (r.0, r.1, r.2, state.new, core.new)) }
+    requires owner { IsSome (find (is_owner found.now.owner) state.old.owners) }
+    requires there { find (is_stateid found.now.row.number) state.old.stateids ≡ Some found.now.row }
+    requires open { found.now.row.standing.closed ≡ false }
+    ensures done { (n : ℕ) → IfOk result (λ r. carried n core.old state.old (downgrade_done core.old state.old current args.now found.now.row found.now.owner found.now.seqids (downgrade_fault found.now.row found.now.seqids args.now)) ≡ (r.0, r.1, r.2, state.new, core.new)) }
     ensures leaves { OnOk result (Leaves 0 core.old core.new) }
 {
     let op = operation::OPEN_DOWNGRADE;
-    if let Some(status) = downgrade_fault(row, seqids, args) {
-        let done = fail(alloc, state, current, owner, seqids, op, args.seqid, status)?;
+    if let Some(status) = downgrade_fault(&found.row, found.seqids, args) {
+        let done = fail(alloc, state, current, found, op, args.seqid, status)?;
         return Ok(done);
     }
-    let share = share_of_open(alloc, state, core, row, owner)?;
-    let next = next_seqids(op, args.seqid, seqids.confirmed, None);
+    let share = share_of_open(alloc, state, core, &found.row, found.owner)?;
+    let next = next_seqids(op, args.seqid, found.seqids.confirmed, None);
     let standing = (args.access, args.deny, false);
-    let told = finish(
-        alloc,
-        state,
-        core,
-        row,
-        owner,
-        seqids.closed,
-        op,
-        next,
-        standing,
-    )?;
+    let told = finish(alloc, state, core, found, next, standing)?;
     let (access, deny) = (rights_of(args.access), rights_of(args.deny));
     weaken(alloc, core, share, access, deny);
     Ok((told, current, Sequence::new(alloc)))
@@ -104,18 +93,19 @@ fn downgrade_by(
     core: &mut Core,
     current: Option<u32>,
     args: &OpenDowngradeArgs,
-    found: Checked,
+    checked: Checked,
 ) -> Result<Done, AllocError>
     requires ready { IsReady 0 core.old }
-    requires found { IsChecked state.old found }
-    ensures done { (n : ℕ) → IfOk result (λ r. carried n core.old state.old (downgrade_by core.old state.old current args.now found) ≡ (r.0, r.1, r.2, state.new, core.new)) }
+    requires found { IsChecked state.old checked }
+    ensures done { (n : ℕ) → IfOk result (λ r. carried n core.old state.old (downgrade_by core.old state.old current args.now checked) ≡ (r.0, r.1, r.2, state.new, core.new)) }
     ensures leaves { OnOk result (Leaves 0 core.old core.new) }
 {
-    match found {
+    match checked {
         Checked::Refused(status) => Ok(ended_as(alloc, status, current)),
         Checked::Repeated(owner) => repeat(alloc, state, core, current, owner),
         Checked::Passed(row, owner, seqids) => {
-            downgrade_passed(alloc, state, core, current, args, &row, owner, seqids)
+            let found = Found { row, owner, seqids };
+            downgrade_passed(alloc, state, core, current, args, &found)
         }
     }
 }
@@ -136,7 +126,15 @@ pub fn open_downgrade(
     let client = state_client(state, core, &args.stateid);
     renew_for(alloc, state, core, client)?;
     let op = operation::OPEN_DOWNGRADE;
-    let found = check(state, core, current, op, args.seqid, &args.stateid);
+    let found = check(
+        OwnerKind::Open,
+        state,
+        core,
+        current,
+        op,
+        args.seqid,
+        &args.stateid,
+    );
     let done = downgrade_by(alloc, state, core, current, args, found)?;
     Ok(done)
 }

@@ -4,6 +4,7 @@
 
 mod aims;
 mod asks;
+mod checking;
 mod closing;
 mod delegating;
 mod done;
@@ -22,9 +23,9 @@ mod shares;
 mod told;
 
 pub use asks::{range_ask, unlock_ask};
+pub use checking::{check, standing_fault};
 pub use closing::{
-    check, check_owner, close, deleg_return, fail, finish, next_seqids, open_confirm, opener_by,
-    standing_fault, state_told,
+    close, count_told, deleg_return, fail, finish, next_seqids, open_confirm, opener_by, state_told,
 };
 pub use delegating::party_of;
 pub use done::{Done, beside, ended_as};
@@ -32,8 +33,8 @@ pub use downgrading::open_downgrade;
 pub use entering::{held_on, stand};
 pub use files::file_named;
 pub use leases::{drawn, renewed};
-pub use opener::{Checked, Opener};
-pub use opening::{answer_status, client_in, open_file};
+pub use opener::{Checked, Found, Opener};
+pub use opening::{Exported, answer_status, client_in, open_file};
 pub use renewing::{number_of, renew_for, state_client, stateid_of};
 pub use repeats::repeat;
 pub use results::{put_result, result_bytes};

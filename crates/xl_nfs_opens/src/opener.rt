@@ -41,3 +41,14 @@ pub enum Checked {
     /// It is of this open, of the owner of this number, whose requests came this far, and the next one of these.
     Passed(StateidRow, u64, SeqidState),
 }
+
+/// What is found for a stateid: its row, and the owner of that number, whose requests came this far.
+#[derive(Clone, Copy)]
+pub struct Found {
+    /// The row.
+    pub row: StateidRow,
+    /// The owner's number.
+    pub owner: u64,
+    /// How far its requests have come.
+    pub seqids: SeqidState,
+}

@@ -33,6 +33,39 @@ use xl_nfs_state::{
     ClientRow, NfsState, OwnerKind, OwnerRow, SeqidVerdict, StateidRow, Whose, verdict,
 };
 
+/// What is exported, beside so many opens of other protocols.
+#[derive(Clone, Copy)]
+pub struct Exported<'a> {
+    /// The names of the files.
+    pub files: &'a [Sequence<u8>],
+    /// How many opens other protocols have.
+    pub others: u32,
+}
+
+/// An OPEN by an owner, at this current handle.
+#[derive(Clone, Copy)]
+struct Opening<'a> {
+    /// What is exported.
+    exported: Exported<'a>,
+    /// The current handle.
+    at: u32,
+    /// Who asks.
+    opener: &'a Opener,
+    /// What is asked.
+    args: &'a OpenArgs<'a>,
+}
+
+/// The file that is opened.
+#[derive(Clone, Copy)]
+struct Opened {
+    /// Its number.
+    file: u32,
+    /// Whether its owner is confirmed.
+    confirmed: bool,
+    /// Whether a delegation is for writing, if one is wished for, or granted.
+    write: Option<bool>,
+}
+
 fn is_granted(answer: Answer) -> bool
     ensures { result ≡ is_granted answer }
 {
@@ -109,28 +142,23 @@ fn grant_new(
     alloc: Global,
     state: &mut NfsState,
     core: &mut Core,
-    opener: &Opener,
-    args: &OpenArgs,
-    file: u32,
-    confirmed: bool,
-    write: Option<bool>,
+    opening: &Opening,
+    opened: Opened,
 ) -> Result<(Told, Option<u32>), AllocError>
-    requires client { IsSome (find (is_client opener.now.client true) state.old.clients) }
+    requires client { IsSome (find (is_client opening.now.opener.now.client true) state.old.clients) }
     requires ready { IsReady 2 core.old }
-    ensures done { (n : ℕ) → IfOk result (λ r. carried n core.old state.old (granted_new core.old state.old opener.now (shown_open_args args.now) file confirmed write) ≡ (r.0, r.1, [], state.new, core.new)) }
+    ensures done { (n : ℕ) → IfOk result (λ r. carried n core.old state.old (granted_new core.old state.old opening.now.opener.now (shown_open_args opening.now.args.now) opened.file opened.confirmed opened.write) ≡ (r.0, r.1, [], state.new, core.new)) }
     ensures leaves { OnOk result (Leaves 2 core.old core.new) }
 {
+    let (opener, args, file) = (opening.opener, opening.args, opened.file);
     let owner = opener_number(state, opener);
     let number = u64::from(drawn(core));
-    seat(alloc, state, opener, open_seqids(args, confirmed))?;
-    enter(
-        alloc,
-        state,
-        owner,
-        open_row(number, opener, owner, file, args),
-    )?;
-    let delegation = delegate(alloc, state, core, opener, file, write)?;
-    let told = Told::Opened(stateid_of(core, number, 1), flags_of(confirmed), delegation);
+    seat(alloc, state, opener, open_seqids(args, opened.confirmed))?;
+    let row = open_row(number, opener, owner, file, args);
+    enter(alloc, state, owner, row)?;
+    let delegation = delegate(alloc, state, core, opener, file, opened.write)?;
+    let flags = flags_of(opened.confirmed);
+    let told = Told::Opened(stateid_of(core, number, 1), flags, delegation);
     keep_told(alloc, state, owner, operation::OPEN, &told)?;
     Ok((told, Some(file)))
 }
@@ -141,32 +169,27 @@ fn grant_more(
     alloc: Global,
     state: &mut NfsState,
     core: &mut Core,
-    opener: &Opener,
-    args: &OpenArgs,
-    file: u32,
-    confirmed: bool,
-    write: Option<bool>,
+    opening: &Opening,
+    opened: Opened,
     row: &StateidRow,
 ) -> Result<(Told, Option<u32>), AllocError>
-    requires client { IsSome (find (is_client opener.now.client true) state.old.clients) }
+    requires client { IsSome (find (is_client opening.now.opener.now.client true) state.old.clients) }
     requires there { find (is_stateid row.now.number) state.old.stateids ≡ Some row.now }
     requires open { row.now.standing.closed ≡ false }
     requires ready { IsReady 2 core.old }
-    ensures done { (n : ℕ) → IfOk result (λ r. carried n core.old state.old (granted_more core.old state.old opener.now (shown_open_args args.now) file confirmed write row.now) ≡ (r.0, r.1, [], state.new, core.new)) }
+    ensures done { (n : ℕ) → IfOk result (λ r. carried n core.old state.old (granted_more core.old state.old opening.now.opener.now (shown_open_args opening.now.args.now) opened.file opened.confirmed opened.write row.now) ≡ (r.0, r.1, [], state.new, core.new)) }
     ensures leaves { OnOk result (Leaves 2 core.old core.new) }
 {
+    let (opener, args, file) = (opening.opener, opening.args, opened.file);
     let owner = opener_number(state, opener);
     let access = either_bits(row.standing.access, args.access);
     let deny = either_bits(row.standing.deny, args.deny);
     stand(state, row, access, deny, false);
-    seat(alloc, state, opener, open_seqids(args, confirmed))?;
-    let delegation = delegate(alloc, state, core, opener, file, write)?;
+    seat(alloc, state, opener, open_seqids(args, opened.confirmed))?;
+    let delegation = delegate(alloc, state, core, opener, file, opened.write)?;
     let seqid = row.standing.seqid.wrapping_add(1);
-    let told = Told::Opened(
-        stateid_of(core, row.number, seqid),
-        flags_of(confirmed),
-        delegation,
-    );
+    let flags = flags_of(opened.confirmed);
+    let told = Told::Opened(stateid_of(core, row.number, seqid), flags, delegation);
     keep_told(alloc, state, owner, operation::OPEN, &told)?;
     Ok((told, Some(file)))
 }
@@ -176,26 +199,21 @@ fn grant(
     alloc: Global,
     state: &mut NfsState,
     core: &mut Core,
-    opener: &Opener,
-    args: &OpenArgs,
-    file: u32,
-    confirmed: bool,
-    write: Option<bool>,
+    opening: &Opening,
+    opened: Opened,
 ) -> Result<(Told, Option<u32>), AllocError>
-    requires client { IsSome (find (is_client opener.now.client true) state.old.clients) }
+    requires client { IsSome (find (is_client opening.now.opener.now.client true) state.old.clients) }
     requires ready { IsReady 2 core.old }
-    ensures done { (n : ℕ) → IfOk result (λ r. carried n core.old state.old (granted_by core.old state.old opener.now (shown_open_args args.now) file confirmed write (open_held state.old opener.now file)) ≡ (r.0, r.1, [], state.new, core.new)) }
+    ensures done { (n : ℕ) → IfOk result (λ r. carried n core.old state.old (granted_by core.old state.old opening.now.opener.now (shown_open_args opening.now.args.now) opened.file opened.confirmed opened.write (open_held state.old opening.now.opener.now opened.file)) ≡ (r.0, r.1, [], state.new, core.new)) }
     ensures leaves { OnOk result (Leaves 2 core.old core.new) }
 {
-    match open_held(state, opener, file) {
+    match open_held(state, opening.opener, opened.file) {
         Some(row) => {
-            let said = grant_more(
-                alloc, state, core, opener, args, file, confirmed, write, &row,
-            )?;
+            let said = grant_more(alloc, state, core, opening, opened, &row)?;
             Ok(said)
         }
         None => {
-            let said = grant_new(alloc, state, core, opener, args, file, confirmed, write)?;
+            let said = grant_new(alloc, state, core, opening, opened)?;
             Ok(said)
         }
     }
@@ -207,27 +225,30 @@ fn answer(
     alloc: Global,
     state: &mut NfsState,
     core: &mut Core,
-    current: Option<u32>,
-    opener: &Opener,
-    args: &OpenArgs,
-    file: u32,
-    confirmed: bool,
-    wish: Option<bool>,
+    opening: &Opening,
+    opened: Opened,
     answer: Answer,
 ) -> Result<(Told, Option<u32>), AllocError>
-    requires client { IsSome (find (is_client opener.now.client true) state.old.clients) }
+    requires client { IsSome (find (is_client opening.now.opener.now.client true) state.old.clients) }
     requires ready { IsReady 2 core.old }
-    ensures done { (n : ℕ) → IfOk result (λ r. carried n core.old state.old (answered state.old current opener.now (shown_open_args args.now) file confirmed wish answer core.old) ≡ (r.0, r.1, [], state.new, core.new)) }
+    ensures done { (n : ℕ) → IfOk result (λ r. carried n core.old state.old (answered state.old (Some opening.now.at) opening.now.opener.now (shown_open_args opening.now.args.now) opened.file opened.confirmed opened.write answer core.old) ≡ (r.0, r.1, [], state.new, core.new)) }
     ensures leaves { OnOk result (Leaves 2 core.old core.new) }
 {
+    let (opener, args) = (opening.opener, opening.args);
     let reclaim = reclaims(&args.claim);
     if is_granted(answer) {
-        let write = granted_wish(alloc, core, opener, file, wish)?;
-        let confirmed = confirmed || reclaim;
-        let granted = grant(alloc, state, core, opener, args, file, confirmed, write)?;
+        let write = granted_wish(alloc, core, opener, opened.file, opened.write)?;
+        let confirmed = opened.confirmed || reclaim;
+        let opened = Opened {
+            file: opened.file,
+            confirmed,
+            write,
+        };
+        let granted = grant(alloc, state, core, opening, opened)?;
         return Ok(granted);
     }
     let status = answer_status(reclaim, answer);
+    let (current, confirmed) = (Some(opening.at), opened.confirmed);
     let ended = refuse(alloc, state, current, opener, args, confirmed, status)?;
     Ok(ended)
 }
@@ -236,31 +257,32 @@ fn answer(
 #[tactic(auto, using(crate::proofs::LeaveLaws::ask_ready, crate::proofs::LeaveLaws::asked_leaves, xl_plan::proofs::BudgetLaws::leaves_self, xl_plan::proofs::BudgetLaws::leaves_more))]
 fn open_on<K: Keeper>(
     alloc: Global,
-    others: u32,
     state: &mut NfsState,
     core: &mut Core,
     keeper: &mut K,
-    current: Option<u32>,
-    opener: &Opener,
-    args: &OpenArgs,
+    opening: &Opening,
     confirmed: bool,
     file: u32,
 ) -> Result<Done, AllocError>
-    requires client { IsSome (find (is_client opener.now.client true) state.old.clients) }
+    requires client { IsSome (find (is_client opening.now.opener.now.client true) state.old.clients) }
     requires ready { IsReady 4 core.old }
-    ensures done { (n : ℕ) → IfOk result (λ r. MayBe n core.new → carried n core.old state.old (open_on others core.old state.old current opener.now (shown_open_args args.now) confirmed file) ≡ (r.0, r.1, r.2, state.new, core.new)) }
+    ensures done { (n : ℕ) → IfOk result (λ r. MayBe n core.new → carried n core.old state.old (open_on opening.now.exported.others core.old state.old (Some opening.now.at) opening.now.opener.now (shown_open_args opening.now.args.now) confirmed file) ≡ (r.0, r.1, r.2, state.new, core.new)) }
     ensures leaves { OnOk result (Leaves 4 core.old core.new) }
     ensures keeper { HandedOn keeper.old keeper.new }
 {
-    if !has_room(state, others, opener, file) {
-        return Ok(ended_as(alloc, NfsStatus::Resource, current));
+    let (opener, args) = (opening.opener, opening.args);
+    if !has_room(state, opening.exported.others, opener, file) {
+        return Ok(ended_as(alloc, NfsStatus::Resource, Some(opening.at)));
     }
     let wish = wish_of(alloc, core, state, opener, args, confirmed, file)?;
     let request = share_ask(alloc, wish, opener, args, file)?;
     let (said, effects) = asked(alloc, core, keeper, request)?;
-    let (told, handle) = answer(
-        alloc, state, core, current, opener, args, file, confirmed, wish, said,
-    )?;
+    let opened = Opened {
+        file,
+        confirmed,
+        write: wish,
+    };
+    let (told, handle) = answer(alloc, state, core, opening, opened, said)?;
     Ok((told, handle, effects))
 }
 
@@ -268,32 +290,27 @@ fn open_on<K: Keeper>(
 #[tactic(auto, unfolding(crate::specs::Opens::open_as), using(xl_plan::proofs::BudgetLaws::leaves_self, xl_plan::proofs::BudgetLaws::leaves_more))]
 fn open_as<K: Keeper>(
     alloc: Global,
-    files: &[Sequence<u8>],
-    others: u32,
     state: &mut NfsState,
     core: &mut Core,
     keeper: &mut K,
-    at: u32,
-    opener: &Opener,
-    args: &OpenArgs,
+    opening: &Opening,
     confirmed: bool,
 ) -> Result<Done, AllocError>
-    requires client { IsSome (find (is_client opener.now.client true) state.old.clients) }
+    requires client { IsSome (find (is_client opening.now.opener.now.client true) state.old.clients) }
     requires ready { IsReady 4 core.old }
-    ensures done { (n : ℕ) → IfOk result (λ r. MayBe n core.new → carried n core.old state.old (open_as files.now others core.old state.old (Some at) at opener.now (shown_open_args args.now) confirmed) ≡ (r.0, r.1, r.2, state.new, core.new)) }
+    ensures done { (n : ℕ) → IfOk result (λ r. MayBe n core.new → carried n core.old state.old (open_as opening.now.exported.files.now opening.now.exported.others core.old state.old (Some opening.now.at) opening.now.at opening.now.opener.now (shown_open_args opening.now.args.now) confirmed) ≡ (r.0, r.1, r.2, state.new, core.new)) }
     ensures leaves { OnOk result (Leaves 4 core.old core.new) }
     ensures keeper { HandedOn keeper.old keeper.new }
 {
-    let current = Some(at);
+    let (at, opener, args) = (opening.at, opening.opener, opening.args);
+    let files = opening.exported.files;
     match opened_file(files, core, state, opener.client, at, args) {
         Ok(file) => {
-            let done = open_on(
-                alloc, others, state, core, keeper, current, opener, args, confirmed, file,
-            )?;
+            let done = open_on(alloc, state, core, keeper, opening, confirmed, file)?;
             Ok(done)
         }
         Err(status) => {
-            let said = refuse(alloc, state, current, opener, args, confirmed, status)?;
+            let said = refuse(alloc, state, Some(at), opener, args, confirmed, status)?;
             Ok(beside(alloc, said))
         }
     }
@@ -303,30 +320,24 @@ fn open_as<K: Keeper>(
 #[tactic(auto, using(xl_plan::proofs::BudgetLaws::leaves_then, xl_plan::proofs::BudgetLaws::ready_then, xl_plan::proofs::BudgetLaws::ready_less))]
 fn open_anew<K: Keeper>(
     alloc: Global,
-    files: &[Sequence<u8>],
-    others: u32,
     state: &mut NfsState,
     core: &mut Core,
     keeper: &mut K,
-    at: u32,
-    opener: &Opener,
-    args: &OpenArgs,
+    opening: &Opening,
     number: u64,
 ) -> Result<Done, AllocError>
-    requires client { IsSome (find (is_client opener.now.client true) state.old.clients) }
+    requires client { IsSome (find (is_client opening.now.opener.now.client true) state.old.clients) }
     requires ready { IsReady 4 core.old }
-    ensures done { (n : ℕ) → IfOk result (λ r. MayBe n core.new → carried n core.old state.old (open_judged files.now others core.old state.old (Some at) at opener.now (shown_open_args args.now) (Judged.Anew number)) ≡ (r.0, r.1, r.2, state.new, core.new)) }
+    ensures done { (n : ℕ) → IfOk result (λ r. MayBe n core.new → carried n core.old state.old (open_judged opening.now.exported.files.now opening.now.exported.others core.old state.old (Some opening.now.at) opening.now.at opening.now.opener.now (shown_open_args opening.now.args.now) (Judged.Anew number)) ≡ (r.0, r.1, r.2, state.new, core.new)) }
     ensures leaves { OnOk result (Leaves 4 core.old core.new) }
     ensures keeper { HandedOn keeper.old keeper.new }
 {
     let Ok(rows) = state.list_stateids(alloc, Whose::Owner(number)) else {
         return Err(AllocError);
     };
-    give_all(alloc, core, opener, rows.as_slice())?;
+    give_all(alloc, core, opening.opener, rows.as_slice())?;
     state.forget_owner(number);
-    let done = open_as(
-        alloc, files, others, state, core, keeper, at, opener, args, false,
-    )?;
+    let done = open_as(alloc, state, core, keeper, opening, false)?;
     Ok(done)
 }
 
@@ -334,40 +345,31 @@ fn open_anew<K: Keeper>(
 #[tactic(auto, using(xl_plan::proofs::BudgetLaws::leaves_self, xl_plan::proofs::BudgetLaws::leaves_more))]
 fn open_judged<K: Keeper>(
     alloc: Global,
-    files: &[Sequence<u8>],
-    others: u32,
     state: &mut NfsState,
     core: &mut Core,
     keeper: &mut K,
-    at: u32,
-    opener: &Opener,
-    args: &OpenArgs,
+    opening: &Opening,
     judged: Judged,
 ) -> Result<Done, AllocError>
-    requires client { IsSome (find (is_client opener.now.client true) state.old.clients) }
+    requires client { IsSome (find (is_client opening.now.opener.now.client true) state.old.clients) }
     requires ready { IsReady 4 core.old }
-    ensures done { (n : ℕ) → IfOk result (λ r. MayBe n core.new → carried n core.old state.old (open_judged files.now others core.old state.old (Some at) at opener.now (shown_open_args args.now) judged) ≡ (r.0, r.1, r.2, state.new, core.new)) }
+    ensures done { (n : ℕ) → IfOk result (λ r. MayBe n core.new → carried n core.old state.old (open_judged opening.now.exported.files.now opening.now.exported.others core.old state.old (Some opening.now.at) opening.now.at opening.now.opener.now (shown_open_args opening.now.args.now) judged) ≡ (r.0, r.1, r.2, state.new, core.new)) }
     ensures leaves { OnOk result (Leaves 4 core.old core.new) }
     ensures keeper { HandedOn keeper.old keeper.new }
 {
+    let current = Some(opening.at);
     match judged {
-        Judged::Bad => Ok(ended_as(alloc, NfsStatus::BadSeqid, Some(at))),
+        Judged::Bad => Ok(ended_as(alloc, NfsStatus::BadSeqid, current)),
         Judged::Repeats(number) => {
-            let done = repeat(alloc, state, core, Some(at), number)?;
+            let done = repeat(alloc, state, core, current, number)?;
             Ok(done)
         }
         Judged::Anew(number) => {
-            let done = open_anew(
-                alloc, files, others, state, core, keeper, at, opener, args, number,
-            )?;
+            let done = open_anew(alloc, state, core, keeper, opening, number)?;
             Ok(done)
         }
-        Judged::New => open_as(
-            alloc, files, others, state, core, keeper, at, opener, args, false,
-        ),
-        Judged::Next => open_as(
-            alloc, files, others, state, core, keeper, at, opener, args, true,
-        ),
+        Judged::New => open_as(alloc, state, core, keeper, opening, false),
+        Judged::Next => open_as(alloc, state, core, keeper, opening, true),
     }
 }
 
@@ -395,8 +397,7 @@ pub fn client_in<'a>(state: &'a NfsState, core: &Core, clientid: u64) -> Option<
 #[tactic(auto, using(xl_plan::proofs::BudgetLaws::leaves_self, xl_plan::proofs::BudgetLaws::leaves_more))]
 fn open_at<K: Keeper>(
     alloc: Global,
-    files: &[Sequence<u8>],
-    others: u32,
+    exported: &Exported,
     state: &mut NfsState,
     core: &mut Core,
     keeper: &mut K,
@@ -404,7 +405,7 @@ fn open_at<K: Keeper>(
     current: Option<u32>,
 ) -> Result<Done, AllocError>
     requires ready { IsReady 4 core.old }
-    ensures done { (n : ℕ) → IfOk result (λ r. MayBe n core.new → carried n core.old state.old (open_at files.now others core.old state.old (shown_open_args args.now) current) ≡ (r.0, r.1, r.2, state.new, core.new)) }
+    ensures done { (n : ℕ) → IfOk result (λ r. MayBe n core.new → carried n core.old state.old (open_at exported.now.files.now exported.now.others core.old state.old (shown_open_args args.now) current) ≡ (r.0, r.1, r.2, state.new, core.new)) }
     ensures leaves { OnOk result (Leaves 4 core.old core.new) }
     ensures keeper { HandedOn keeper.old keeper.new }
 {
@@ -416,9 +417,13 @@ fn open_at<K: Keeper>(
     };
     let opener = opener_of(alloc, row, args)?;
     let judged = judge(state, &opener, args.seqid);
-    let done = open_judged(
-        alloc, files, others, state, core, keeper, at, &opener, args, judged,
-    )?;
+    let opening = Opening {
+        exported: *exported,
+        at,
+        opener: &opener,
+        args,
+    };
+    let done = open_judged(alloc, state, core, keeper, &opening, judged)?;
     Ok(done)
 }
 
@@ -436,8 +441,7 @@ fn claim_client(state: &NfsState, core: &Core, claim: &OpenClaim) -> Option<u32>
 #[tactic(auto, unfolding(crate::specs::Opens::open_claimed), using(xl_plan::proofs::BudgetLaws::leaves_then, xl_plan::proofs::BudgetLaws::ready_then))]
 fn open_claimed<K: Keeper>(
     alloc: Global,
-    files: &[Sequence<u8>],
-    others: u32,
+    exported: &Exported,
     state: &mut NfsState,
     core: &mut Core,
     keeper: &mut K,
@@ -445,13 +449,13 @@ fn open_claimed<K: Keeper>(
     args: &OpenArgs,
 ) -> Result<Done, AllocError>
     requires ready { IsReady 4 core.old }
-    ensures done { (n : ℕ) → IfOk result (λ r. MayBe n core.new → carried n core.old state.old (open_claimed files.now others core.old state.old current (shown_open_args args.now)) ≡ (r.0, r.1, r.2, state.new, core.new)) }
+    ensures done { (n : ℕ) → IfOk result (λ r. MayBe n core.new → carried n core.old state.old (open_claimed exported.now.files.now exported.now.others core.old state.old current (shown_open_args args.now)) ≡ (r.0, r.1, r.2, state.new, core.new)) }
     ensures leaves { OnOk result (Leaves 4 core.old core.new) }
     ensures keeper { HandedOn keeper.old keeper.new }
 {
     let client = claim_client(state, core, &args.claim);
     renew_for(alloc, state, core, client)?;
-    let done = open_at(alloc, files, others, state, core, keeper, args, current)?;
+    let done = open_at(alloc, exported, state, core, keeper, args, current)?;
     Ok(done)
 }
 
@@ -459,8 +463,7 @@ fn open_claimed<K: Keeper>(
 #[tactic(auto, unfolding(crate::specs::Opens::open_file), using(xl_plan::proofs::BudgetLaws::leaves_then, xl_plan::proofs::BudgetLaws::ready_then))]
 pub fn open_file<K: Keeper>(
     alloc: Global,
-    files: &[Sequence<u8>],
-    others: u32,
+    exported: &Exported,
     state: &mut NfsState,
     core: &mut Core,
     keeper: &mut K,
@@ -468,12 +471,12 @@ pub fn open_file<K: Keeper>(
     args: &OpenArgs,
 ) -> Result<Done, AllocError>
     requires ready { IsReady 4 core.old }
-    ensures done { (n : ℕ) → IfOk result (λ r. MayBe n core.new → carried n core.old state.old (open_file files.now others core.old state.old current (shown_open_args args.now)) ≡ (r.0, r.1, r.2, state.new, core.new)) }
+    ensures done { (n : ℕ) → IfOk result (λ r. MayBe n core.new → carried n core.old state.old (open_file exported.now.files.now exported.now.others core.old state.old current (shown_open_args args.now)) ≡ (r.0, r.1, r.2, state.new, core.new)) }
     ensures leaves { OnOk result (Leaves 4 core.old core.new) }
     ensures keeper { HandedOn keeper.old keeper.new }
 {
     let client = number_in(core, args.owner.clientid);
     renew_for(alloc, state, core, client)?;
-    let done = open_claimed(alloc, files, others, state, core, keeper, current, args)?;
+    let done = open_claimed(alloc, exported, state, core, keeper, current, args)?;
     Ok(done)
 }

@@ -1,6 +1,5 @@
 -- A body begins with its size, and names parts of the frame by offset and length (MS-SMB2 2.2). A fixed part of an odd
--- size is one byte shorter than that: the size counts the first byte of the part behind it. The bytes that no field names
--- are free when they are read, and zeros when they are written (SMB-4).
+-- size is one byte shorter than that: the size counts the first byte of the part behind it.
 use Rattle.std.specs.Prelude.{ℕ, false, List, None, Result}
 use Rattle.xl_layout.specs.Layouts.{U16, Layout, part}
 use Rattle.xl_layout.specs.Forms.{Form, form_read, Body, body_read}
@@ -18,7 +17,8 @@ number_of_fault Offset = 4
 abbrev pub buffer : {A : Type 0} → (A → List ℕ) → (List ℕ → Layout A) → Layout A
 buffer get rest = part (record { offset = U16; count = U16; empty_at_0 = false; test = None }) get rest
 
--- a body behind the header of 64 bytes, of this size and so many fixed bytes
+-- a body behind the header of 64 bytes, of this size and so many fixed bytes; those that no field names are free when they are
+-- read, and zeros when they are written (SMB-4)
 abbrev pub form : {A : Type 0} → ℕ → ℕ → Layout A → Form A
 form size fixed layout = record { before = 64; size = size; fixed = fixed; layout = layout }
 

@@ -6,4 +6,4 @@ use Rattle.xl_nfs_locks.proofs.joining.join_answered.Goals as goal
 
 pub returns-then-not-is_granted-clause-done : goal.returns-then-not-is_granted-clause-done
 returns-then-not-is_granted-clause-done c = λ n. rw (sym c.is_granted.ensures ∙ c.if-not-is_granted.true)
-    (ap (λ (t : Told). carried n c.args.core.now c.args.state.now (both_refused c.args.state.now c.args.current c.args.both c.args.locker.now t)) (sym c.in_ok-told.ensures) ∙ c.in_ok-ended.ensures n c.args.core.now)
+    (ap (λ (t : Told). carried n c.args.core.now c.args.state.now (both_refused c.args.state.now c.args.on.now.turn.asked.current c.args.on.now.turn.both c.args.on.now.locker.now t)) (sym c.in_ok-told.ensures) ∙ c.in_ok-ended.ensures n c.args.core.now)

@@ -14,9 +14,9 @@ returns-clause-done g c = λ n may.
     let s = c.args.core.now in
     let t = c.asked.new.core in
     let l = c.args.state.now in
-    let a = c.args.args.now in
+    let a = c.args.on.now.turn.asked.args.now in
     let before = may_before n 2 t c.join_answered.new.core c.in_ok-told.ensures.leaves may in
-    rw c.requires.room (asking_done n s t c.join_answered.new.core l c.join_answered.new.state c.in_ok-told.handle all_rooms (lock_ask c.args.locker.now c.args.above.now.file a.kind a.reclaim a.offset c.args.last) (join_answered l c.args.current c.args.both c.args.locker.now c.args.above.now c.args.had a.reclaim) c.in_ok-said.said c.in_ok-told.told c.in_ok-said.effects
+    rw c.requires.room (asking_done n s t c.join_answered.new.core l c.join_answered.new.state c.in_ok-told.handle all_rooms (lock_ask c.args.on.now.locker.now c.args.on.now.turn.above.file a.kind a.reclaim a.offset c.args.last) (join_answered l c.args.on.now.turn.asked.current c.args.on.now.turn.both c.args.on.now.locker.now c.args.on.now.turn.above c.args.on.now.had a.reclaim) c.in_ok-said.said c.in_ok-told.told c.in_ok-said.effects
     (ap (λ (q : Ask). ask n all_rooms s q) (sym c.in_ok-request.ensures.value) ∙ c.in_ok-said.ensures.state n before) (c.in_ok-told.ensures.done n))
 
 pub returns-clause-leaves : goal.returns-clause-leaves

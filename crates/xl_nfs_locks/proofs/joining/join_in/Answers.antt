@@ -8,5 +8,5 @@ use Rattle.xl_nfs_locks.proofs.joining.join_in.Goals as goal
 pub returns-in_ok-ended-in-Err-clause-done : goal.returns-in_ok-ended-in-Err-clause-done
 returns-in_ok-ended-in-Err-clause-done g c = λ n may.
     rw c.beside.ensures
-    (ap (λ (o : Result ℕ NfsStatus). carried n c.args.core.now c.args.state.now (join_to c.args.state.now c.args.current (shown_lock_args c.args.args.now) c.args.both c.args.locker.now c.args.above.now c.args.had o)) (sym c.in-Err.ensures.value)
+    (ap (λ (o : Result ℕ NfsStatus). carried n c.args.core.now c.args.state.now (join_to c.args.state.now c.args.on.now.turn.asked.current (shown_lock_args c.args.on.now.turn.asked.args.now) c.args.on.now.turn.both c.args.on.now.locker.now c.args.on.now.turn.above c.args.on.now.had o)) (sym c.in-Err.ensures.value)
     ∙ c.in_ok-ended-in-Err.ensures n c.args.core.now)

@@ -14,7 +14,7 @@ returns-clause-done g c = λ n may.
     let s = c.args.core.now in
     let t = c.asked.new.core in
     let l = c.args.state.now in
-    asking_done n s t t l c.unlocked_as.new.state c.in_ok-told.handle all_rooms (unlock_ask c.args.by.now c.args.row.now.file c.args.args.now.offset c.args.last)
-    (λ answer u. unlocked_as u l c.args.current c.args.args.now c.args.row.now c.args.owner c.args.seqids (unlock_status answer)) c.in_ok-said.said c.in_ok-told.told c.in_ok-said.effects
+    asking_done n s t t l c.unlocked_as.new.state c.in_ok-told.handle all_rooms (unlock_ask c.args.by.now c.args.turn.now.found.row.file c.args.turn.now.args.now.offset c.args.last)
+    (λ answer u. unlocked_as u l c.args.turn.now.current c.args.turn.now.args.now c.args.turn.now.found.row c.args.turn.now.found.owner c.args.turn.now.found.seqids (unlock_status answer)) c.in_ok-said.said c.in_ok-told.told c.in_ok-said.effects
     (ap (λ (q : Ask). ask n all_rooms s q) (sym c.in_ok-request.ensures.value) ∙ c.in_ok-said.ensures.state n may)
-    (ap (λ (x : NfsStatus). carried n t l (unlocked_as t l c.args.current c.args.args.now c.args.row.now c.args.owner c.args.seqids x)) (sym c.unlock_status-status.ensures) ∙ c.in_ok-told.ensures n)
+    (ap (λ (x : NfsStatus). carried n t l (unlocked_as t l c.args.turn.now.current c.args.turn.now.args.now c.args.turn.now.found.row c.args.turn.now.found.owner c.args.turn.now.found.seqids x)) (sym c.unlock_status-status.ensures) ∙ c.in_ok-told.ensures n)
