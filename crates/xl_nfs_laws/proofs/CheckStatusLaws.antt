@@ -1,7 +1,7 @@
 -- With which status a request on a stateid is refused, and that it is answered so.
 use Rattle.std.proofs.Common.{◌≡◌, ℕ, ◌<◌, Bool, true, false, [], Option, Some, None, is_some, refl, sym, ap, ◌∙◌, ◌↔◌, inl, inr, arith, true≢false, not}
 use Rattle.std.proofs.lemmas.Bool.{cases_Bool, ltb-false, ltb-true}
-use Rattle.std.specs.Bool.{◌==◌, beq}
+use Rattle.std.specs.Bool.{beq}
 use Rattle.std.specs.Cmp.{booleans_Decides}
 use Rattle.std.specs.Prelude.{◌⊎◌, nat_lt, if◌then◌else◌}
 use Rattle.xl_nfs.specs.Locks.{LockArgsItem, NewLockerItem}

@@ -6,7 +6,6 @@ use Rattle.std.specs.List.{find}
 use Rattle.xl_nfs.specs.Basics.{OwnerItem}
 use Rattle.xl_nfs.specs.Locks.{LockArgsItem, LockTestArgsItem, LockerItem, NewLockerItem, New, Known}
 use Rattle.xl_nfs.specs.Outcomes.{is_ok}
-use Rattle.xl_nfs.specs.declared.basics.Stateid.{Stateid}
 use Rattle.xl_nfs.specs.declared.locks.KnownLocker.{KnownLocker}
 use Rattle.xl_nfs.specs.declared.locks.UnlockArgs.{UnlockArgs}
 use Rattle.xl_nfs.specs.declared.status.NfsStatus.{NfsStatus}

@@ -1,8 +1,6 @@
 -- What a check that passes found: a stateid that isn't closed, and its owner, whose requests came this far.
 use Rattle.std.proofs.Common.{◌≡◌, ℕ, false, Option, Some, refl}
-use Rattle.std.specs.Bool.{◌==◌}
 use Rattle.std.specs.List.{find}
-use Rattle.std.specs.Prelude.{if◌then◌else◌}
 use Rattle.xl_nfs.specs.declared.basics.Stateid.{Stateid}
 use Rattle.xl_nfs_state.specs.State.{NfsLists, is_owner, is_stateid}
 use Rattle.xl_nfs_state.specs.declared.owner.OwnerKind.{OwnerKind}

@@ -1,5 +1,5 @@
 -- What the calls of the core tell, and which delegations may be recalled.
-use Rattle.std.proofs.Common.{◌≡◌, ℕ, suc, true, false, List, [], ◌∷◌, ◌++◌, Option, Some, None, refl, sym, ap, ◌∙◌, inl, inr, true≢false, arith}
+use Rattle.std.proofs.Common.{◌≡◌, ℕ, suc, false, List, [], ◌∷◌, ◌++◌, Option, Some, None, refl, sym, ap, ◌∙◌, inl, inr, true≢false, arith}
 use Rattle.std.proofs.lemmas.Bool.{cases_Bool, and_right}
 use Rattle.xl_core.specs.Deeds.{GivesBack, Weakens, Renews, all_told_of}
 use Rattle.xl_core.specs.Settle.{give_back, share_has, weaken}
