@@ -27,6 +27,7 @@ SHORT_LIST = {
     ("xl_house", "act_and_enter"): "the push is that of a list",
     ("xl_nfs_state", "enter"): "the insert is that of a map",
     ("xl_work", "enter"): "a call was refused: the look behind it fails for memory alone",
+    ("xl_work", "enter_tick"): "the same of the clock's reading",
     ("xl_work", "turn"): "the outcome of a call without an answer, none of a caller that had no memory",
 }
 """By crate and function why an error of memory may be made there though the name of the call, or its error, tells more."""

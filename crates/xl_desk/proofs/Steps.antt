@@ -57,6 +57,13 @@ either_is None None halt same two = same
 either_is None (Some reason) halt same two = absurd (cc (same, two))
 either_is (Some reason) b halt same two = same
 
+-- a halt that was heard of is the machine's, behind the journal that was told
+hears_all : (a b halt : Option Halt) (log told : List Entry) → IfSome a (λ reason. halt ≡ Some reason) → IfSome b (λ reason. halt ≡ Some reason) → IfSome b (λ _. told ≡ log) → IfSome b (λ reason. (either_halt a b ≡ Some reason) × (log ≡ told))
+hears_all None None halt log told one two all = tt
+hears_all None (Some reason) halt log told one two all = (refl, sym all)
+hears_all (Some first) None halt log told one two all = tt
+hears_all (Some first) (Some reason) halt log told one two all = (sym one ∙ two, sym all)
+
 of_all : (x : Option Halt) (P : Type 0) → P → IfSome x (λ _. P)
 of_all None P p = tt
 of_all (Some reason) P p = p
@@ -225,7 +232,7 @@ module _ {H O : Type 0} (history : H → List Entry) (halt_of : H → Option Hal
         subst (λ (z : ℕ). Rule (stepped s 2 z id m.1 w (takes 0 (Some h)))) (sym now)
             (quiet s r r.halt ws (set s.homes 0 none) id v w at (length-set s.words 2 1 ∙ wide) w0 (w1 ∙ r.halted) r.may (omega arith) (λ e. absurd (omega arith)) (λ _. set_here s.homes 0 none (omega arith)) (omega arith)
             (λ j u other there. r.each j u there)
-            record { seen = subst (λ (z : List Entry). IsPrefix z r.log) (sym is.0) (whole r.log); told = fits.told; whole = λ _. is.0; stops = λ _. is.1; final = subst (λ (z : Option Halt). IfSome z (λ reason. r.halt ≡ Some reason)) (sym is.1) (final_self r.halt); heard = fits.heard; ends = of_all (halt_of h) (history h ≡ r.log) is.0; mine = fits.mine; based = fits.based; spent = λ e. absurd (omega arith) }
+            record { seen = subst (λ (z : List Entry). IsPrefix z r.log) (sym is.0) (whole r.log); told = fits.told; whole = λ _. is.0; stops = λ _. is.1; final = subst (λ (z : Option Halt). IfSome z (λ reason. r.halt ≡ Some reason)) (sym is.1) (final_self r.halt); heard = fits.heard; ends = of_all (halt_of h) (history h ≡ r.log) is.0; hears = fits.hears; mine = fits.mine; based = fits.based; spent = λ e. absurd (omega arith) }
             refl refl refl),
         ((λ _. (h, refl, subst (λ (z : List Entry). IsPrefix v.seen z) (sym is.0) fits.seen, subst (λ (z : O × List Entry). lawful z.0 z.1) (λ i. (sym is.2 i, sym is.0 i)) r.legal, (fits.based live).0 ∙ ap Some (sym is.2), (fits.based live).1 ∙ ap first (sym is.2), subst (λ (z : Option Halt). IfSome v.halt (λ reason. z ≡ Some reason)) (sym is.1) fits.final, some_as v.halt (v.seen ≡ r.log) (history h ≡ v.seen) (λ e. is.0 ∙ sym e) fits.ends)), (λ e. absurd (e free))),
       ))
@@ -270,8 +277,8 @@ module _ {H O : Type 0} (history : H → List Entry) (halt_of : H → Option Hal
         keeps,
         tt,
         quiet s r (Some reason) ws s.homes id v w at (length-set s.words 1 k ∙ wide) w0 (w1 ∙ is) (subst (λ (z : List Entry). may_halt z reason) (fits.whole turn) may) (omega arith) (λ e. absurd (omega arith)) (λ e. r.away (sym w2 ∙ e)) (omega arith)
-            (λ j u other there. let u_fits = r.each j u there in let idle = idle_else s r id v at turn j u other there in record { seen = u_fits.seen; told = u_fits.told; whole = u_fits.whole; stops = λ e. absurd (cc (idle, e)); final = may_of (λ other. Some reason ≡ Some other) u.halt (none_seen u.halt r.halt u_fits.final none_yet); heard = may_of (λ other. Some reason ≡ Some other) u.heard (none_seen u.heard r.halt u_fits.heard none_yet); ends = u_fits.ends; mine = u_fits.mine; based = u_fits.based; spent = u_fits.spent })
-            record { seen = fits.seen; told = fits.told; whole = fits.whole; stops = λ _. refl; final = refl; heard = may_of (λ other. Some reason ≡ Some other) v.heard (none_seen v.heard r.halt fits.heard none_yet); ends = fits.whole turn; mine = fits.mine; based = fits.based; spent = fits.spent }
+            (λ j u other there. let u_fits = r.each j u there in let idle = idle_else s r id v at turn j u other there in record { seen = u_fits.seen; told = u_fits.told; whole = u_fits.whole; stops = λ e. absurd (cc (idle, e)); final = may_of (λ other. Some reason ≡ Some other) u.halt (none_seen u.halt r.halt u_fits.final none_yet); heard = may_of (λ other. Some reason ≡ Some other) u.heard (none_seen u.heard r.halt u_fits.heard none_yet); ends = u_fits.ends; hears = u_fits.hears; mine = u_fits.mine; based = u_fits.based; spent = u_fits.spent })
+            record { seen = fits.seen; told = fits.told; whole = fits.whole; stops = λ _. refl; final = refl; heard = may_of (λ other. Some reason ≡ Some other) v.heard (none_seen v.heard r.halt fits.heard none_yet); ends = fits.whole turn; hears = fits.hears; mine = fits.mine; based = fits.based; spent = fits.spent }
             refl refl refl,
         (reason, hand, refl),
       )
@@ -299,7 +306,7 @@ module _ {H O : Type 0} (history : H → List Entry) (halt_of : H → Option Hal
             (quiet s r r.halt ws (set s.homes 0 (some (Some h))) id v w at (length-set s.words 2 0 ∙ wide) w0 (w1 ∙ r.halted) r.may (omega arith)
             (λ _. (h, set_here s.homes 0 (some (Some h)) (omega arith), (same ∙ fits.whole turn, stop ∙ fits.stops turn, same_some (origin_of h) r.origin v.origin began (fits.based live).0))) (λ e. absurd (omega arith)) (omega arith)
             (λ j u other there. r.each j u there)
-            record { seen = fits.seen; told = fits.told; whole = λ e. absurd (cc e); stops = λ e. absurd (cc e); final = fits.final; heard = fits.heard; ends = fits.ends; mine = fits.mine; based = fits.based; spent = λ e. (refl, (fits.spent e).1, (fits.spent e).2) }
+            record { seen = fits.seen; told = fits.told; whole = λ e. absurd (cc e); stops = λ e. absurd (cc e); final = fits.final; heard = fits.heard; ends = fits.ends; hears = fits.hears; mine = fits.mine; based = fits.based; spent = λ e. (refl, (fits.spent e).1, (fits.spent e).2) }
             refl refl refl),
         refl,
       )
@@ -360,6 +367,7 @@ module _ {H O : Type 0} (history : H → List Entry) (halt_of : H → Option Hal
               final = fits.final;
               heard = fits.heard;
               ends = may_of (λ _. log ≡ log) v.halt runs;
+              hears = may_of (λ _. v.told ≡ log) v.heard (none_seen v.heard r.halt fits.heard none_yet);
               mine = one_more log r.start v.mine c (still_stand v.seen entry r.start v.mine (subst (λ (z : List Entry). AllStand z r.start v.mine) (sym all) fits.mine)) start_in (omega arith) (last_stands v.seen entry);
               based = fits.based;
               spent = λ e. absurd (omega arith);
@@ -374,6 +382,7 @@ module _ {H O : Type 0} (history : H → List Entry) (halt_of : H → Option Hal
               final = u_fits.final;
               heard = u_fits.heard;
               ends = may_of (λ _. u.seen ≡ log) u.halt (none_seen u.halt r.halt u_fits.final none_yet);
+              hears = may_of (λ _. u.told ≡ log) u.heard (none_seen u.heard r.halt u_fits.heard none_yet);
               mine = still_stand v.seen entry r.start u.mine (subst (λ (z : List Entry). AllStand z r.start u.mine) (sym all) u_fits.mine);
               based = u_fits.based;
               spent = u_fits.spent;
@@ -429,6 +438,12 @@ module _ {H O : Type 0} (history : H → List Entry) (halt_of : H → Option Hal
         ap (λ (z : Sat H O). z.0) now,
       )
 
+  -- the seat with all shares has made all calls
+  all_made : (s : St) (r : Rule s) (id : ℕ) (v : View O) → get_elem? s.views id ≡ some v → v.shares ≡ all_shares → total made_of s.views ≡ v.made
+  all_made s r id v at all =
+      let shares = r.shares in
+      alone_in made_of s.views id v at (λ j u other there. let two = parts_below shares_of s.views j id u v other there at in ((r.each j u there).spent (omega arith)).1)
+
   pub sees : (n id : ℕ) (m : Sat H O) → 0 < m.0.shares → Allows Rule n id m 0 (λ n. n) (seen_more lawful (step n 0 0 0 none) m)
   sees n id m live s r _ at _ =
       let v = m.0 in
@@ -437,8 +452,8 @@ module _ {H O : Type 0} (history : H → List Entry) (halt_of : H → Option Hal
         w,
         keeps,
         tt,
-        unmoved s r 0 id m.1 v w at refl record { seen = whole r.log; told = fits.told; whole = λ _. refl; stops = λ e. either_is v.halt v.heard r.halt (fits.stops e) fits.heard; final = either_final v.halt v.heard r.halt fits.final fits.heard; heard = tt; ends = of_all (either_halt v.halt v.heard) (r.log ≡ r.log) refl; mine = fits.mine; based = fits.based; spent = fits.spent } refl refl refl,
-        (r.log, refl, fits.seen, fits.told, (let counted = r.counted in let based = (fits.based live).1 in omega arith), subst (λ (z : Option O). IfSome z (λ origin. lawful origin r.log)) (sym (fits.based live).0) r.legal, some_as v.halt (v.seen ≡ r.log) (r.log ≡ v.seen) (λ e. sym e) fits.ends),
+        unmoved s r 0 id m.1 v w at refl record { seen = whole r.log; told = fits.told; whole = λ _. refl; stops = λ e. either_is v.halt v.heard r.halt (fits.stops e) fits.heard; final = either_final v.halt v.heard r.halt fits.final fits.heard; heard = tt; ends = of_all (either_halt v.halt v.heard) (r.log ≡ r.log) refl; hears = tt; mine = fits.mine; based = fits.based; spent = fits.spent } refl refl refl,
+        (r.log, refl, fits.seen, fits.told, (let counted = r.counted in let based = (fits.based live).1 in omega arith), subst (λ (z : Option O). IfSome z (λ origin. lawful origin r.log)) (sym (fits.based live).0) r.legal, some_as v.halt (v.seen ≡ r.log) (r.log ≡ v.seen) (λ e. sym e) fits.ends, hears_all v.halt v.heard r.halt r.log v.told fits.final fits.heard fits.hears, (λ all. let mine = all_made s r id v at all in let made = r.made in let began = (fits.based live).2 in omega arith)),
       )
 
   pub opens : (n k : ℕ) (h : H) → n ≡ first (origin_of h) + length (history h) → k ≡ number_of (halt_of h) → IfSome (halt_of h) (λ reason. may_halt (history h) reason) → lawful (origin_of h) (history h)
@@ -465,7 +480,7 @@ module _ {H O : Type 0} (history : H → List Entry) (halt_of : H → Option Hal
   }
     where
       fits : (h : H) → Fits (origin_of h) (first (origin_of h)) (length (history h)) (history h) (halt_of h) (opened (origin_of h) (first (origin_of h)) (history h) (halt_of h))
-      fits h = record { seen = whole (history h); told = (history h, refl); whole = λ e. absurd (cc e); stops = λ e. absurd (cc e); final = final_self (halt_of h); heard = tt; ends = of_all (halt_of h) (history h ≡ history h) refl; mine = tt; based = λ _. (refl, refl, refl); spent = λ z. absurd (omega arith) }
+      fits h = record { seen = whole (history h); told = (history h, refl); whole = λ e. absurd (cc e); stops = λ e. absurd (cc e); final = final_self (halt_of h); heard = tt; ends = of_all (halt_of h) (history h ≡ history h) refl; hears = tt; mine = tt; based = λ _. (refl, refl, refl); spent = λ z. absurd (omega arith) }
 
       first_fits : (h : H) (j : ℕ) (u : View O) → get_elem? (opened (origin_of h) (first (origin_of h)) (history h) (halt_of h) ∷ []) j ≡ some u → Fits (origin_of h) (first (origin_of h)) (length (history h)) (history h) (halt_of h) u
       first_fits h zero u at = subst (λ (z : View O). Fits (origin_of h) (first (origin_of h)) (length (history h)) (history h) (halt_of h) z) (some-injective (opened (origin_of h) (first (origin_of h)) (history h) (halt_of h)) u at) (fits h)
@@ -481,8 +496,8 @@ module _ {H O : Type 0} (history : H → List Entry) (halt_of : H → Option Hal
       let odd : v.shares % 2 < 2 = mod-lt v.shares (omega arith) in
       let views : List (View O) = set s.views id w in
       let all_times : (p : ℕ) → total (times_of p) (views ++ u ∷ []) ≡ total (times_of p) s.views = λ p. let sums = total_set (times_of p) s.views id v w at in let more = total_append (times_of p) views (u ∷ []) in omega arith in
-      let w_fits : FitsIn s r w = record { seen = fits.seen; told = fits.told; whole = fits.whole; stops = fits.stops; final = fits.final; heard = fits.heard; ends = fits.ends; mine = fits.mine; based = λ _. fits.based (omega arith); spent = λ e. absurd (omega arith) } in
-      let u_fits : FitsIn s r u = record { seen = fits.seen; told = (r.log, refl); whole = λ e. absurd (cc e); stops = λ e. absurd (cc e); final = fits.final; heard = fits.heard; ends = fits.ends; mine = tt; based = λ _. fits.based (omega arith); spent = λ e. (refl, refl, refl) } in
+      let w_fits : FitsIn s r w = record { seen = fits.seen; told = fits.told; whole = fits.whole; stops = fits.stops; final = fits.final; heard = fits.heard; ends = fits.ends; hears = fits.hears; mine = fits.mine; based = λ _. fits.based (omega arith); spent = λ e. absurd (omega arith) } in
+      let u_fits : FitsIn s r u = record { seen = fits.seen; told = (r.log, refl); whole = λ e. absurd (cc e); stops = λ e. absurd (cc e); final = fits.final; heard = tt; ends = fits.ends; hears = tt; mine = tt; based = λ _. fits.based (omega arith); spent = λ e. (refl, refl, refl) } in
       record {
         log = r.log;
         start = r.start;
@@ -511,8 +526,8 @@ module _ {H O : Type 0} (history : H → List Entry) (halt_of : H → Option Hal
       let fits = r.each id v at in
       let was_there : get_elem? s.views other ≡ some w = sym (set_else s.views id other x apart) ∙ there in
       let w_fits = r.each other w was_there in
-      let x_fits : FitsIn s r x = record { seen = fits.seen; told = w_fits.seen; whole = fits.whole; stops = λ e. absurd (cc (idle, e)); final = fits.final; heard = w_fits.final; ends = fits.ends; mine = together r.log r.start v.mine w.mine fits.mine w_fits.mine; based = λ _. fits.based live; spent = λ e. absurd (omega arith) } in
-      let none_fits : FitsIn s r spent = record { seen = (r.log, refl); told = (r.log, refl); whole = λ e. absurd (cc e); stops = λ e. absurd (cc e); final = tt; heard = tt; ends = tt; mine = tt; based = λ e. absurd (omega arith); spent = λ e. (refl, refl, refl) } in
+      let x_fits : FitsIn s r x = record { seen = fits.seen; told = w_fits.seen; whole = fits.whole; stops = λ e. absurd (cc (idle, e)); final = fits.final; heard = w_fits.final; ends = fits.ends; hears = w_fits.ends; mine = together r.log r.start v.mine w.mine fits.mine w_fits.mine; based = λ _. fits.based live; spent = λ e. absurd (omega arith) } in
+      let none_fits : FitsIn s r spent = record { seen = (r.log, refl); told = (r.log, refl); whole = λ e. absurd (cc e); stops = λ e. absurd (cc e); final = tt; heard = tt; ends = tt; hears = tt; mine = tt; based = λ e. absurd (omega arith); spent = λ e. (refl, refl, refl) } in
       let v_off : turn_of v ≡ 0 = ap bit idle in
       let w_off : turn_of w ≡ 0 = ap bit still in
       let all_times : (p : ℕ) → total (times_of p) (set views other spent) ≡ total (times_of p) s.views = λ p. let one = total_set (times_of p) s.views id v x at in let two = total_set (times_of p) views other w spent there in let more = total_append (λ (c : ℕ × Event). bit (c.0 == p)) v.mine w.mine in omega arith in
@@ -550,7 +565,7 @@ module _ {H O : Type 0} (history : H → List Entry) (halt_of : H → Option Hal
       let turns = r.turns in
       let no_turn : total turn_of s.views ≡ turn_of v = alone_in turn_of s.views id v at (λ j u other there. ap bit (nobody j u other there).0) in
       let me_off : turn_of v ≡ 0 = ap bit idle in
-      let all_made : total made_of s.views ≡ v.made = alone_in made_of s.views id v at (λ j u other there. (nobody j u other there).1) in
+      let mine : total made_of s.views ≡ v.made = all_made s r id v at all in
       let all_times : (p : ℕ) → total (times_of p) s.views ≡ times p v.mine = λ p. alone_in (times_of p) s.views id v at (λ j u other there. ap (times p) (nobody j u other there).2) in
       let t = r.home (omega arith) in
       let h : H = t.0 in

@@ -68,7 +68,8 @@ module _ {O : Type 0} where
     pub goes : Goes before after
     pub none : MadeNone before after
 
-  -- the pass has seen at least what both had seen, has both passes' calls, and both one's shares
+  -- The pass has seen at least what both had seen, has both passes' calls, and both one's shares. A halt that either has seen
+  -- is final, and the pass has seen just the journal that it had seen then.
   pub record IsJoined (before other after : View O) : Type 0 where
     pub goes : Goes before after
     pub told : IsPrefix other.seen after.seen
@@ -76,3 +77,4 @@ module _ {O : Type 0} where
     pub made : after.made ≡ before.made + other.made
     pub shares : after.shares ≡ before.shares + other.shares
     pub halt : after.halt ≡ either_halt before.halt other.halt
+    pub stops : IfSome other.halt (λ reason. (after.halt ≡ Some reason) × (after.seen ≡ other.seen))

@@ -77,6 +77,7 @@ module _ {O : Type 0} where
     pub final : IfSome v.halt (λ reason. halt ≡ Some reason)
     pub heard : IfSome v.heard (λ reason. halt ≡ Some reason)
     pub ends : IfSome v.halt (λ _. v.seen ≡ log)
+    pub hears : IfSome v.heard (λ _. v.told ≡ log)
     pub mine : AllStand log start v.mine
     pub based : 0 < v.shares → (v.origin ≡ Some origin) × (v.first ≡ base) × (v.start ≡ start)
     pub spent : v.shares ≡ 0 → (v.turn ≡ false) × (v.made ≡ 0) × (v.mine ≡ [])
@@ -102,7 +103,7 @@ module _ {O : Type 0} where
   halved v = record v { shares = v.shares - v.shares / 2 }
 
   abbrev pub half : View O → View O
-  half v = record v { told = []; mine = []; made = 0; shares = v.shares / 2; turn = false }
+  half v = record v { told = []; mine = []; made = 0; shares = v.shares / 2; turn = false; heard = None }
 
   -- what the other seat has seen is told, until the next look
   abbrev pub both : View O → View O → View O
@@ -189,7 +190,7 @@ module _ {H O : Type 0} where
 
   -- the whole journal is seen
   abbrev pub seen_more : (O → List Entry → Type 0) → Step (Option H) → Sat H O → ℕ → Sat H O → Type 0
-  seen_more lawful st m r m' = (log : List Entry) × (m' ≡ (looked m.0 log, m.1)) × IsPrefix m.0.seen log × IsPrefix m.0.told log × (m.0.first + length log ≡ r) × Began m.0 (λ origin. lawful origin log) × IfSome m.0.halt (λ _. log ≡ m.0.seen)
+  seen_more lawful st m r m' = (log : List Entry) × (m' ≡ (looked m.0 log, m.1)) × IsPrefix m.0.seen log × IsPrefix m.0.told log × (m.0.first + length log ≡ r) × Began m.0 (λ origin. lawful origin log) × IfSome m.0.halt (λ _. log ≡ m.0.seen) × IfSome m.0.heard (λ reason. (either_halt m.0.halt m.0.heard ≡ Some reason) × (log ≡ m.0.told)) × (m.0.shares ≡ all_shares → length log ≡ m.0.start + m.0.made)
 
 -- ---- who has the turn
 

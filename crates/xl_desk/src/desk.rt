@@ -169,6 +169,8 @@ impl<H: Serial> Desk<H> {
         ensures lawful { IsLawful H.first H.lawful pass.new.view }
         ensures looked { IsLooked pass.old.view pass.new.view }
         ensures end { result ≡ pass.new.view.first + length pass.new.view.seen }
+        // A pass with all shares sees all entries, and no other can enter any.
+        ensures whole { pass.new.view.shares ≡ all_shares → length pass.new.view.seen ≡ pass.new.view.start + pass.new.view.made }
     {
         self.table.shared.load::<See>(&mut pass.seat, 0)
     }

@@ -9,7 +9,8 @@ use std::alloc::{AllocError, Global};
 use std::marker::Model;
 use xl_base::{Dest, Entry, Event, Halt, Out, Sequence, Serial};
 
-/// A machine that sends each message back to its connection while that is open. A message that begins with a question mark
+/// A machine that sends each message back to its connection while that is open, or to that which the byte behind an exclamation
+/// mark names. A message that begins with a question mark
 /// asks for a call too, whose number is its place, and so does each reading of the clock, with the moment as the number. The
 /// first entry has a place of choice, and the machine is full with so many entries.
 #[derive(Drop)]
@@ -75,6 +76,14 @@ fn call_of(alloc: Global, number: u64) -> Result<Out, AllocError>
     })
 }
 
+/// The connection that a message goes to, which came from this one.
+fn addressee(conn: u64, bytes: &[u8]) -> u64 {
+    match bytes {
+        [b'!', number, ..] => u64::from(*number),
+        _ => conn,
+    }
+}
+
 /// What an event is answered at this place, behind these entries.
 fn answer(
     alloc: Global,
@@ -87,8 +96,9 @@ fn answer(
     let mut outs = Sequence::new(alloc);
     match event {
         Event::Message(conn, bytes) => {
-            if *conn < place && !has_ended(entries, *conn) {
-                outs.push(echo_of(alloc, *conn, bytes.as_slice())?)?;
+            let to = addressee(*conn, bytes.as_slice());
+            if to < place && !has_ended(entries, to) {
+                outs.push(echo_of(alloc, to, bytes.as_slice())?)?;
             }
             if let [b'?', ..] = bytes.as_slice() {
                 outs.push(call_of(alloc, place)?)?;

@@ -15,7 +15,7 @@ use xl_base::{
 use xl_work::{CallerPost, CallsDone, LaneDone, LanePost, serve_calls, serve_lane};
 
 /// A part of a peer that speaks ONC RPC: this text as a record of one fragment, once so many bytes were sent to the peer.
-fn record(alloc: Global, after: usize, text: &[u8]) -> Result<Part, AllocError> {
+pub(crate) fn record(alloc: Global, after: usize, text: &[u8]) -> Result<Part, AllocError> {
     let mut bytes = Sequence::new(alloc);
     bytes.extend_from_slice(&[128, 0, 0, (text.len() % 256) as u8])?;
     bytes.extend_from_slice(text)?;
@@ -31,7 +31,7 @@ fn raw(alloc: Global, bytes: &[u8]) -> Result<Part, AllocError> {
 }
 
 /// A peer that sends one part, and then another.
-fn peer(alloc: Global, first: Part, second: Part) -> Result<Peer, AllocError> {
+pub(crate) fn peer(alloc: Global, first: Part, second: Part) -> Result<Peer, AllocError> {
     let mut parts = VecDeque::new(alloc);
     parts.push_back(first)?;
     parts.push_back(second)?;
@@ -42,7 +42,7 @@ fn peer(alloc: Global, first: Part, second: Part) -> Result<Peer, AllocError> {
 }
 
 /// A lane to which these two peers come, and of which the call of this number fails, if it is above 0.
-fn lane(
+pub(crate) fn lane(
     alloc: Global,
     first: Peer,
     second: Option<Peer>,
@@ -58,7 +58,7 @@ fn lane(
 }
 
 /// A peer that sends two messages of two letters.
-fn letters(alloc: Global, first: &[u8], second: &[u8]) -> Result<Peer, AllocError> {
+pub(crate) fn letters(alloc: Global, first: &[u8], second: &[u8]) -> Result<Peer, AllocError> {
     peer(alloc, record(alloc, 0, first)?, record(alloc, 0, second)?)
 }
 
@@ -81,7 +81,7 @@ fn serve<R: Wait, G: Gate>(
 
 /// How a lane ended: 1 by its end, 10 and the count of faults at a lost link, 100 and the number of turns, 1,000 and the number
 /// of entries of a full machine.
-fn end_of(end: LaneEnd) -> u64 {
+pub(crate) fn end_of(end: LaneEnd) -> u64 {
     match end {
         LaneEnd::End => 1,
         LaneEnd::Failed(count) => count.saturating_add(10),
@@ -92,7 +92,7 @@ fn end_of(end: LaneEnd) -> u64 {
 }
 
 /// Whether this was sent to the link, which said its end and is shut, or not, and of which so many calls failed.
-fn is_link(link: Option<&Link>, sent: &[u8], ended: bool, failed: u64, shut: bool) -> bool {
+pub(crate) fn is_link(link: Option<&Link>, sent: &[u8], ended: bool, failed: u64, shut: bool) -> bool {
     match link {
         Some(link) => {
             link.sent.as_slice() == sent

@@ -26,7 +26,7 @@ use Rattle.xl_desk.specs.declared.fault.DeskErr.{DeskErr}
 use Rattle.xl_desk.specs.declared.fault.DeskErr.TheVariants.{Halted, Stopped}
 use Rattle.xl_desk.specs.Due.{is_due, due_of, due_in, or_later}
 use Rattle.xl_work.specs.declared.calls.CallerPost.{CallerPost}
-use Rattle.xl_work.specs.Calls.{number, is_of_share, share_of, asked_in, Rises, called, is_called, numbers, answer_of, HasAsked, Answers, AreMade, IsOnWay, IsGoing, AllLow, last_or}
+use Rattle.xl_work.specs.Calls.{number, is_of_share, share_of, asked_in, Rises, called, is_called, numbers, answer_of, HasAsked, IsLast, Answers, CallerMade, AreMade, IsOnWay, IsGoing, AllLow, last_or}
 
 -- ---- the calls of a share, one behind the other
 
@@ -389,10 +389,12 @@ module _ {O : Type 0} (post : CallerPost) (told : Option (List Asked)) (before :
     shares = g.shares;
     calls = g.calls;
     mine = g.mine;
-    ends = g.ends;
     made = g.made;
-    in_order = way_in_order post v.first from last v.seen (numbers g.calls) g.way;
-    asked = follows_as told told' _ _ g.asked (λ old new a. (a.0, [], a.1 ∙ sym (append-nil (old ++ a.0)), tt, a.2));
+    caller = record {
+      ends = g.ends;
+      in_order = way_in_order post v.first from last v.seen (numbers g.calls) g.way;
+      asked = follows_as told told' _ _ g.asked (λ old new a. (a.0, [], a.1 ∙ sym (append-nil (old ++ a.0)), tt, a.2));
+    };
   }
 
   -- a last call was made, and not entered
@@ -404,10 +406,12 @@ module _ {O : Type 0} (post : CallerPost) (told : Option (List Asked)) (before :
         shares = h.shares;
         calls = h.calls;
         mine = h.mine;
-        ends = h.ends;
         made = h.made;
-        in_order = way_in_order post w.first from last w.seen (numbers h.calls) h.way;
-        asked = follows_then told told' told2 _ _ _ h.asked tells (λ x y' z a b. (a.0, Call y.to y.bytes outcome ∷ [], b ∙ ap (λ front. front ++ Call y.to y.bytes outcome ∷ []) a.1, (number y, subst (λ log. HasAsked log (number y) y.to y.bytes) goes.seen.1 (asked_still v.seen goes.seen.0 (number y) y.to y.bytes has)), a.2));
+        caller = record {
+          ends = h.ends;
+          in_order = way_in_order post w.first from last w.seen (numbers h.calls) h.way;
+          asked = follows_then told told' told2 _ _ _ h.asked tells (λ x y' z a b. (a.0, Call y.to y.bytes outcome ∷ [], b ∙ ap (λ front. front ++ Call y.to y.bytes outcome ∷ []) a.1, (number y, subst (λ log. HasAsked log (number y) y.to y.bytes) goes.seen.1 (asked_still v.seen goes.seen.0 (number y) y.to y.bytes has)), a.2));
+        };
       }
 
 pub going_begins : {O : Type 0} (post : CallerPost) (told : Option (List Asked)) (v w : View O) (first : ℕ) → IsLooked v w → first ≡ w.first → IsGoing post told v told w first 0
@@ -448,3 +452,23 @@ refused_none may_halt v w (Stopped reason count) refused = (refused.goes, refuse
 -- what was called is what was found
 pub tells_call : (told told' : Option (List Asked)) (y : Out) (to bytes : List ℕ) (outcome : CallOutcome) → to ≡ y.to → bytes ≡ y.bytes → Follows told told' (Calls to bytes outcome) → Follows told told' (Calls y.to y.bytes outcome)
 tells_call told told' y to bytes outcome one two tells = subst (λ (z : List ℕ × List ℕ). Follows told told' (Calls z.0 z.1 outcome)) (λ i. (one i, two i)) tells
+
+-- ---- the journal grows
+
+last_still : (log more : List Entry) (last : List Asked) → IsLast log last → IsLast (log ++ more) last
+last_still log more [] is = tt
+last_still log more (Call to bytes outcome ∷ []) is = (is.0, asked_still log more is.0 to bytes is.1)
+last_still log more (Call to bytes outcome ∷ x ∷ xs) is = absurd is
+last_still log more (Idle place ∷ xs) is = absurd is
+
+pub caller_grows : (post : CallerPost) (start first : ℕ) (log more : List Entry) (told told' : Option (List Asked)) (calls : List (ℕ × Event)) → CallerMade post start first log told told' calls → CallerMade post start first (log ++ more) told told' calls
+caller_grows post start first log more told told' calls made =
+    let share : ℕ = post.share in
+    let parts : ℕ = post.of in
+    let both : asked_in share parts (log ++ more) ≡ asked_in share parts log ++ asked_in share parts more = asked_append share parts log more in record {
+      ends = made.ends;
+      in_order = λ rises.
+          let front = made.in_order (rises_front 0 (asked_in share parts log) (asked_in share parts more) (subst (Rises 0) both rises)) in
+          (front.0 ++ map number (asked_in share parts more), sym (append_assoc (numbers calls) front.0 (map number (asked_in share parts more))) ∙ ap (λ xs. xs ++ map number (asked_in share parts more)) front.1 ∙ sym (map-append number (asked_in share parts log) (asked_in share parts more)) ∙ ap (map number) (sym both));
+      asked = follows_as told told' _ _ made.asked (λ old new a. (a.0, a.1, a.2, last_still log more a.1 a.3, answers_grow post first start log more [] a.0 calls a.4));
+    }

@@ -33,13 +33,13 @@ use Rattle.xl_frame.specs.Frames.{Framed, with_frames, frames}
 use Rattle.xl_work.specs.declared.worker.Conn.{Conn}
 use Rattle.xl_work.specs.declared.worker.Live.{Live}
 use Rattle.xl_work.specs.Calls.{IsCut}
-use Rattle.xl_work.specs.Lives.{messages_in, with_message, is_end, has_end, is_of, is_bad, has_cause, all_conns, IsServing, IsTold, AreTold, IsServed, IsUnopened, is_whole, is_fine, end_of, IsAt, IsTaken, with_end, is_over, IsCaught, IsSettled, AreOfAll, HasEnded, IsOver, AreOver, IsLive, Serves, Hand, Nothing, Received, Unopened, held}
+use Rattle.xl_work.specs.Lives.{messages_in, with_message, is_end, has_end, is_of, is_bad, has_cause, all_conns, IsServing, Accounts, IsTold, AreTold, IsLeft, AreLeft, IsLeftOpen, IsUnentered, IsSending, HasPlace, is_whole, is_fine, end_of, IsAt, IsTaken, with_end, is_over, IsCaught, IsSettled, AreOfAll, HasEnded, IsOver, AreOver, IsLive, Serves, Hand, Nothing, Received, Unopened, held}
 
 or_false : (b : Bool) → (b || false) ≡ b
 or_false true = refl
 or_false false = refl
 
-or_true : (b : Bool) → (b || true) ≡ true
+pub or_true : (b : Bool) → (b || true) ≡ true
 or_true true = refl
 or_true false = refl
 
@@ -105,27 +105,32 @@ all_over_grow first log more (l ∷ ls) conns calls timely over = (over.0, over.
 take_grows : (k : ℕ) (log more : List Entry) → k ≤ length log → take k (log ++ more) ≡ take k log
 take_grows k log more within = take-append-le k log more within
 
-live_grows : (first : ℕ) (log more : List Entry) (l : Link) (v : Live) (hand : Hand) (mine : List (ℕ × Event)) → IsLive first log l v hand mine → IsLive first (log ++ more) l v hand mine
-live_grows first log more l v hand mine live =
-    let low = live.from.0 in
-    let high = live.from.1 in
-    let opened = live.opened.1 in
-    let within : v.from - first ≤ length log = omega arith in
+pub sending_grows : (first : ℕ) (log more : List Entry) (number from : ℕ) (has_failed : Bool) (failures : ℕ) (sent : List ℕ) → IsSending first log number from has_failed failures sent → IsSending first (log ++ more) number from has_failed failures sent
+sending_grows first log more number from has_failed failures sent s =
+    let low = s.from.0 in
+    let high = s.from.1 in
+    let opened = s.opened.1 in
+    let within : from - first ≤ length log = omega arith in
     record {
-      kind = live.kind;
-      cutter = live.cutter;
-      cut = live.cut;
-      ends = live.ends;
-      ending = live.ending;
-      failed = live.failed;
-      cause = live.cause;
-      closed = λ e. ended_still first log more v.conn.number (live.closed e);
-      shut = live.shut;
-      opened = (live.opened.0, omega (arith, length-append log more));
+      opened = (s.opened.0, omega (arith, length-append log more));
       from = (low, omega (arith, length-append log more));
-      sent = subst (λ outs. IsPrefix l.sent outs) (sym (outs_append v.conn.number log more)) (front_more l.sent (outs_to v.conn.number log) (outs_to v.conn.number more) live.sent);
-      all = λ e. live.all e ∙ ap (outs_to v.conn.number) (sym (take_grows (v.from - first) log more within));
+      failed = s.failed;
+      sent = subst (λ outs. IsPrefix sent outs) (sym (outs_append number log more)) (front_more sent (outs_to number log) (outs_to number more) s.sent);
+      all = λ e. s.all e ∙ ap (outs_to number) (sym (take_grows (from - first) log more within));
     }
+
+live_grows : (first : ℕ) (log more : List Entry) (l : Link) (v : Live) (hand : Hand) (mine : List (ℕ × Event)) → IsLive first log l v hand mine → IsLive first (log ++ more) l v hand mine
+live_grows first log more l v hand mine live = record {
+  kind = live.kind;
+  cutter = live.cutter;
+  cut = live.cut;
+  ends = live.ends;
+  ending = live.ending;
+  cause = live.cause;
+  closed = λ e. ended_still first log more v.conn.number (live.closed e);
+  shut = live.shut;
+  sending = sending_grows first log more v.conn.number v.from v.failed l.failed l.sent live.sending;
+}
 
 -- the journal grows
 pub serves_grow : (first : ℕ) (log more : List Entry) (links : List Link) (conns : List Conn) (live : Option Live) (hand : Hand) (calls : List (ℕ × Event)) → IsInTime first (log ++ more) → Serves first log links conns live hand calls → Serves first (log ++ more) links conns live hand calls
@@ -170,52 +175,88 @@ ends_snoc (c ∷ cs) call = ap (λ b. is_end c.1 || b) (ends_snoc cs call) ∙ o
 
 -- ---- what a link is sent
 
-counted_failed : (n : ℕ) → not (counted n == 0) ≡ true
+pub counted_failed : (n : ℕ) → not (counted n == 0) ≡ true
 counted_failed n = grind (arith, nat_tests)
+
+-- what the journal sends from a place on completes what it sends before it
+outs_whole : (number k : ℕ) (log : List Entry) (bytes : List ℕ) → bytes ≡ outs_to number (drop k log) → outs_to number (take k log) ++ bytes ≡ outs_to number log
+outs_whole number k log bytes gives = ap (λ rest. outs_to number (take k log) ++ rest) gives ∙ sym (outs_append number (take k log) (drop k log)) ∙ ap (outs_to number) (take-append-drop k log)
+
+-- all that the journal sends is sent from the place on up to which it was
+pub sending_wrote : (first : ℕ) (log : List Entry) (number from end : ℕ) (has_failed : Bool) (failures : ℕ) (sent bytes : List ℕ) → IsSending first log number from has_failed failures sent → has_failed ≡ false → bytes ≡ outs_to number (drop (from - first) log) → end ≡ first + length log → IsSending first log number end false failures (sent ++ bytes)
+sending_wrote first log number from end has_failed failures sent bytes s fine gives ends =
+    let all : sent ++ bytes ≡ outs_to number log = ap (λ front. front ++ bytes) (s.all fine) ∙ outs_whole number (from - first) log bytes gives in record {
+      opened = s.opened;
+      from = (omega arith, omega arith);
+      failed = sym fine ∙ s.failed;
+      sent = ([], append-nil (sent ++ bytes) ∙ all);
+      all = λ e. all ∙ ap (outs_to number) (sym (take_all (end - first) log (omega arith)));
+    }
+
+-- or a beginning of it, and the send failed
+pub sending_broke : (first : ℕ) (log : List Entry) (number from end : ℕ) (has_failed : Bool) (failures : ℕ) (sent bytes front : List ℕ) → IsSending first log number from has_failed failures sent → has_failed ≡ false → bytes ≡ outs_to number (drop (from - first) log) → end ≡ first + length log → IsPrefix front bytes → IsSending first log number end true (counted failures) (sent ++ front)
+sending_broke first log number from end has_failed failures sent bytes front s fine gives ends part = record {
+  opened = s.opened;
+  from = (omega arith, omega arith);
+  failed = sym (counted_failed failures);
+  sent = (part.0, append_assoc sent front part.0 ∙ ap (λ rest. sent ++ rest) part.1 ∙ ap (λ old. old ++ bytes) (s.all fine) ∙ outs_whole number (from - first) log bytes gives);
+  all = λ e. absurd (cc e);
+}
+
+-- or nothing was to be sent
+pub sending_none : (first : ℕ) (log : List Entry) (number from end : ℕ) (has_failed : Bool) (failures : ℕ) (sent bytes : List ℕ) → IsSending first log number from has_failed failures sent → bytes ≡ outs_to number (drop (from - first) log) → bytes ≡ [] → end ≡ first + length log → IsSending first log number end has_failed failures sent
+sending_none first log number from end has_failed failures sent bytes s gives none_left ends =
+    let same : outs_to number (take (from - first) log) ≡ outs_to number log = sym (append-nil (outs_to number (take (from - first) log))) ∙ ap (λ rest. outs_to number (take (from - first) log) ++ rest) (sym none_left) ∙ outs_whole number (from - first) log bytes gives in record {
+      opened = s.opened;
+      from = (omega arith, omega arith);
+      failed = s.failed;
+      sent = s.sent;
+      all = λ fine. s.all fine ∙ same ∙ ap (outs_to number) (sym (take_all (end - first) log (omega arith)));
+    }
+
+-- a wait for its bytes failed
+sending_failed : (first : ℕ) (log : List Entry) (number from : ℕ) (has_failed : Bool) (failures : ℕ) (sent : List ℕ) → IsSending first log number from has_failed failures sent → IsSending first log number from true (counted failures) sent
+sending_failed first log number from has_failed failures sent s = record {
+  opened = s.opened;
+  from = s.from;
+  failed = sym (counted_failed failures);
+  sent = s.sent;
+  all = λ e. absurd (cc e);
+}
+
+-- all was sent, if none of the calls failed
+pub sending_all : (first : ℕ) (log : List Entry) (number from : ℕ) (has_failed : Bool) (failures : ℕ) (sent : List ℕ) → IsSending first log number from has_failed failures sent → (has_failed ≡ false → from ≡ first + length log) → failures ≡ 0 → sent ≡ outs_to number log
+sending_all first log number from has_failed failures sent s caught fine =
+    let ok : has_failed ≡ false = s.failed ∙ ap (λ n. not (n == 0)) fine in
+    let end = caught ok in
+    s.all ok ∙ ap (outs_to number) (take_all (from - first) log (omega arith))
 
 -- the link is sent what the journal sends to it from the place on up to which it was sent all
 pub live_sent : (first : ℕ) (log : List Entry) (l l2 : Link) (v : Live) (hand : Hand) (mine : List (ℕ × Event)) (bytes : List ℕ) (end : ℕ) (outcome : WriteOutcome)
     → IsLive first log l v hand mine → v.failed ≡ false → bytes ≡ outs_to v.conn.number (drop (v.from - first) log) → end ≡ first + length log → Sends outcome bytes l l2
     → IsLive first log l2 (record v { from = end; failed = send_failed outcome }) hand mine
-live_sent first log l l2 v hand mine bytes end write.Wrote live fine gives ends step =
-    let k : ℕ = v.from - first in
-    let whole : outs_to v.conn.number (take k log) ++ bytes ≡ outs_to v.conn.number log = ap (λ rest. outs_to v.conn.number (take k log) ++ rest) gives ∙ sym (outs_append v.conn.number (take k log) (drop k log)) ∙ ap (outs_to v.conn.number) (take-append-drop k log) in
-    let all : l.sent ++ bytes ≡ outs_to v.conn.number log = ap (λ front. front ++ bytes) (live.all fine) ∙ whole in
-    subst (λ z. IsLive first log z (record v { from = end; failed = false }) hand mine) (sym step) record {
-      kind = live.kind;
-      cutter = live.cutter;
-      cut = live.cut;
-      ends = live.ends;
-      ending = live.ending;
-      failed = sym fine ∙ live.failed;
-      cause = λ e. subst (λ b. (v.ending || b) ≡ true) fine (live.cause e);
-      closed = live.closed;
-      shut = live.shut;
-      opened = live.opened;
-      from = (omega arith, omega arith);
-      sent = ([], append-nil (l.sent ++ bytes) ∙ all);
-      all = λ e. all ∙ ap (outs_to v.conn.number) (sym (take_all (end - first) log (omega arith)));
-    }
-live_sent first log l l2 v hand mine bytes end write.Failed live fine gives ends step =
-    let k : ℕ = v.from - first in
-    let whole : outs_to v.conn.number (take k log) ++ bytes ≡ outs_to v.conn.number log = ap (λ rest. outs_to v.conn.number (take k log) ++ rest) gives ∙ sym (outs_append v.conn.number (take k log) (drop k log)) ∙ ap (outs_to v.conn.number) (take-append-drop k log) in
-    let front : List ℕ = step.0 in
-    let part = step.1 in
-    subst (λ z. IsLive first log z (record v { from = end; failed = true }) hand mine) (sym step.2) record {
-      kind = live.kind;
-      cutter = live.cutter;
-      cut = live.cut;
-      ends = live.ends;
-      ending = live.ending;
-      failed = sym (counted_failed l.failed);
-      cause = λ e. or_true v.ending;
-      closed = live.closed;
-      shut = live.shut;
-      opened = live.opened;
-      from = (omega arith, omega arith);
-      sent = (part.0, append_assoc l.sent front part.0 ∙ ap (λ rest. l.sent ++ rest) part.1 ∙ ap (λ old. old ++ bytes) (live.all fine) ∙ whole);
-      all = λ e. absurd (cc e);
-    }
+live_sent first log l l2 v hand mine bytes end write.Wrote live fine gives ends step = subst (λ z. IsLive first log z (record v { from = end; failed = false }) hand mine) (sym step) record {
+  kind = live.kind;
+  cutter = live.cutter;
+  cut = live.cut;
+  ends = live.ends;
+  ending = live.ending;
+  cause = λ e. subst (λ b. (v.ending || b) ≡ true) fine (live.cause e);
+  closed = live.closed;
+  shut = live.shut;
+  sending = sending_wrote first log v.conn.number v.from end v.failed l.failed l.sent bytes live.sending fine gives ends;
+}
+live_sent first log l l2 v hand mine bytes end write.Failed live fine gives ends step = subst (λ z. IsLive first log z (record v { from = end; failed = true }) hand mine) (sym step.2) record {
+  kind = live.kind;
+  cutter = live.cutter;
+  cut = live.cut;
+  ends = live.ends;
+  ending = live.ending;
+  cause = λ e. or_true v.ending;
+  closed = live.closed;
+  shut = live.shut;
+  sending = sending_broke first log v.conn.number v.from end v.failed l.failed l.sent bytes step.0 live.sending fine gives ends step.1;
+}
 
 -- ---- what a link gives
 
@@ -227,14 +268,10 @@ live_taken first log l v cutter message mine live found is = subst (λ z. IsLive
   cut = ap (λ frames. record { frames = frames; rest = v.cutter.rest; bad = v.cutter.bad }) (append_assoc (messages_in mine) (message ∷ []) (drop 1 v.cutter.ready) ∙ ap (λ ready. messages_in mine ++ ready) (first_and_rest v.cutter.ready message found) ∙ ap (λ front. front ++ v.cutter.ready) (sym (append-nil (messages_in mine)))) ∙ live.cut;
   ends = live.ends;
   ending = live.ending;
-  failed = live.failed;
   cause = live.cause;
   closed = live.closed;
   shut = live.shut;
-  opened = live.opened;
-  from = live.from;
-  sent = live.sent;
-  all = live.all;
+  sending = live.sending;
 }
 
 -- the message is entered
@@ -245,14 +282,10 @@ live_entered first log l v at message mine live = record {
   cut = ap (λ ms. with_frames (ms ++ []) (framed_of v.cutter)) (messages_snoc mine (at, Message v.conn.number message)) ∙ ap (λ ms. with_frames ms (framed_of v.cutter)) (append-nil (messages_in mine ++ message ∷ [])) ∙ live.cut;
   ends = ends_snoc mine (at, Message v.conn.number message) ∙ or_false (has_end mine) ∙ live.ends;
   ending = live.ending;
-  failed = live.failed;
   cause = live.cause;
   closed = live.closed;
   shut = live.shut;
-  opened = live.opened;
-  from = live.from;
-  sent = live.sent;
-  all = live.all;
+  sending = live.sending;
 }
 
 -- the end is entered, which has a cause
@@ -263,14 +296,10 @@ live_ended first log l v at mine live cause closed = record {
   cut = ap (λ ms. with_frames (ms ++ []) (framed_of v.cutter)) (messages_snoc mine (at, End v.conn.number) ∙ append-nil (messages_in mine)) ∙ live.cut;
   ends = ends_snoc mine (at, End v.conn.number) ∙ or_true (has_end mine);
   ending = live.ending;
-  failed = live.failed;
   cause = λ _. cause;
   closed = λ _. closed;
   shut = live.shut;
-  opened = live.opened;
-  from = live.from;
-  sent = live.sent;
-  all = live.all;
+  sending = live.sending;
 }
 
 -- messages before a stream stay before it
@@ -295,14 +324,10 @@ live_fed first log l l2 v cutter piece ending mine live took is ends still =
       cut = cut;
       ends = live.ends;
       ending = ends ∙ ap (λ c. l.ended || is_bad c.bad) is;
-      failed = live.failed;
       cause = λ e. ⊎_elim (λ (a : ending ≡ true). ap (λ b. b || v.failed) a) (λ (b : v.failed ≡ true). ap (λ f. ending || f) b ∙ or_true ending) (still e);
       closed = live.closed;
       shut = live.shut;
-      opened = live.opened;
-      from = live.from;
-      sent = live.sent;
-      all = live.all;
+      sending = live.sending;
     }
 
 -- the link says its end
@@ -313,14 +338,10 @@ live_said first log l l2 v mine live said = subst (λ z. IsLive first log z (rec
   cut = live.cut;
   ends = live.ends;
   ending = refl;
-  failed = live.failed;
   cause = λ e. refl;
   closed = live.closed;
   shut = live.shut;
-  opened = live.opened;
-  from = live.from;
-  sent = live.sent;
-  all = live.all;
+  sending = live.sending;
 }
 
 -- a wait for its bytes failed
@@ -331,20 +352,16 @@ live_failed first log l l2 v mine live failed = subst (λ z. IsLive first log z 
   cut = live.cut;
   ends = live.ends;
   ending = live.ending;
-  failed = sym (counted_failed l.failed);
   cause = λ e. or_true v.ending;
   closed = live.closed;
   shut = live.shut;
-  opened = live.opened;
-  from = live.from;
-  sent = live.sent;
-  all = λ e. absurd (cc e);
+  sending = sending_failed first log v.conn.number v.from v.failed l.failed l.sent live.sending;
 }
 
 -- why the connection ends, by the link and by what is known of it
 cause_of : (first : ℕ) (log : List Entry) (l : Link) (v : Live) (hand : Hand) (mine : List (ℕ × Event)) → IsLive first log l v hand mine → has_cause l ≡ (v.ending || v.failed)
 cause_of first log l v hand mine live =
-    ap (λ (f : Framed). (l.ended || is_bad f.bad) || not (l.failed == 0)) (sym live.cut) ∙ ap (λ e. e || not (l.failed == 0)) (sym live.ending) ∙ ap (λ f. v.ending || f) (sym live.failed)
+    ap (λ (f : Framed). (l.ended || is_bad f.bad) || not (l.failed == 0)) (sym live.cut) ∙ ap (λ e. e || not (l.failed == 0)) (sym live.ending) ∙ ap (λ f. v.ending || f) (sym live.sending.failed)
 
 -- the link is over, and is shut
 live_over : (first : ℕ) (log : List Entry) (l l2 : Link) (v : Live) (mine : List (ℕ × Event)) → IsLive first log l v Nothing mine → Shuts l l2 → v.ended ≡ true → v.cutter.ready ≡ [] → (v.failed ≡ false → v.from ≡ first + length log) → IsOver first log l2 v.conn mine
@@ -355,11 +372,8 @@ live_over first log l l2 v mine live shuts ended empty caught = subst (λ z. IsO
   cause = cause_of first log l v Nothing mine live ∙ live.cause ended;
   closed = live.closed ended;
   shut = refl;
-  sent = live.sent;
-  all = λ fine.
-      let ok : v.failed ≡ false = live.failed ∙ ap (λ n. not (n == 0)) fine in
-      let end = caught ok in
-      live.all ok ∙ ap (outs_to v.conn.number) (take_all (v.from - first) log (omega arith));
+  sent = live.sending.sent;
+  all = sending_all first log v.conn.number v.from v.failed l.failed l.sent live.sending caught;
 }
 
 -- ---- a worker goes on
@@ -397,14 +411,16 @@ live_fresh first log v at timely cutter from ending failed ended low high =
       cut = ap (λ c. with_frames [] (framed_of c)) cutter ∙ handed_are_frames v.conn.kind [];
       ends = sym ended;
       ending = ending ∙ sym (ap (λ c. is_bad c.bad) cutter);
-      failed = failed;
       cause = λ e. absurd (cc (e, ended));
       closed = λ e. absurd (cc (e, ended));
       shut = refl;
-      opened = (low, high);
-      from = (omega arith, omega arith);
-      sent = (outs_to v.conn.number log, refl);
-      all = λ _. sym none_yet;
+      sending = record {
+        opened = (low, high);
+        from = (omega arith, omega arith);
+        failed = failed;
+        sent = (outs_to v.conn.number log, refl);
+        all = λ _. sym none_yet;
+      };
     }
 
 module _ {O : Type 0} (told : Option (List Link)) (before : View O) where
@@ -483,7 +499,7 @@ module _ {O : Type 0} (told : Option (List Link)) (before : View O) where
       let long = length-append w.seen last.0 in
       serving_called told' w w2 conns v (with_end v) Nothing Nothing place (End number) s did timely (subst (λ n. (n == v.conn.number) ≡ true) (sym at) (eq-eqb v.conn.number v.conn.number refl)) refl
       (λ l mine at_place live.
-      let opened = live.opened in
+      let opened = live.sending.opened in
       subst (λ n. IsLive w.first (w.seen ++ did.goes.seen.0) l (with_end v) Nothing (mine ++ (at_place, End n) ∷ [])) (sym at)
       (live_ended w.first (w.seen ++ did.goes.seen.0) l v at_place mine (live_grows w.first w.seen did.goes.seen.0 l v Nothing mine live) over
       (w.seen ++ last.0, last.1, [], is, last.4 ∙ ap End at, omega arith)))
@@ -573,123 +589,126 @@ in_time_of first lawful v timely l = subst (λ n. IsInTime n v.seen) (sym l.2) (
 -- nothing was to be sent
 live_unsent : (first : ℕ) (log : List Entry) (l : Link) (v : Live) (hand : Hand) (mine : List (ℕ × Event)) (bytes : List ℕ) (end : ℕ)
     → IsLive first log l v hand mine → bytes ≡ outs_to v.conn.number (drop (v.from - first) log) → bytes ≡ [] → end ≡ first + length log → IsLive first log l (record v { from = end }) hand mine
-live_unsent first log l v hand mine bytes end live gives none_left ends =
-    let k : ℕ = v.from - first in
-    let same : outs_to v.conn.number (take k log) ≡ outs_to v.conn.number log = sym (append-nil (outs_to v.conn.number (take k log))) ∙ ap (λ rest. outs_to v.conn.number (take k log) ++ rest) (sym none_left ∙ gives) ∙ sym (outs_append v.conn.number (take k log) (drop k log)) ∙ ap (outs_to v.conn.number) (take-append-drop k log) in record {
-      kind = live.kind;
-      cutter = live.cutter;
-      cut = live.cut;
-      ends = live.ends;
-      ending = live.ending;
-      failed = live.failed;
-      cause = live.cause;
-      closed = live.closed;
-      shut = live.shut;
-      opened = live.opened;
-      from = (omega arith, omega arith);
-      sent = live.sent;
-      all = λ fine. live.all fine ∙ same ∙ ap (outs_to v.conn.number) (sym (take_all (end - first) log (omega arith)));
-    }
+live_unsent first log l v hand mine bytes end live gives none_left ends = record {
+  kind = live.kind;
+  cutter = live.cutter;
+  cut = live.cut;
+  ends = live.ends;
+  ending = live.ending;
+  cause = live.cause;
+  closed = live.closed;
+  shut = live.shut;
+  sending = sending_none first log v.conn.number v.from end v.failed l.failed l.sent bytes live.sending gives none_left ends;
+}
 
 -- ---- the end of a lane
 
-over_told : (whole fine : Bool) (first : ℕ) (log : List Entry) (l : Link) (c : Conn) (mine : List (ℕ × Event)) → IsOver first log l c mine → IsTold whole fine first log l c mine
-over_told whole fine first log l c mine over = record {
+-- of a whole lane's link: its end is entered exactly if it has a cause
+accounts : (late : ℕ) (ended : Bool) (l : Link) → has_cause l ≡ ended → Accounts late ended l
+accounts late true l is = is
+accounts late false l is = neither (l.ended || is_bad (frames l.kind l.taken).bad) l.failed is
+  where
+    neither : (a : Bool) (n : ℕ) → (a || not (n == 0)) ≡ false → (a ≡ false) × (n ≤ late)
+    neither true n is = absurd (cc is)
+    neither false n is = (refl, grind (arith, nat_tests))
+
+over_told : (late : ℕ) (whole fine : Bool) (first : ℕ) (log : List Entry) (l : Link) (c : Conn) (mine : List (ℕ × Event)) → IsOver first log l c mine → IsTold late whole fine first log l c mine
+over_told late whole fine first log l c mine over = record {
   kind = over.kind;
   cut = ([], append-nil (messages_in mine) ∙ over.cut);
-  full = λ _. (over.cut, over.ends ∙ sym over.cause, over.shut ∙ sym over.ends);
+  full = λ _. (over.cut, subst (λ ended. Accounts late ended l) (sym over.ends) over.cause, over.shut ∙ sym over.ends);
   cause = λ _. over.cause;
   shut = λ _. over.ends;
   sent = over.sent;
   all = λ _. over.all;
 }
 
-pub all_told : (whole fine : Bool) (first : ℕ) (log : List Entry) (links : List Link) (conns : List Conn) (calls : List (ℕ × Event)) → AreOver first log links conns calls → AreTold whole fine first log links conns calls
-all_told whole fine first log [] conns calls over = over
-all_told whole fine first log (l ∷ ls) conns calls over = (over.0, over.1, over.2, over.3, over.4, over.5, over_told whole fine first log l over.1 over.3 over.6, all_told whole fine first log ls over.0 over.2 over.7)
+pub all_told : (late : ℕ) (whole fine : Bool) (first : ℕ) (log : List Entry) (links : List Link) (conns : List Conn) (calls : List (ℕ × Event)) → AreOver first log links conns calls → AreTold late whole fine first log links conns calls
+all_told late whole fine first log [] conns calls over = over
+all_told late whole fine first log (l ∷ ls) conns calls over = (over.0, over.1, over.2, over.3, over.4, over.5, over_told late whole fine first log l over.1 over.3 over.6, all_told late whole fine first log ls over.0 over.2 over.7)
 
-live_all : (first : ℕ) (log : List Entry) (l : Link) (v : Live) (hand : Hand) (mine : List (ℕ × Event)) → IsLive first log l v hand mine → (v.failed ≡ false → v.from ≡ first + length log) → l.failed ≡ 0 → l.sent ≡ outs_to v.conn.number log
-live_all first log l v hand mine live caught fine =
-    let ok : v.failed ≡ false = live.failed ∙ ap (λ n. not (n == 0)) fine in
-    let end = caught ok in
-    live.all ok ∙ ap (outs_to v.conn.number) (take_all (v.from - first) log (omega arith))
-
-live_told : (fine : Bool) (first : ℕ) (log : List Entry) (l : Link) (v : Live) (hand : Hand) (mine : List (ℕ × Event)) → IsLive first log l v hand mine → (fine ≡ true → v.failed ≡ false → v.from ≡ first + length log) → IsTold false fine first log l v.conn mine
-live_told fine first log l v hand mine live caught = record {
+live_left : (first : ℕ) (log : List Entry) (l : Link) (v : Live) (hand : Hand) (mine : List (ℕ × Event)) → IsLive first log l v hand mine → IsLeftOpen 0 false first log l v mine
+live_left first log l v hand mine live = record {
   kind = live.kind;
   cut = (held hand ++ v.cutter.ready, sym (append_assoc (messages_in mine) (held hand) v.cutter.ready) ∙ ap (λ (f : Framed). f.frames) live.cut);
   full = λ e. absurd (cc e);
   cause = λ e. cause_of first log l v hand mine live ∙ live.cause (sym live.ends ∙ e);
-  shut = λ e. absurd (cc (e, live.shut));
-  sent = live.sent;
-  all = λ e. live_all first log l v hand mine live (caught e);
+  shut = live.shut;
+  sending = live.sending;
 }
 
-live_settled : (fine : Bool) (first : ℕ) (log : List Entry) (l : Link) (v : Live) (mine : List (ℕ × Event)) → IsLive first log l v Nothing mine → v.cutter.ready ≡ [] → v.ending ≡ false → v.failed ≡ false → v.ended ≡ false → v.from ≡ first + length log → IsTold true fine first log l v.conn mine
-live_settled fine first log l v mine live empty ending failed ended caught = record {
+live_settled : (first : ℕ) (log : List Entry) (l : Link) (v : Live) (mine : List (ℕ × Event)) → IsLive first log l v Nothing mine → v.cutter.ready ≡ [] → v.ending ≡ false → v.failed ≡ false → v.ended ≡ false → IsLeftOpen 0 true first log l v mine
+live_settled first log l v mine live empty ending failed ended = record {
   kind = live.kind;
   cut = (v.cutter.ready, ap (λ ms. ms ++ v.cutter.ready) (sym (append-nil (messages_in mine))) ∙ ap (λ (f : Framed). f.frames) live.cut);
   full = λ _. (
     sym (append-nil (messages_in mine)) ∙ sym (append-nil (messages_in mine ++ [])) ∙ ap (λ ready. (messages_in mine ++ []) ++ ready) (sym empty) ∙ ap (λ (f : Framed). f.frames) live.cut,
-    live.ends ∙ ended ∙ sym (cause_of first log l v Nothing mine live ∙ ap (λ (z : Bool × Bool). z.0 || z.1) (λ i. (ending i, failed i))),
+    accounts 0 (has_end mine) l (cause_of first log l v Nothing mine live ∙ ap (λ (z : Bool × Bool). z.0 || z.1) (λ i. (ending i, failed i)) ∙ sym (live.ends ∙ ended)),
     live.shut ∙ sym (live.ends ∙ ended),
   );
   cause = λ e. absurd (cc (e, live.ends, ended));
-  shut = λ e. absurd (cc (e, live.shut));
-  sent = live.sent;
-  all = λ _. live_all first log l v Nothing mine live (λ _. caught);
+  shut = live.shut;
+  sending = live.sending;
 }
 
--- what is told of links that were left in the midst of a turn: of all that were opened, and of a last one that wasn't
-abbrev Left : Bool → ℕ → List Entry → List Link → List Conn → List (ℕ × Event) → Type 0
-Left fine first log links conns calls = (unopened : List Link) × (opened : List Link) × (links ≡ unopened ++ opened) × IsUnopened false unopened × AreTold false fine first log opened conns calls
+-- what is left of links in the midst of a turn: all that were opened, and a last one that wasn't
+abbrev Left : ℕ → List Entry → List Link → List Conn → Option Live → List (ℕ × Event) → Type 0
+Left first log links conns live calls = (unentered : List Link) × (opened : List Link) × (links ≡ unentered ++ opened) × IsUnentered false live unentered × AreLeft 0 false first log opened conns live calls
 
-told_left : (fine : Bool) (first : ℕ) (log : List Entry) (links : List Link) (conns : List Conn) (live : Option Live) (hand : Hand) (calls : List (ℕ × Event)) → Serves first log links conns live hand calls → (fine ≡ true → IfSome live (λ v. v.failed ≡ false → v.from ≡ first + length log)) → Left fine first log links (all_conns conns live) calls
-told_left fine first log links conns None Nothing calls serves caught = ([], links, refl, tt, all_told false fine first log links conns calls serves)
-told_left fine first log links conns None (Received message) calls serves caught = absurd serves
-told_left fine first log links conns None (Unopened kind) calls serves caught = (fresh kind ∷ [], serves.0, serves.1, (refl, refl), all_told false fine first log serves.0 conns calls serves.2)
-told_left fine first log [] conns (Some v) hand calls serves caught = absurd serves
-told_left fine first log (l ∷ ls) conns (Some v) hand calls serves caught = ([], l ∷ ls, refl, tt, (conns, v.conn, serves.0, serves.1, refl, serves.2, live_told fine first log l v hand serves.1 serves.3 caught, all_told false fine first log ls conns serves.0 serves.4))
+links_left : (first : ℕ) (log : List Entry) (links : List Link) (conns : List Conn) (live : Option Live) (hand : Hand) (calls : List (ℕ × Event)) → Serves first log links conns live hand calls → Left first log links (all_conns conns live) live calls
+links_left first log links conns None Nothing calls serves = ([], links, refl, tt, serves)
+links_left first log links conns None (Received message) calls serves = absurd serves
+links_left first log links conns None (Unopened kind) calls serves = (fresh kind ∷ [], serves.0, serves.1, (refl, refl, refl), serves.2)
+links_left first log [] conns (Some v) hand calls serves = absurd serves
+links_left first log (l ∷ ls) conns (Some v) hand calls serves = ([], l ∷ ls, refl, tt, (conns, serves.0, serves.1, refl, serves.2, live_left first log l v hand serves.1 serves.3, serves.4))
 
-told_settled : (whole fine : Bool) (first : ℕ) (log : List Entry) (links : List Link) (conns : List Conn) (live : Option Live) (calls : List (ℕ × Event)) → Serves first log links conns live Nothing calls → IsSettled live → IfSome live (λ v. v.failed ≡ false → v.from ≡ first + length log) → AreTold whole fine first log links (all_conns conns live) calls
-told_settled whole fine first log links conns None calls serves settled caught = all_told whole fine first log links conns calls serves
-told_settled whole fine first log [] conns (Some v) calls serves settled caught = absurd serves
-told_settled true fine first log (l ∷ ls) conns (Some v) calls serves settled caught = (conns, v.conn, serves.0, serves.1, refl, serves.2, live_settled fine first log l v serves.1 serves.3 settled.0 settled.1 settled.2 settled.3 (caught settled.2), all_told true fine first log ls conns serves.0 serves.4)
-told_settled false fine first log (l ∷ ls) conns (Some v) calls serves settled caught = (conns, v.conn, serves.0, serves.1, refl, serves.2, live_told fine first log l v Nothing serves.1 serves.3 (λ _. caught), all_told false fine first log ls conns serves.0 serves.4)
+links_settled : (whole : Bool) (first : ℕ) (log : List Entry) (links : List Link) (conns : List Conn) (live : Option Live) (calls : List (ℕ × Event)) → Serves first log links conns live Nothing calls → IsSettled live → AreLeft 0 whole first log links (all_conns conns live) live calls
+links_settled whole first log links conns None calls serves settled = serves
+links_settled whole first log [] conns (Some v) calls serves settled = absurd serves
+links_settled true first log (l ∷ ls) conns (Some v) calls serves settled = (conns, serves.0, serves.1, refl, serves.2, live_settled first log l v serves.1 serves.3 settled.0 settled.1 settled.2 settled.3, serves.4)
+links_settled false first log (l ∷ ls) conns (Some v) calls serves settled = (conns, serves.0, serves.1, refl, serves.2, live_left first log l v Nothing serves.1 serves.3, serves.4)
 
 module _ {O : Type 0} (told : Option (List Link)) (before : View O) where
   -- the lane is left in the midst of a turn
-  pub serving_left : (open_gate : Bool) (end : LaneEnd) (told' : Option (List Link)) (w : View O) (conns : List Conn) (live : Option Live) (hand : Hand) → IsServing told before told' w conns live hand → is_whole open_gate end ≡ false → (is_fine end ≡ true → IsCaught w live) → IsServed open_gate end told before told' w (all_conns conns live)
-  serving_left open_gate end told' w conns live hand s part caught = record {
+  pub serving_left : (open_gate : Bool) (end : LaneEnd) (told' : Option (List Link)) (w : View O) (conns : List Conn) (live : Option Live) (hand : Hand) → IsServing told before told' w conns live hand → HasPlace w live → is_whole open_gate end ≡ false → (is_fine end ≡ true → IsCaught w live) → IsLeft open_gate end told before told' w (all_conns conns live) live
+  serving_left open_gate end told' w conns live hand s place part caught = record {
     goes = s.goes;
     shares = s.shares;
     calls = s.calls;
     mine = s.mine;
     made = s.made;
-    own = s.own;
-    links = follows_as told told' _ _ s.links (λ old new a.
-        let left = told_left (is_fine end) w.first w.seen a.0 conns live hand s.calls a.2 caught in (
-          left.0,
-          left.1,
-          a.1 ∙ ap (λ ls. ls ++ old) left.2,
-          subst (λ whole. IsUnopened whole left.0) (sym part) left.3,
-          subst (λ whole. AreTold whole (is_fine end) w.first w.seen left.1 (all_conns conns live) s.calls) (sym part) left.4,
-        ));
+    caught = caught;
+    lane = record {
+      own = s.own;
+      place = place;
+      links = follows_as told told' _ _ s.links (λ old new a.
+          let left = links_left w.first w.seen a.0 conns live hand s.calls a.2 in (
+            left.0,
+            left.1,
+            a.1 ∙ ap (λ ls. ls ++ old) left.2,
+            subst (λ whole. IsUnentered whole live left.0) (sym part) left.3,
+            subst (λ whole. AreLeft 0 whole w.first w.seen left.1 (all_conns conns live) live s.calls) (sym part) left.4,
+          ));
+    };
   }
 
   -- the lane is left between two turns
-  pub serving_done : (open_gate : Bool) (end : LaneEnd) (told' : Option (List Link)) (w : View O) (conns : List Conn) (live : Option Live) → IsServing told before told' w conns live Nothing → IsSettled live → IsCaught w live → IsServed open_gate end told before told' w (all_conns conns live)
-  serving_done open_gate end told' w conns live s settled caught = record {
+  pub serving_done : (open_gate : Bool) (end : LaneEnd) (told' : Option (List Link)) (w : View O) (conns : List Conn) (live : Option Live) → IsServing told before told' w conns live Nothing → HasPlace w live → IsSettled live → IsCaught w live → IsLeft open_gate end told before told' w (all_conns conns live) live
+  serving_done open_gate end told' w conns live s place settled caught = record {
     goes = s.goes;
     shares = s.shares;
     calls = s.calls;
     mine = s.mine;
     made = s.made;
-    own = s.own;
-    links = follows_as told told' _ _ s.links (λ old new a. ([], a.0, a.1, tt, told_settled (is_whole open_gate end) (is_fine end) w.first w.seen a.0 conns live s.calls a.2 settled caught));
+    caught = λ _. caught;
+    lane = record {
+      own = s.own;
+      place = place;
+      links = follows_as told told' _ _ s.links (λ old new a. ([], a.0, a.1, tt, links_settled (is_whole open_gate end) w.first w.seen a.0 conns live s.calls a.2 settled));
+    };
   }
 
-nothing_in : (xs : List ℕ) → (length xs == 0) ≡ true → xs ≡ []
+pub nothing_in : (xs : List ℕ) → (length xs == 0) ≡ true → xs ≡ []
 nothing_in [] empty = refl
 nothing_in (x ∷ xs) empty = absurd (grind (arith, nat_tests))
 
@@ -727,14 +746,14 @@ refused_cut may_halt v w u (desk.Stopped reason count) refused goes = halted_cut
 module _ {O : Type 0} (told : Option (List Link)) (before : View O) where
   -- a call was refused, and the link was caught up
   pub refused_left : (open_gate : Bool) (may_halt : List Entry → Halt → Type 0) (e : DeskErr) (end : LaneEnd) (told' told2 : Option (List Link)) (w w2 u : View O) (conns conns2 : List Conn) (live live2 : Option Live) (hand : Hand) → IsServing told before told' w conns live hand → IsRefused may_halt w w2 e → IsInTime w2.first w2.seen
-      → (IsServing told before told' w2 conns live hand → IsServing told before told2 u conns2 live2 hand) → IsCaught u live2 → end ≡ end_of e → IsServed open_gate end told before told2 u (all_conns conns2 live2)
-  refused_left open_gate may_halt e end told' told2 w w2 u conns conns2 live live2 hand s refused timely goes caught is =
+      → (IsServing told before told' w2 conns live hand → IsServing told before told2 u conns2 live2 hand) → HasPlace u live2 → IsCaught u live2 → end ≡ end_of e → IsLeft open_gate end told before told2 u (all_conns conns2 live2) live2
+  refused_left open_gate may_halt e end told' told2 w w2 u conns conns2 live live2 hand s refused timely goes place caught is =
       let none_more = refused_none may_halt w w2 e refused in
-      serving_left told before open_gate end told2 u conns2 live2 hand (goes (serving_looked told before told' w w2 conns live hand s none_more.0 none_more.1 timely)) (ap (is_whole open_gate) is ∙ refused_is_part open_gate e) (λ _. caught)
+      serving_left told before open_gate end told2 u conns2 live2 hand (goes (serving_looked told before told' w w2 conns live hand s none_more.0 none_more.1 timely)) place (ap (is_whole open_gate) is ∙ refused_is_part open_gate e) (λ _. caught)
 
   -- or memory ran out
   pub refused_starved : (open_gate : Bool) (may_halt : List Entry → Halt → Type 0) (e : DeskErr) (told' told2 : Option (List Link)) (w w2 u : View O) (conns conns2 : List Conn) (live live2 : Option Live) (hand : Hand) → IsServing told before told' w conns live hand → IsRefused may_halt w w2 e → IsInTime w2.first w2.seen
-      → (IsServing told before told' w2 conns live hand → IsServing told before told2 u conns2 live2 hand) → IsServed open_gate lane_end.NoMemory told before told2 u (all_conns conns2 live2)
-  refused_starved open_gate may_halt e told' told2 w w2 u conns conns2 live live2 hand s refused timely goes =
+      → (IsServing told before told' w2 conns live hand → IsServing told before told2 u conns2 live2 hand) → HasPlace u live2 → IsLeft open_gate lane_end.NoMemory told before told2 u (all_conns conns2 live2) live2
+  refused_starved open_gate may_halt e told' told2 w w2 u conns conns2 live live2 hand s refused timely goes place =
       let none_more = refused_none may_halt w w2 e refused in
-      serving_left told before open_gate lane_end.NoMemory told2 u conns2 live2 hand (goes (serving_looked told before told' w w2 conns live hand s none_more.0 none_more.1 timely)) refl (λ fine. absurd (cc fine))
+      serving_left told before open_gate lane_end.NoMemory told2 u conns2 live2 hand (goes (serving_looked told before told' w w2 conns live hand s none_more.0 none_more.1 timely)) place refl (λ fine. absurd (cc fine))

@@ -21,9 +21,9 @@ use Rattle.xl_frame.specs.Cutting.{Cutting, fed, then_piece, unless_bad}
 use Rattle.xl_frame.specs.Frames.{Framed, frames, with_frames}
 use Rattle.xl_work.specs.declared.worker.Conn.{Conn}
 use Rattle.xl_work.specs.declared.worker.Live.{Live}
-use Rattle.xl_work.specs.Lives.{Hand, Nothing, Unopened, messages_in, is_bad, is_whole, is_fine, all_conns, still, steady, IsAt, IsSettled, IsTaken, IsClosing, IsCaught, number_in, IsLive, IsTold, IsServing, IsServed, Serves, AreTold, Carries, Loses, Tally, IsQuiet}
+use Rattle.xl_work.specs.Lives.{Hand, Nothing, Unopened, messages_in, is_bad, is_whole, is_fine, all_conns, still, steady, IsAt, IsSettled, IsTaken, IsClosing, IsCaught, number_in, IsLive, IsServing, IsLeft, IsLeftOpen, AreLeft, HasPlace, Serves, Carries, Loses, Tally, IsQuiet}
 use Rattle.xl_work.proofs.CallLaws.{follows_as, follows_then, goes_self}
-use Rattle.xl_work.proofs.LifeLaws.{all_told, live_fed, serving_told, serving_left, serving_next, serving_done, serving_same, serving_opened, serving_over}
+use Rattle.xl_work.proofs.LifeLaws.{live_fed, serving_told, serving_left, serving_next, serving_done, serving_same, serving_opened, serving_over}
 
 -- ---- what a link gives
 
@@ -43,19 +43,18 @@ goes_on kind f piece = by_bad f.bad where
   by_bad (Some fault) = ([], sym (append-nil f.frames))
 
 -- bytes were taken, and lost
-live_lost : (first : ℕ) (log : List Entry) (l m : Link) (v : Live) (piece : List ℕ) (mine : List (ℕ × Event)) → IsLive first log l v Nothing mine → v.ended ≡ false → m ≡ record l { taken = l.taken ++ piece } → IsTold false false first log m v.conn mine
+live_lost : (first : ℕ) (log : List Entry) (l m : Link) (v : Live) (piece : List ℕ) (mine : List (ℕ × Event)) → IsLive first log l v Nothing mine → v.ended ≡ false → m ≡ record l { taken = l.taken ++ piece } → IsLeftOpen 0 false first log m v mine
 live_lost first log l m v piece mine live runs took =
     let more = goes_on l.kind (frames l.kind l.taken) piece in
     let cut : (frames l.kind (l.taken ++ piece)).frames ≡ (frames l.kind l.taken).frames ++ more.0 = ap (λ (f : Framed). f.frames) (cut_anywhere l.kind l.taken piece) ∙ more.1 in
     let old : (frames l.kind l.taken).frames ≡ (messages_in mine ++ []) ++ v.cutter.ready = ap (λ (f : Framed). f.frames) (sym live.cut) in
-    subst (λ z. IsTold false false first log z v.conn mine) (sym took) record {
+    subst (λ z. IsLeftOpen 0 false first log z v mine) (sym took) record {
       kind = live.kind;
       cut = (v.cutter.ready ++ more.0, sym (append_assoc (messages_in mine) v.cutter.ready more.0) ∙ ap (λ ms. (ms ++ v.cutter.ready) ++ more.0) (sym (append-nil (messages_in mine))) ∙ ap (λ fs. fs ++ more.0) (sym old) ∙ sym cut);
       full = λ e. absurd (cc e);
       cause = λ e. absurd (cc (e, live.ends, runs));
-      shut = λ e. absurd (cc (e, live.shut));
-      sent = live.sent;
-      all = λ e. absurd (cc e);
+      shut = live.shut;
+      sending = live.sending;
     }
 
 pub loses : (v : Live) (n : ℕ) (buffer : List ℕ) (l m : Link) → v.ended ≡ false → Receives (receive.Got n) buffer l m → Loses v l m
@@ -128,9 +127,17 @@ pub on_ok_as : {T E : Type 0} (r : Result T E) (P Q : Type 0) → (P → Q) → 
 on_ok_as (Ok v) P Q as_q p = as_q p
 on_ok_as (Err e) P Q as_q p = tt
 
+pub on_ok : {T E : Type 0} (r : Result T E) (Q : Type 0) → Q → OnOk r Q
+on_ok (Ok v) Q q = q
+on_ok (Err e) Q q = tt
+
 pub on_err : {T E : Type 0} (r : Result T E) (Q : Type 0) → Q → OnErr r Q
 on_err (Ok v) Q q = tt
 on_err (Err e) Q q = q
+
+pub both_err : {T E : Type 0} (r : Result T E) (P Q : Type 0) → OnErr r P → OnErr r Q → OnErr r (P × Q)
+both_err (Ok v) P Q p q = tt
+both_err (Err e) P Q p q = (p, q)
 
 pub if_err_as : {T E : Type 0} (r : Result T E) (P : Type 0) (Q R : E → Type 0) → ((e : E) → P → Q e → R e) → OnErr r P → IfErr r Q → IfErr r R
 if_err_as (Ok v) P Q R as_r p q = tt
@@ -142,26 +149,30 @@ not_open false never = refl
 
 -- ---- a worker goes on
 
-lost_step : (first : ℕ) (log : List Entry) (conns : List Conn) (v : Live) (calls : List (ℕ × Event)) (links old y z : List Link) → y ≡ links ++ old → OnNewest (Loses v) y z → Serves first log links conns (Some v) Nothing calls → (links2 : List Link) × (z ≡ links2 ++ old) × AreTold false false first log links2 (conns ++ v.conn ∷ []) calls
+lost_step : (first : ℕ) (log : List Entry) (conns : List Conn) (v : Live) (calls : List (ℕ × Event)) (links old y z : List Link) → y ≡ links ++ old → OnNewest (Loses v) y z → Serves first log links conns (Some v) Nothing calls → (links2 : List Link) × (z ≡ links2 ++ old) × AreLeft 0 false first log links2 (conns ++ v.conn ∷ []) (Some v) calls
 lost_step first log conns v calls [] old y z is on serves = absurd serves
 lost_step first log conns v calls (l ∷ ls) old y z is on serves =
     let newest : OnNewest (Loses v) (l ∷ (ls ++ old)) z = subst (λ y. OnNewest (Loses v) y z) is on in
-    (newest.0 ∷ ls, newest.1, (conns, v.conn, serves.0, serves.1, refl, serves.2, newest.2 first log serves.1 serves.3, all_told false false first log ls conns serves.0 serves.4))
+    (newest.0 ∷ ls, newest.1, (conns, serves.0, serves.1, refl, serves.2, newest.2 first log serves.1 serves.3, serves.4))
 
 module _ {O : Type 0} (told : Option (List Link)) (before : View O) where
   pub serving_carried : (told' told2 : Option (List Link)) (w : View O) (conns : List Conn) (v v2 : Live) → IsServing told before told' w conns (Some v) Nothing → Follows told' told2 (OnNewest (Carries v v2)) → v2.conn ≡ v.conn → IsServing told before told2 w conns (Some v2) Nothing
   serving_carried told' told2 w conns v v2 s tells same = serving_told told before told' told2 w conns v v2 Nothing Nothing (Carries v v2) s tells same (λ l l2 mine live step. step w.first w.seen mine live)
 
   -- memory ran out, and bytes were lost
-  pub serving_lost : (open_gate : Bool) (end : LaneEnd) (told' told2 : Option (List Link)) (w : View O) (conns : List Conn) (v v2 : Live) → IsServing told before told' w conns (Some v) Nothing → Follows told' told2 (OnNewest (Loses v)) → end ≡ lane_end.NoMemory → v2.conn ≡ v.conn → IsServed open_gate end told before told2 w (conns ++ v2.conn ∷ [])
-  serving_lost open_gate end told' told2 w conns v v2 s tells is same = subst (λ (z : LaneEnd × Conn). IsServed open_gate z.0 told before told2 w (conns ++ z.1 ∷ [])) (λ i. (sym is i, sym same i)) record {
+  pub serving_lost : (open_gate : Bool) (end : LaneEnd) (told' told2 : Option (List Link)) (w : View O) (conns : List Conn) (v v2 : Live) → IsServing told before told' w conns (Some v) Nothing → Follows told' told2 (OnNewest (Loses v)) → end ≡ lane_end.NoMemory → v2 ≡ v → HasPlace w (Some v) → IsLeft open_gate end told before told2 w (conns ++ v2.conn ∷ []) (Some v2)
+  serving_lost open_gate end told' told2 w conns v v2 s tells is same place = subst (λ (z : LaneEnd × Live). IsLeft open_gate z.0 told before told2 w (conns ++ z.1.conn ∷ []) (Some z.1)) (λ i. (sym is i, sym same i)) record {
     goes = s.goes;
     shares = s.shares;
     calls = s.calls;
     mine = s.mine;
     made = s.made;
-    own = s.own;
-    links = follows_then told told' told2 _ _ _ s.links tells (λ x y z a b. let lost = lost_step w.first w.seen conns v s.calls a.0 x y z a.1 b a.2 in ([], lost.0, lost.1, tt, lost.2));
+    caught = λ fine. absurd (cc fine);
+    lane = record {
+      own = s.own;
+      place = place;
+      links = follows_then told told' told2 _ _ _ s.links tells (λ x y z a b. let lost = lost_step w.first w.seen conns v s.calls a.0 x y z a.1 b a.2 in ([], lost.0, lost.1, tt, lost.2));
+    };
   }
 
   -- the link that is served is put away
@@ -172,15 +183,15 @@ module _ {O : Type 0} (told : Option (List Link)) (before : View O) where
 
 module _ {O : Type 0} (told : Option (List Link)) (before : View O) where
   -- memory ran out in the midst of a turn
-  pub serving_starved : (open_gate : Bool) (end : LaneEnd) (told' : Option (List Link)) (w : View O) (conns : List Conn) (live : Option Live) (hand : Hand) → IsServing told before told' w conns live hand → end ≡ lane_end.NoMemory → IsServed open_gate end told before told' w (all_conns conns live)
-  serving_starved open_gate end told' w conns live hand s is = serving_left told before open_gate end told' w conns live hand s (ap (is_whole open_gate) is) (λ fine. absurd (cc (fine, ap is_fine is)))
+  pub serving_starved : (open_gate : Bool) (end : LaneEnd) (told' : Option (List Link)) (w : View O) (conns : List Conn) (live : Option Live) (hand : Hand) → IsServing told before told' w conns live hand → HasPlace w live → end ≡ lane_end.NoMemory → IsLeft open_gate end told before told' w (all_conns conns live) live
+  serving_starved open_gate end told' w conns live hand s place is = serving_left told before open_gate end told' w conns live hand s place (ap (is_whole open_gate) is) (λ fine. absurd (cc (fine, ap is_fine is)))
 
   pub serving_come : (told' told2 : Option (List Link)) (w : View O) (conns : List Conn) (live : Option Live) (kind : Kind) → live ≡ None → IsServing told before told' w conns live Nothing → Follows told' told2 (Nexts (next.Link kind)) → IsServing told before told2 w conns live (Unopened kind)
   serving_come told' told2 w conns live kind is s tells = subst (λ l. IsServing told before told2 w conns l (Unopened kind)) (sym is) (serving_next told before told' told2 w conns kind (subst (λ l. IsServing told before told' w conns l Nothing) is s) tells)
 
   -- no link comes, and the lane ends
-  pub serving_gone : (open_gate : Bool) (end : LaneEnd) (told' told2 : Option (List Link)) (w : View O) (conns : List Conn) (live : Option Live) → live ≡ None → IsServing told before told' w conns live Nothing → Follows told' told2 (λ old new. new ≡ old) → IsServed open_gate end told before told2 w (all_conns conns live)
-  serving_gone open_gate end told' told2 w conns live is s tells = serving_done told before open_gate end told2 w conns live (serving_same told before told' told2 w conns live Nothing s tells) (subst IsSettled (sym is) tt) (subst (IsCaught w) (sym is) tt)
+  pub serving_gone : (open_gate : Bool) (end : LaneEnd) (told' told2 : Option (List Link)) (w : View O) (conns : List Conn) (live : Option Live) → live ≡ None → IsServing told before told' w conns live Nothing → Follows told' told2 (λ old new. new ≡ old) → IsLeft open_gate end told before told2 w (all_conns conns live) live
+  serving_gone open_gate end told' told2 w conns live is s tells = serving_done told before open_gate end told2 w conns live (serving_same told before told' told2 w conns live Nothing s tells) (subst (HasPlace w) (sym is) tt) (subst IsSettled (sym is) tt) (subst (IsCaught w) (sym is) tt)
 
   pub serving_fresh : (told' : Option (List Link)) (w w2 : View O) (conns : List Conn) (live : Option Live) (v : Live) (kind : Kind) (place : ℕ) → live ≡ None → IsServing told before told' w conns live (Unopened kind) → IsCalled w w2 place (Open kind) → IsInTime w2.first w2.seen
       → v.conn ≡ record { number = place; kind = kind } → v.cutter ≡ record { kind = kind; ready = []; rest = []; bad = None } → v.from ≡ place → (v.ending ≡ false) × (v.failed ≡ false) × (v.ended ≡ false) → IsServing told before told' w2 conns (Some v) Nothing

@@ -89,17 +89,21 @@ IsLast log [] = Unit {0}
 IsLast log (Call to bytes outcome ∷ []) = (call : ℕ) × HasAsked log call to bytes
 IsLast log _ = ⊥
 
--- What a caller with this post made of its turns: its calls are the ends of calls, and, in order, the first of its
--- share, if their numbers rise.
+-- What a caller with this post made of its turns in this journal, of which it had seen all before the place `start` at first: its
+-- calls are the ends of calls, and, in order, the first of its share, if their numbers rise.
+pub record CallerMade (post : CallerPost) (start first : ℕ) (log : List Entry) (told told' : Option (List Asked)) (calls : List (ℕ × Event)) : Type 0 where
+  pub ends : AllByRecursion (λ c. is_called c.1 ≡ true) calls
+  pub in_order : Rises 0 (asked_in post.share post.of log) → IsPrefix (numbers calls) (map number (asked_in post.share post.of log))
+  pub asked : Follows told told' (λ old new. (asked : List Asked) × (last : List Asked) × (new ≡ (old ++ asked) ++ last) × IsLast log last × Answers post first start log [] asked calls)
+
+-- what a caller made by the calls of its pass
 pub record AreMade {O : Type 0} (post : CallerPost) (told : Option (List Asked)) (before : View O) (told' : Option (List Asked)) (after : View O) : Type 0 where
   pub goes : Goes before after
   pub shares : after.shares ≡ before.shares
   pub calls : List (ℕ × Event)
   pub mine : after.mine ≡ before.mine ++ calls
-  pub ends : AllByRecursion (λ c. is_called c.1 ≡ true) calls
   pub made : after.made ≡ before.made + length calls
-  pub in_order : Rises 0 (asked_in post.share post.of after.seen) → IsPrefix (numbers calls) (map number (asked_in post.share post.of after.seen))
-  pub asked : Follows told told' (λ old new. (asked : List Asked) × (last : List Asked) × (new ≡ (old ++ asked) ++ last) × IsLast after.seen last × Answers post after.first (before.first + length before.seen) after.seen [] asked calls)
+  pub caller : CallerMade post (before.first + length before.seen) after.first after.seen told told' calls
 
 -- ---- on the way
 

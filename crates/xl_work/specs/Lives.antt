@@ -107,6 +107,19 @@ abbrev pub held : Hand → List (List ℕ)
 held (Received message) = message ∷ []
 held _ = []
 
+-- What was sent to a connection of this number is a beginning of what the journal sends to it: all up to a place, if none of so many
+-- calls failed.
+pub record IsSending (first : ℕ) (log : List Entry) (number place : ℕ) (has_failed : Bool) (failures : ℕ) (bytes : List ℕ) : Type 0 where
+  pub opened : (first ≤ number) × (number < first + length log)
+  pub from : (first ≤ place) × (place ≤ first + length log)
+  pub failed : has_failed ≡ not (failures == 0)
+  pub sent : IsPrefix bytes (outs_to number log)
+  pub all : has_failed ≡ false → bytes ≡ outs_to number (take (place - first) log)
+
+-- the same of a link that is served
+abbrev pub IsSendingTo : ℕ → List Entry → Link → Live → Type 0
+IsSendingTo first log l v = IsSending first log v.conn.number v.from v.failed l.failed l.sent
+
 -- The link that is served now. A message of it may be in hand.
 pub record IsLive (first : ℕ) (log : List Entry) (l : Link) (v : Live) (hand : Hand) (mine : List (ℕ × Event)) : Type 0 where
   pub kind : l.kind ≡ v.conn.kind
@@ -114,14 +127,10 @@ pub record IsLive (first : ℕ) (log : List Entry) (l : Link) (v : Live) (hand :
   pub cut : with_frames (messages_in mine ++ held hand) (framed_of v.cutter) ≡ frames l.kind l.taken
   pub ends : has_end mine ≡ v.ended
   pub ending : v.ending ≡ (l.ended || is_bad v.cutter.bad)
-  pub failed : v.failed ≡ not (l.failed == 0)
   pub cause : v.ended ≡ true → (v.ending || v.failed) ≡ true
   pub closed : v.ended ≡ true → HasEnded first log v.conn.number
   pub shut : l.shut ≡ false
-  pub opened : (first ≤ v.conn.number) × (v.conn.number < first + length log)
-  pub from : (first ≤ v.from) × (v.from ≤ first + length log)
-  pub sent : IsPrefix l.sent (outs_to v.conn.number log)
-  pub all : v.failed ≡ false → l.sent ≡ outs_to v.conn.number (take (v.from - first) log)
+  pub sending : IsSendingTo first log l v
 
 -- the links that a worker served, of which the newest is served still, or isn't opened yet
 abbrev pub Serves : ℕ → List Entry → List Link → List Conn → Option Live → Hand → List (ℕ × Event) → Type 0
@@ -148,23 +157,29 @@ pub record IsServing {O : Type 0} (told : Option (List Link)) (before : View O) 
 
 -- ---- what a lane comes to
 
+-- If a connection's end is entered it has a cause. If it isn't, its link said no end and sent no bad frame, and no more of its
+-- calls failed than so many.
+abbrev pub Accounts : ℕ → Bool → Link → Type 0
+Accounts late true l = has_cause l ≡ true
+Accounts late false l = ((l.ended || is_bad (frames l.kind l.taken).bad) ≡ false) × (l.failed ≤ late)
+
 -- A link at the end, with its connection and its calls: its messages are the first frames of what was taken, its end
 -- has a cause, and it was sent a beginning of what the journal sends to it. It is shut only behind its end. In a whole
--- lane the messages are all frames, the end is there exactly if it has a cause, and then the link is shut. If memory
--- didn't run out it was sent all, if none of its calls failed.
-pub record IsTold (whole fine : Bool) (first : ℕ) (log : List Entry) (l : Link) (c : Conn) (mine : List (ℕ × Event)) : Type 0 where
+-- lane the messages are all frames, the end is there exactly if it has a cause, a failure of the last so many calls aside, and
+-- then the link is shut. If memory didn't run out it was sent all, if none of its calls failed.
+pub record IsTold (late : ℕ) (whole fine : Bool) (first : ℕ) (log : List Entry) (l : Link) (c : Conn) (mine : List (ℕ × Event)) : Type 0 where
   pub kind : l.kind ≡ c.kind
   pub cut : IsPrefix (messages_in mine) (frames l.kind l.taken).frames
-  pub full : whole ≡ true → (messages_in mine ≡ (frames l.kind l.taken).frames) × (has_end mine ≡ has_cause l) × (l.shut ≡ has_end mine)
+  pub full : whole ≡ true → (messages_in mine ≡ (frames l.kind l.taken).frames) × Accounts late (has_end mine) l × (l.shut ≡ has_end mine)
   pub cause : has_end mine ≡ true → has_cause l ≡ true
   pub shut : l.shut ≡ true → has_end mine ≡ true
   pub sent : IsPrefix l.sent (outs_to c.number log)
   pub all : fine ≡ true → l.failed ≡ 0 → l.sent ≡ outs_to c.number log
 
 -- links, the newest in front, with their connections, the newest at the end, and the calls of all
-abbrev pub AreTold : Bool → Bool → ℕ → List Entry → List Link → List Conn → List (ℕ × Event) → Type 0
-AreTold whole fine first log [] conns calls = (conns ≡ []) × (calls ≡ [])
-AreTold whole fine first log (l ∷ ls) conns calls = (earlier : List Conn) × (c : Conn) × (before : List (ℕ × Event)) × (mine : List (ℕ × Event)) × (conns ≡ earlier ++ c ∷ []) × (calls ≡ before ++ mine) × IsTold whole fine first log l c mine × AreTold whole fine first log ls earlier before
+abbrev pub AreTold : ℕ → Bool → Bool → ℕ → List Entry → List Link → List Conn → List (ℕ × Event) → Type 0
+AreTold late whole fine first log [] conns calls = (conns ≡ []) × (calls ≡ [])
+AreTold late whole fine first log (l ∷ ls) conns calls = (earlier : List Conn) × (c : Conn) × (before : List (ℕ × Event)) × (mine : List (ℕ × Event)) × (conns ≡ earlier ++ c ∷ []) × (calls ≡ before ++ mine) × IsTold late whole fine first log l c mine × AreTold late whole fine first log ls earlier before
 
 -- a last link whose opening was not entered; a whole lane has none
 abbrev pub IsUnopened : Bool → List Link → Type 0
@@ -182,15 +197,59 @@ abbrev pub is_fine : LaneEnd → Bool
 is_fine lane_end.NoMemory = false
 is_fine _ = true
 
--- what a lane came to: its calls are those of its connections, and of each link it tells what became of it
+-- what a lane came to in this journal: its calls are those of its connections, and of each link it tells what became of it
+pub record LaneTold (late : ℕ) (open_gate : Bool) (end : LaneEnd) (first : ℕ) (log : List Entry) (told told' : Option (List Link)) (conns : List Conn) (calls : List (ℕ × Event)) : Type 0 where
+  pub own : AreOfAll first conns calls
+  pub links : Follows told told' (λ old new. (unopened : List Link) × (links : List Link) × (new ≡ (unopened ++ links) ++ old) × IsUnopened (is_whole open_gate end) unopened × AreTold late (is_whole open_gate end) (is_fine end) first log links conns calls)
+
+-- what a lane came to by the calls of its pass
 pub record IsServed {O : Type 0} (open_gate : Bool) (end : LaneEnd) (told : Option (List Link)) (before : View O) (told' : Option (List Link)) (after : View O) (conns : List Conn) : Type 0 where
   pub goes : Goes before after
   pub shares : after.shares ≡ before.shares
   pub calls : List (ℕ × Event)
   pub mine : after.mine ≡ before.mine ++ calls
   pub made : after.made ≡ before.made + length calls
-  pub own : AreOfAll after.first conns calls
-  pub links : Follows told told' (λ old new. (unopened : List Link) × (links : List Link) × (new ≡ (unopened ++ links) ++ old) × IsUnopened (is_whole open_gate end) unopened × AreTold (is_whole open_gate end) (is_fine end) after.first after.seen links conns calls)
+  pub lane : LaneTold 0 open_gate end after.first after.seen told told' conns calls
+
+-- ---- what a lane leaves behind
+
+-- a link that a lane left open: as it is told, but that it is to be sent the rest still
+pub record IsLeftOpen (late : ℕ) (whole : Bool) (first : ℕ) (log : List Entry) (l : Link) (v : Live) (mine : List (ℕ × Event)) : Type 0 where
+  pub kind : l.kind ≡ v.conn.kind
+  pub cut : IsPrefix (messages_in mine) (frames l.kind l.taken).frames
+  pub full : whole ≡ true → (messages_in mine ≡ (frames l.kind l.taken).frames) × Accounts late (has_end mine) l × (l.shut ≡ has_end mine)
+  pub cause : has_end mine ≡ true → has_cause l ≡ true
+  pub shut : l.shut ≡ false
+  pub sending : IsSendingTo first log l v
+
+-- links of which all are over, but the newest if it was left open
+abbrev pub AreLeft : ℕ → Bool → ℕ → List Entry → List Link → List Conn → Option Live → List (ℕ × Event) → Type 0
+AreLeft late whole first log links conns None calls = AreOver first log links conns calls
+AreLeft late whole first log [] conns (Some v) calls = ⊥
+AreLeft late whole first log (l ∷ ls) conns (Some v) calls = (earlier : List Conn) × (before : List (ℕ × Event)) × (mine : List (ℕ × Event)) × (conns ≡ earlier ++ v.conn ∷ []) × (calls ≡ before ++ mine) × IsLeftOpen late whole first log l v mine × AreOver first log ls earlier before
+
+-- a last link whose opening was not entered, with none left open
+abbrev pub IsUnentered : Bool → Option Live → List Link → Type 0
+IsUnentered whole live [] = Unit {0}
+IsUnentered whole live (l ∷ []) = (live ≡ None) × (whole ≡ false) × (l ≡ fresh l.kind)
+IsUnentered whole live _ = ⊥
+
+-- what a lane leaves in this journal
+pub record LaneLeft (late : ℕ) (open_gate : Bool) (end : LaneEnd) (first : ℕ) (log : List Entry) (told told' : Option (List Link)) (conns : List Conn) (live : Option Live) (calls : List (ℕ × Event)) : Type 0 where
+  pub own : AreOfAll first conns calls
+  pub place : IfSome live (λ l. (first ≤ l.from) × (l.from ≤ first + length log))
+  pub links : Follows told told' (λ old new. (unentered : List Link) × (links : List Link) × (new ≡ (unentered ++ links) ++ old) × IsUnentered (is_whole open_gate end) live unentered × AreLeft late (is_whole open_gate end) first log links conns live calls)
+
+-- What a lane leaves behind by the calls of its pass: a link that is left open was sent all that the pass has seen, unless a call
+-- of it failed or memory ran out.
+pub record IsLeft {O : Type 0} (open_gate : Bool) (end : LaneEnd) (told : Option (List Link)) (before : View O) (told' : Option (List Link)) (after : View O) (conns : List Conn) (live : Option Live) : Type 0 where
+  pub goes : Goes before after
+  pub shares : after.shares ≡ before.shares
+  pub calls : List (ℕ × Event)
+  pub mine : after.mine ≡ before.mine ++ calls
+  pub made : after.made ≡ before.made + length calls
+  pub caught : is_fine end ≡ true → IfSome live (λ l. l.failed ≡ false → l.from ≡ after.first + length after.seen)
+  pub lane : LaneLeft 0 open_gate end after.first after.seen told told' conns live calls
 
 -- the place up to which a link was sent all is one that the pass knows
 abbrev pub HasPlace : {O : Type 0} → View O → Option Live → Type 0
@@ -257,7 +316,7 @@ Carries v w l m = (first : ℕ) (log : List Entry) (mine : List (ℕ × Event)) 
 
 -- what was taken of a link in a step isn't known any more
 abbrev pub Loses : Live → Link → Link → Type 0
-Loses v l m = (first : ℕ) (log : List Entry) (mine : List (ℕ × Event)) → IsLive first log l v Nothing mine → IsTold false false first log m v.conn mine
+Loses v l m = (first : ℕ) (log : List Entry) (mine : List (ℕ × Event)) → IsLive first log l v Nothing mine → IsLeftOpen 0 false first log m v mine
 
 -- ---- why a lane ends
 
@@ -304,8 +363,8 @@ IsOwnEnd before after _ = ⊥
 
 -- why a lane ends in a turn
 abbrev pub IsTurnEnd : {O : Type 0} → (List Entry → Halt → Type 0) → Bool → ℕ → View O → Tally → Tally → LaneEnd → Type 0
-IsTurnEnd may_halt open_gate turns v before after lane_end.End = IsOwnEnd before after lane_end.End
-IsTurnEnd may_halt open_gate turns v before after (lane_end.Failed count) = IsOwnEnd before after (lane_end.Failed count)
+IsTurnEnd may_halt open_gate turns v before after lane_end.End = IsOwnEnd before after lane_end.End × (after.asked ≡ counted before.asked)
+IsTurnEnd may_halt open_gate turns v before after (lane_end.Failed count) = IsOwnEnd before after (lane_end.Failed count) × (after.asked ≡ counted before.asked)
 IsTurnEnd may_halt open_gate turns v before after end = IsBroken may_halt open_gate turns v end
 
 -- Why a lane ended: it said its end, lost a link, or was cut off; or all turns are done, in each of which a link or its

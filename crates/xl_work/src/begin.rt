@@ -7,7 +7,7 @@ ghost use Rattle.xl_base.specs.declared.lane.Link.{Link as TheLink};
 ghost use Rattle.xl_base.specs.declared.lane_end.LaneEnd.TheVariants as lane_end;
 ghost use Rattle.xl_frame.specs.Cutting.{fed};
 ghost use Rattle.xl_desk.specs.declared.view.View.{View as TheView};
-ghost use Rattle.xl_work.specs.Lives.{Nothing, Unopened, IsServing, IsServed, HasPlace, IsSettled, IsBroken, IsTurnEnd, IsQuiet, HasAsked, Carries, Loses, tally, all_conns, is_bad};
+ghost use Rattle.xl_work.specs.Lives.{Nothing, Unopened, IsServing, IsLeft, HasPlace, IsSettled, IsBroken, IsTurnEnd, IsQuiet, HasAsked, Carries, Loses, tally, all_conns, is_bad};
 
 use crate::lane::{ask, enter};
 use crate::worker::{LanePost, Live, Worker};
@@ -42,6 +42,7 @@ fn receive<L: Lane>(alloc: Global, lane: &mut L, live: &mut Live) -> Result<(), 
     requires settled { (live.old.ending ≡ false) × (live.old.ended ≡ false) }
     ensures carries { OnOk result (Follows (L.told lane.old) (L.told lane.new) (OnNewest (Carries live.old live.new))) }
     ensures loses { OnErr result (Follows (L.told lane.old) (L.told lane.new) (OnNewest (Loses live.old))) }
+    ensures kept { OnErr result (live.new ≡ live.old) }
     ensures same { (live.new.conn ≡ live.old.conn) × (live.new.from ≡ live.old.from) × (live.new.ended ≡ live.old.ended) }
     ensures asked { HasAsked (tally L.asked L.lost L.faults L.ended lane.old) (tally L.asked L.lost L.faults L.ended lane.new) }
     ensures memory { IfErr result (λ end. end ≡ lane_end.NoMemory) }
@@ -84,9 +85,9 @@ fn open<H: Serial, G: Gate, L: Lane, R: Wait>(
     requires turns { worker.old.done < post.turns }
     requires idle { worker.old.live ≡ None }
     ensures desk { worker.new.pass.desk ≡ worker.old.pass.desk }
-    ensures place { OnOk result (HasPlace worker.new.pass.view worker.new.live) }
+    ensures place { HasPlace worker.new.pass.view worker.new.live }
     ensures serving { (told : Option (List TheLink)) (before : TheView H.Origin) → IsServing told before (L.told worker.old.lane) worker.old.pass.view worker.old.conns.items worker.old.live (Unopened kind) → OnOk result (IsServing told before (L.told worker.new.lane) worker.new.pass.view worker.new.conns.items worker.new.live Nothing) }
-    ensures left { (told : Option (List TheLink)) (before : TheView H.Origin) → IsServing told before (L.told worker.old.lane) worker.old.pass.view worker.old.conns.items worker.old.live (Unopened kind) → IfErr result (λ end. IsServed (G.is_open gate.now) end told before (L.told worker.new.lane) worker.new.pass.view (all_conns worker.new.conns.items worker.new.live)) }
+    ensures left { (told : Option (List TheLink)) (before : TheView H.Origin) → IsServing told before (L.told worker.old.lane) worker.old.pass.view worker.old.conns.items worker.old.live (Unopened kind) → IfErr result (λ end. IsLeft (G.is_open gate.now) end told before (L.told worker.new.lane) worker.new.pass.view (all_conns worker.new.conns.items worker.new.live) worker.new.live) }
     ensures runs { OnOk result (IfSome worker.new.live (λ l. l.ended ≡ false)) }
     ensures conns { worker.new.conns ≡ worker.old.conns }
     ensures done { OnOk result ((worker.old.done ≤ worker.new.done) × (worker.new.done < post.turns)) }
@@ -115,9 +116,9 @@ fn next_link<H: Serial, G: Gate, L: Lane, R: Wait>(
     requires turns { worker.old.done < post.turns }
     requires idle { worker.old.live ≡ None }
     ensures desk { worker.new.pass.desk ≡ worker.old.pass.desk }
-    ensures place { OnOk result (HasPlace worker.new.pass.view worker.new.live) }
+    ensures place { HasPlace worker.new.pass.view worker.new.live }
     ensures serving { (told : Option (List TheLink)) (before : TheView H.Origin) → IsServing told before (L.told worker.old.lane) worker.old.pass.view worker.old.conns.items worker.old.live Nothing → OnOk result (IsServing told before (L.told worker.new.lane) worker.new.pass.view worker.new.conns.items worker.new.live Nothing) }
-    ensures left { (told : Option (List TheLink)) (before : TheView H.Origin) → IsServing told before (L.told worker.old.lane) worker.old.pass.view worker.old.conns.items worker.old.live Nothing → IfErr result (λ end. IsServed (G.is_open gate.now) end told before (L.told worker.new.lane) worker.new.pass.view (all_conns worker.new.conns.items worker.new.live)) }
+    ensures left { (told : Option (List TheLink)) (before : TheView H.Origin) → IsServing told before (L.told worker.old.lane) worker.old.pass.view worker.old.conns.items worker.old.live Nothing → IfErr result (λ end. IsLeft (G.is_open gate.now) end told before (L.told worker.new.lane) worker.new.pass.view (all_conns worker.new.conns.items worker.new.live) worker.new.live) }
     ensures runs { OnOk result (IfSome worker.new.live (λ l. l.ended ≡ false)) }
     ensures conns { worker.new.conns ≡ worker.old.conns }
     ensures done { OnOk result ((worker.old.done ≤ worker.new.done) × (worker.new.done < post.turns)) }
@@ -149,9 +150,9 @@ pub(crate) fn begin<H: Serial, G: Gate, L: Lane, R: Wait>(
     requires turns { worker.old.done < post.turns }
     requires settled { IsSettled worker.old.live }
     ensures desk { worker.new.pass.desk ≡ worker.old.pass.desk }
-    ensures place { OnOk result (HasPlace worker.new.pass.view worker.new.live) }
+    ensures place { HasPlace worker.new.pass.view worker.new.live }
     ensures serving { (told : Option (List TheLink)) (before : TheView H.Origin) → IsServing told before (L.told worker.old.lane) worker.old.pass.view worker.old.conns.items worker.old.live Nothing → OnOk result (IsServing told before (L.told worker.new.lane) worker.new.pass.view worker.new.conns.items worker.new.live Nothing) }
-    ensures left { (told : Option (List TheLink)) (before : TheView H.Origin) → IsServing told before (L.told worker.old.lane) worker.old.pass.view worker.old.conns.items worker.old.live Nothing → IfErr result (λ end. IsServed (G.is_open gate.now) end told before (L.told worker.new.lane) worker.new.pass.view (all_conns worker.new.conns.items worker.new.live)) }
+    ensures left { (told : Option (List TheLink)) (before : TheView H.Origin) → IsServing told before (L.told worker.old.lane) worker.old.pass.view worker.old.conns.items worker.old.live Nothing → IfErr result (λ end. IsLeft (G.is_open gate.now) end told before (L.told worker.new.lane) worker.new.pass.view (all_conns worker.new.conns.items worker.new.live) worker.new.live) }
     ensures runs { OnOk result (IfSome worker.new.live (λ l. l.ended ≡ false)) }
     ensures conns { worker.new.conns ≡ worker.old.conns }
     ensures done { OnOk result ((worker.old.done ≤ worker.new.done) × (worker.new.done < post.turns)) }

@@ -4,7 +4,7 @@ ghost use Rattle.xl_base.specs.declared.event.Event.TheVariants.{End as TheEnd};
 ghost use Rattle.xl_base.specs.declared.lane.Link.{Link as TheLink};
 ghost use Rattle.xl_base.specs.declared.lane_end.LaneEnd.TheVariants as lane_end;
 ghost use Rattle.xl_desk.specs.declared.view.View.{View as TheView};
-ghost use Rattle.xl_work.specs.Lives.{Nothing, IsServing, IsServed, HasPlace, HasRoom, IsCaught, IsClosing, IsEmptied, IsBroken, IsQuiet, is_over, tally, all_conns, number_in};
+ghost use Rattle.xl_work.specs.Lives.{Nothing, IsServing, IsLeft, HasPlace, HasRoom, IsCaught, IsClosing, IsEmptied, IsBroken, IsQuiet, is_over, tally, all_conns, number_in};
 
 use crate::lane::{ask, catch_up, enter};
 use crate::worker::{LanePost, Live, Worker, note_end};
@@ -39,7 +39,7 @@ fn enter_end<H: Serial, G: Gate, L: Lane, R: Wait>(
     ensures desk { worker.new.pass.desk ≡ worker.old.pass.desk }
     ensures place { HasPlace worker.new.pass.view worker.new.live }
     ensures serving { (told : Option (List TheLink)) (before : TheView H.Origin) → IsServing told before (L.told worker.old.lane) worker.old.pass.view worker.old.conns.items worker.old.live Nothing → OnOk result (IsServing told before (L.told worker.new.lane) worker.new.pass.view worker.new.conns.items worker.new.live Nothing) }
-    ensures left { (told : Option (List TheLink)) (before : TheView H.Origin) → IsServing told before (L.told worker.old.lane) worker.old.pass.view worker.old.conns.items worker.old.live Nothing → IfErr result (λ end. IsServed (G.is_open gate.now) end told before (L.told worker.new.lane) worker.new.pass.view (all_conns worker.new.conns.items worker.new.live)) }
+    ensures left { (told : Option (List TheLink)) (before : TheView H.Origin) → IsServing told before (L.told worker.old.lane) worker.old.pass.view worker.old.conns.items worker.old.live Nothing → IfErr result (λ end. IsLeft (G.is_open gate.now) end told before (L.told worker.new.lane) worker.new.pass.view (all_conns worker.new.conns.items worker.new.live) worker.new.live) }
     ensures closing { OnOk result (IsClosing worker.new.live) }
     ensures conns { worker.new.conns ≡ worker.old.conns }
     ensures done { OnOk result ((worker.old.done ≤ worker.new.done) × (worker.new.done < post.turns)) }
@@ -97,8 +97,9 @@ pub(crate) fn end_link<H: Serial, G: Gate, L: Lane, R: Wait>(
     requires emptied { IsEmptied worker.old.live }
     ensures desk { worker.new.pass.desk ≡ worker.old.pass.desk }
     ensures gone { OnOk result (worker.new.live ≡ None) }
+    ensures place { HasPlace worker.new.pass.view worker.new.live }
     ensures serving { (told : Option (List TheLink)) (before : TheView H.Origin) → IsServing told before (L.told worker.old.lane) worker.old.pass.view worker.old.conns.items worker.old.live Nothing → OnOk result (IsServing told before (L.told worker.new.lane) worker.new.pass.view worker.new.conns.items None Nothing) }
-    ensures left { (told : Option (List TheLink)) (before : TheView H.Origin) → IsServing told before (L.told worker.old.lane) worker.old.pass.view worker.old.conns.items worker.old.live Nothing → IfErr result (λ end. IsServed (G.is_open gate.now) end told before (L.told worker.new.lane) worker.new.pass.view (all_conns worker.new.conns.items worker.new.live)) }
+    ensures left { (told : Option (List TheLink)) (before : TheView H.Origin) → IsServing told before (L.told worker.old.lane) worker.old.pass.view worker.old.conns.items worker.old.live Nothing → IfErr result (λ end. IsLeft (G.is_open gate.now) end told before (L.told worker.new.lane) worker.new.pass.view (all_conns worker.new.conns.items worker.new.live) worker.new.live) }
     ensures done { OnOk result ((worker.old.done ≤ worker.new.done) × (worker.new.done < post.turns)) }
     ensures passes { G.is_open gate.now ≡ true → worker.new.done ≡ worker.old.done }
     ensures quiet { IsQuiet (tally L.asked L.lost L.faults L.ended worker.old.lane) (tally L.asked L.lost L.faults L.ended worker.new.lane) }

@@ -7,7 +7,7 @@ ghost use Rattle.xl_base.specs.Links.{send_failed};
 ghost use Rattle.xl_desk.specs.declared.view.View.{View as TheView};
 ghost use Rattle.xl_desk.specs.Passes.{Goes, IsCalled, IsLawful};
 ghost use Rattle.xl_work.specs.Calls.{IsCut};
-ghost use Rattle.xl_work.specs.Lives.{Hand, Nothing, IsServing, IsServed, HasPlace, IsCaught, IsBroken, IsQuiet, is_over, tally, ready_in, all_conns, end_of, still, steady};
+ghost use Rattle.xl_work.specs.Lives.{Hand, Nothing, IsServing, IsLeft, HasPlace, IsCaught, IsBroken, IsQuiet, is_over, tally, ready_in, all_conns, end_of, still, steady};
 
 use crate::worker::{LanePost, Live, Worker, call_number, note_end, take_message};
 use std::alloc::Global;
@@ -16,7 +16,7 @@ use xl_base::{Event, Gate, Lane, LaneEnd, Serial, WriteOutcome};
 use xl_desk::{Desk, DeskErr};
 
 /// Whether a send failed.
-fn is_failed(outcome: WriteOutcome) -> bool
+pub(crate) fn is_failed(outcome: WriteOutcome) -> bool
     ensures { result ≡ send_failed outcome }
 {
     matches!(outcome, WriteOutcome::Failed)
@@ -83,7 +83,7 @@ pub(crate) fn enter<H: Serial, L: Lane, R: Wait>(
     ensures same { OnOk result ((worker.new.lane ≡ worker.old.lane) × (worker.new.live ≡ worker.old.live)) }
     ensures rest { (worker.new.conns ≡ worker.old.conns) × (worker.new.done ≡ worker.old.done) }
     ensures quiet { IsQuiet (tally L.asked L.lost L.faults L.ended worker.old.lane) (tally L.asked L.lost L.faults L.ended worker.new.lane) }
-    ensures left { (open_gate : Bool) (told : Option (List TheLink)) (before : TheView H.Origin) (hand : Hand) → IsServing told before (L.told worker.old.lane) worker.old.pass.view worker.old.conns.items worker.old.live hand → IfErr result (λ end. IsServed open_gate end told before (L.told worker.new.lane) worker.new.pass.view (all_conns worker.new.conns.items worker.new.live)) }
+    ensures left { (open_gate : Bool) (told : Option (List TheLink)) (before : TheView H.Origin) (hand : Hand) → IsServing told before (L.told worker.old.lane) worker.old.pass.view worker.old.conns.items worker.old.live hand → IfErr result (λ end. IsLeft open_gate end told before (L.told worker.new.lane) worker.new.pass.view (all_conns worker.new.conns.items worker.new.live) worker.new.live) }
     ensures cut { IfErr result (λ end. IsCut H.may_halt worker.new.pass.view end) }
 {
     worker.calls = worker.calls.wrapping_add(1);
@@ -97,7 +97,7 @@ pub(crate) fn enter<H: Serial, L: Lane, R: Wait>(
 }
 
 /// How a lane ends whose call was refused.
-fn end_of(refused: DeskErr) -> LaneEnd
+pub(crate) fn end_of(refused: DeskErr) -> LaneEnd
     ensures { result ≡ end_of refused }
 {
     match refused {
@@ -123,7 +123,7 @@ pub(crate) fn ask<H: Serial, G: Gate, L: Lane, R: Wait>(
     ensures desk { worker.new.pass.desk ≡ worker.old.pass.desk }
     ensures place { HasPlace worker.new.pass.view worker.new.live }
     ensures serving { (told : Option (List TheLink)) (before : TheView H.Origin) (hand : Hand) → IsServing told before (L.told worker.old.lane) worker.old.pass.view worker.old.conns.items worker.old.live hand → IsServing told before (L.told worker.new.lane) worker.new.pass.view worker.new.conns.items worker.new.live hand }
-    ensures left { (told : Option (List TheLink)) (before : TheView H.Origin) (hand : Hand) → IsServing told before (L.told worker.old.lane) worker.old.pass.view worker.old.conns.items worker.old.live hand → IfErr result (λ end. IsServed (G.is_open gate.now) end told before (L.told worker.new.lane) worker.new.pass.view (all_conns worker.new.conns.items worker.new.live)) }
+    ensures left { (told : Option (List TheLink)) (before : TheView H.Origin) (hand : Hand) → IsServing told before (L.told worker.old.lane) worker.old.pass.view worker.old.conns.items worker.old.live hand → IfErr result (λ end. IsLeft (G.is_open gate.now) end told before (L.told worker.new.lane) worker.new.pass.view (all_conns worker.new.conns.items worker.new.live) worker.new.live) }
     ensures still { option_map still worker.new.live ≡ option_map still worker.old.live }
     ensures over { is_over worker.old.live ≡ true → is_over worker.new.live ≡ true }
     ensures conns { worker.new.conns ≡ worker.old.conns }
@@ -159,7 +159,7 @@ pub(crate) fn enter_messages<H: Serial, G: Gate, L: Lane, R: Wait>(
     ensures desk { worker.new.pass.desk ≡ worker.old.pass.desk }
     ensures place { HasPlace worker.new.pass.view worker.new.live }
     ensures serving { (told : Option (List TheLink)) (before : TheView H.Origin) → IsServing told before (L.told worker.old.lane) worker.old.pass.view worker.old.conns.items worker.old.live Nothing → OnOk result (IsServing told before (L.told worker.new.lane) worker.new.pass.view worker.new.conns.items worker.new.live Nothing) }
-    ensures left { (told : Option (List TheLink)) (before : TheView H.Origin) → IsServing told before (L.told worker.old.lane) worker.old.pass.view worker.old.conns.items worker.old.live Nothing → IfErr result (λ end. IsServed (G.is_open gate.now) end told before (L.told worker.new.lane) worker.new.pass.view (all_conns worker.new.conns.items worker.new.live)) }
+    ensures left { (told : Option (List TheLink)) (before : TheView H.Origin) → IsServing told before (L.told worker.old.lane) worker.old.pass.view worker.old.conns.items worker.old.live Nothing → IfErr result (λ end. IsLeft (G.is_open gate.now) end told before (L.told worker.new.lane) worker.new.pass.view (all_conns worker.new.conns.items worker.new.live) worker.new.live) }
     ensures steady { OnOk result (option_map steady worker.new.live ≡ option_map steady worker.old.live) }
     ensures emptied { OnOk result (ready_in worker.new.live ≡ 0) }
     ensures conns { worker.new.conns ≡ worker.old.conns }

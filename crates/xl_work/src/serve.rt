@@ -4,12 +4,12 @@ ghost use Rattle.xl_base.specs.declared.event.Event.TheVariants.{Open as TheOpen
 ghost use Rattle.xl_base.specs.declared.event.Kind.{Kind as TheKind};
 ghost use Rattle.xl_base.specs.declared.lane.Link.{Link as TheLink};
 ghost use Rattle.xl_desk.specs.declared.view.View.{View as TheView};
-ghost use Rattle.xl_work.specs.Lives.{Nothing, IsServing, IsServed, HasPlace, HasRoom, IsCaught, IsSettled, IsEmptied, IsBroken, IsTurnEnd, IsLaneEnd, IsQuiet, HasAsked, tally, all_conns};
+ghost use Rattle.xl_work.specs.Lives.{Nothing, IsServing, IsServed, IsLeft, HasPlace, HasRoom, IsCaught, IsSettled, IsEmptied, IsBroken, IsTurnEnd, IsLaneEnd, IsQuiet, HasAsked, tally, all_conns};
 
 use crate::begin::begin;
 use crate::ending::end_link;
 use crate::lane::{catch_up, enter_messages};
-use crate::worker::{Conn, LaneDone, LanePost, Live, Worker, is_over};
+use crate::worker::{Conn, LaneDone, LanePost, Live, Worker, is_over, unserved};
 use std::alloc::Global;
 use std::sync::Wait;
 use xl_base::{Gate, Lane, LaneEnd, Serial};
@@ -33,9 +33,9 @@ fn finish<H: Serial, G: Gate, L: Lane, R: Wait>(
     requires room { vec_len worker.old.conns < vec_capacity worker.old.conns }
     requires emptied { IsEmptied worker.old.live }
     ensures desk { worker.new.pass.desk ≡ worker.old.pass.desk }
-    ensures place { OnOk result (HasPlace worker.new.pass.view worker.new.live) }
+    ensures place { HasPlace worker.new.pass.view worker.new.live }
     ensures serving { (told : Option (List TheLink)) (before : TheView H.Origin) → IsServing told before (L.told worker.old.lane) worker.old.pass.view worker.old.conns.items worker.old.live Nothing → OnOk result (IsServing told before (L.told worker.new.lane) worker.new.pass.view worker.new.conns.items worker.new.live Nothing) }
-    ensures left { (told : Option (List TheLink)) (before : TheView H.Origin) → IsServing told before (L.told worker.old.lane) worker.old.pass.view worker.old.conns.items worker.old.live Nothing → IfErr result (λ end. IsServed (G.is_open gate.now) end told before (L.told worker.new.lane) worker.new.pass.view (all_conns worker.new.conns.items worker.new.live)) }
+    ensures left { (told : Option (List TheLink)) (before : TheView H.Origin) → IsServing told before (L.told worker.old.lane) worker.old.pass.view worker.old.conns.items worker.old.live Nothing → IfErr result (λ end. IsLeft (G.is_open gate.now) end told before (L.told worker.new.lane) worker.new.pass.view (all_conns worker.new.conns.items worker.new.live) worker.new.live) }
     ensures settled { OnOk result (IsSettled worker.new.live) }
     ensures caught { OnOk result (IsCaught worker.new.pass.view worker.new.live) }
     ensures done { OnOk result ((worker.old.done ≤ worker.new.done) × (worker.new.done < post.turns)) }
@@ -53,7 +53,7 @@ fn finish<H: Serial, G: Gate, L: Lane, R: Wait>(
 }
 
 /// One turn: a wait, what it gave, and a look at the journal, of which all is sent that goes to the link.
-fn turn<H: Serial, G: Gate, L: Lane, R: Wait>(
+pub(crate) fn turn<H: Serial, G: Gate, L: Lane, R: Wait>(
     rt: &R,
     alloc: Global,
     desk: &Desk<H>,
@@ -71,9 +71,9 @@ fn turn<H: Serial, G: Gate, L: Lane, R: Wait>(
     requires room { vec_len worker.old.conns < vec_capacity worker.old.conns }
     requires settled { IsSettled worker.old.live }
     ensures desk { worker.new.pass.desk ≡ worker.old.pass.desk }
-    ensures place { OnOk result (HasPlace worker.new.pass.view worker.new.live) }
+    ensures place { HasPlace worker.new.pass.view worker.new.live }
     ensures serving { (told : Option (List TheLink)) (before : TheView H.Origin) → IsServing told before (L.told worker.old.lane) worker.old.pass.view worker.old.conns.items worker.old.live Nothing → OnOk result (IsServing told before (L.told worker.new.lane) worker.new.pass.view worker.new.conns.items worker.new.live Nothing) }
-    ensures left { (told : Option (List TheLink)) (before : TheView H.Origin) → IsServing told before (L.told worker.old.lane) worker.old.pass.view worker.old.conns.items worker.old.live Nothing → IfErr result (λ end. IsServed (G.is_open gate.now) end told before (L.told worker.new.lane) worker.new.pass.view (all_conns worker.new.conns.items worker.new.live)) }
+    ensures left { (told : Option (List TheLink)) (before : TheView H.Origin) → IsServing told before (L.told worker.old.lane) worker.old.pass.view worker.old.conns.items worker.old.live Nothing → IfErr result (λ end. IsLeft (G.is_open gate.now) end told before (L.told worker.new.lane) worker.new.pass.view (all_conns worker.new.conns.items worker.new.live) worker.new.live) }
     ensures settled { OnOk result (IsSettled worker.new.live) }
     ensures caught { OnOk result (IsCaught worker.new.pass.view worker.new.live) }
     ensures done { OnOk result ((worker.old.done < worker.new.done) × (worker.new.done ≤ post.turns)) }
@@ -108,7 +108,7 @@ fn serve<H: Serial, G: Gate, L: Lane, R: Wait>(
     requires idle { (worker.old.live ≡ None) × (worker.old.done ≡ 0) }
     ensures desk { worker.new.pass.desk ≡ worker.old.pass.desk }
     ensures kept { HasRoom (vec_len worker.new.conns) (vec_capacity worker.new.conns) worker.new.live }
-    ensures served { (told : Option (List TheLink)) (before : TheView H.Origin) → IsServing told before (L.told worker.old.lane) worker.old.pass.view worker.old.conns.items worker.old.live Nothing → IsServed (G.is_open gate.now) result told before (L.told worker.new.lane) worker.new.pass.view (all_conns worker.new.conns.items worker.new.live) }
+    ensures served { (told : Option (List TheLink)) (before : TheView H.Origin) → IsServing told before (L.told worker.old.lane) worker.old.pass.view worker.old.conns.items worker.old.live Nothing → IsLeft (G.is_open gate.now) result told before (L.told worker.new.lane) worker.new.pass.view (all_conns worker.new.conns.items worker.new.live) worker.new.live }
     ensures end { IsLaneEnd H.may_halt (G.is_open gate.now) post.turns worker.new.pass.view (tally L.asked L.lost L.faults L.ended worker.old.lane) (tally L.asked L.lost L.faults L.ended worker.new.lane) result }
 {
     'turns: while worker.done < post.turns {
@@ -120,14 +120,73 @@ fn serve<H: Serial, G: Gate, L: Lane, R: Wait>(
 }
 
 /// The connections that are over, and behind them that of the link that is served.
-fn all_conns(mut conns: Vec<Conn>, live: Option<Live>) -> Vec<Conn>
-    requires { HasRoom (vec_len conns) (vec_capacity conns) live }
-    ensures { result.items ≡ all_conns conns.items live }
+fn with_live(mut conns: Vec<Conn>, live: &Option<Live>) -> Vec<Conn>
+    requires { HasRoom (vec_len conns) (vec_capacity conns) live.now }
+    ensures { result.items ≡ all_conns conns.items live.now }
 {
     if let Some(live) = live {
         conns.push_reserved(live.conn);
     }
     conns
+}
+
+/// What became of a worker's lane, and its pass.
+pub(crate) fn done_of<H: Serial, L>(worker: Worker<H, L>, end: LaneEnd) -> (Pass<H>, LaneDone<L>)
+    requires { HasRoom (vec_len worker.conns) (vec_capacity worker.conns) worker.live }
+    ensures pass { result.0 ≡ worker.pass }
+    ensures lane { (result.1.lane ≡ worker.lane) × (result.1.end ≡ end) × (result.1.live ≡ worker.live) }
+    ensures conns { result.1.conns.items ≡ all_conns worker.conns.items worker.live }
+{
+    let Worker {
+        pass,
+        lane,
+        conns,
+        live,
+        calls: _,
+        done: _,
+    } = worker;
+    let conns = with_live(conns, &live);
+    let done = LaneDone {
+        lane,
+        end,
+        conns,
+        live,
+    };
+    (pass, done)
+}
+
+/// Serves a lane, and tells what it leaves behind.
+pub(crate) fn leave_lane<H: Serial, G: Gate, L: Lane, R: Wait>(
+    rt: &R,
+    alloc: Global,
+    desk: &Desk<H>,
+    gate: &G,
+    pass: Pass<H>,
+    post: LanePost,
+    lane: L,
+) -> (Pass<H>, LaneDone<L>)
+    requires desk { pass.desk ≡ desk.now }
+    requires opens { (kind : TheKind) → H.takes (TheOpen kind) }
+    requires messages { (conn : ℕ) (bytes : List ℕ) → H.takes (TheMessage conn bytes) }
+    requires ends { (conn : ℕ) → H.takes (TheEnd conn) }
+    requires post { post.place < 2 ^ 32 }
+    ensures desk { result.0.desk ≡ pass.desk }
+    ensures left { IsLeft (G.is_open gate.now) result.1.end (L.told lane) pass.view (L.told result.1.lane) result.0.view result.1.conns.items result.1.live }
+    ensures end { IsLaneEnd H.may_halt (G.is_open gate.now) post.turns result.0.view (tally L.asked L.lost L.faults L.ended lane) (tally L.asked L.lost L.faults L.ended result.1.lane) result.1.end }
+{
+    let Ok(conns) = Vec::with_capacity(alloc, 1) else {
+        return (pass, unserved(alloc, lane, LaneEnd::NoMemory));
+    };
+    let mut worker = Worker {
+        pass,
+        lane,
+        conns,
+        live: None,
+        calls: 0,
+        done: 0,
+    };
+    let end = serve(rt, alloc, desk, gate, post, &mut worker);
+    done_of(worker, end)
 }
 
 /// Serves a lane's links one after another, in so many turns. A turn is one wait for a link, or for bytes of the link
@@ -155,28 +214,5 @@ pub fn serve_lane<H: Serial, G: Gate, L: Lane, R: Wait>(
     ensures served { IsServed (G.is_open gate.now) result.1.end (L.told lane) pass.view (L.told result.1.lane) result.0.view result.1.conns.items }
     ensures end { IsLaneEnd H.may_halt (G.is_open gate.now) post.turns result.0.view (tally L.asked L.lost L.faults L.ended lane) (tally L.asked L.lost L.faults L.ended result.1.lane) result.1.end }
 {
-    let Ok(conns) = Vec::with_capacity(alloc, 1) else {
-        let conns = Vec::new(alloc);
-        let end = LaneEnd::NoMemory;
-        return (pass, LaneDone { lane, end, conns });
-    };
-    let mut worker = Worker {
-        pass,
-        lane,
-        conns,
-        live: None,
-        calls: 0,
-        done: 0,
-    };
-    let end = serve(rt, alloc, desk, gate, post, &mut worker);
-    let Worker {
-        pass,
-        lane,
-        conns,
-        live,
-        calls: _,
-        done: _,
-    } = worker;
-    let conns = all_conns(conns, live);
-    (pass, LaneDone { lane, end, conns })
+    leave_lane(rt, alloc, desk, gate, pass, post, lane)
 }

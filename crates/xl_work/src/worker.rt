@@ -1,5 +1,6 @@
 //! A lane's worker: what it was given to do, what it has in hand, and what became of it.
-ghost use Rattle.std.specs.Prelude.{◌≡◌, ◌<◌, ◌+◌, ◌*◌, ◌%◌, ◌^◌, [], false, option_map};
+ghost use Rattle.std.specs.Prelude.{◌≡◌, ◌<◌, ◌+◌, ◌*◌, ◌%◌, ◌^◌, [], None, false, option_map};
+ghost use Rattle.xl_base.specs.declared.lane_end.LaneEnd.TheVariants as lane_end;
 ghost use Rattle.xl_work.specs.Lives.{IsTaken, is_over, with_end};
 
 use std::alloc::Global;
@@ -34,6 +35,29 @@ pub struct LaneDone<L> {
     pub end: LaneEnd,
     /// The connections of its links, in order.
     pub conns: Vec<Conn>,
+    /// Its last link, if that was left open.
+    pub(crate) live: Option<Live>,
+}
+
+/// A lane that ended so before it had a link. It takes no memory.
+pub(crate) fn unserved<L>(alloc: Global, lane: L, end: LaneEnd) -> LaneDone<L>
+    ensures { (result.lane ≡ lane) × (result.end ≡ end) × (result.conns.items ≡ []) × (result.live ≡ None) }
+{
+    LaneDone {
+        lane,
+        end,
+        conns: Vec::new(alloc),
+        live: None,
+    }
+}
+
+impl<L> LaneDone<L> {
+    /// A lane that was given no turn. It takes no memory.
+    pub fn idle(alloc: Global, lane: L) -> LaneDone<L>
+        ensures { (result.lane ≡ lane) × (result.end ≡ lane_end.Turns 0) × (result.conns.items ≡ []) }
+    {
+        unserved(alloc, lane, LaneEnd::Turns(0))
+    }
 }
 
 /// The link that is served now.

@@ -1,7 +1,7 @@
 use Rattle.std.proofs.Common.{◌≡◌, subst}
 use Rattle.xl_base.specs.declared.lane_end.LaneEnd.TheVariants as lane_end
-use Rattle.xl_work.specs.Lives.{Nothing, IsServing}
-use Rattle.xl_work.proofs.ServeLaws.{if_err_as, on_ok_as, serving_carried, serving_lost}
+use Rattle.xl_work.specs.Lives.{Nothing, HasPlace, IsServing}
+use Rattle.xl_work.proofs.ServeLaws.{both_err, if_err_as, on_ok_as, serving_carried, serving_lost}
 use Rattle.xl_work.proofs.begin.begin.Goals as goal
 
 pub returns-clause-serving : goal.returns-clause-serving
@@ -12,4 +12,4 @@ returns-clause-serving g c told before s =
 pub returns-clause-left : goal.returns-clause-left
 returns-clause-left g c told before s =
     let here = subst (λ live. IsServing told before (g.L.Lane.told c.args.worker.now.lane) c.args.worker.now.pass.view c.args.worker.now.conns.items live Nothing) c.in-Some.is s in
-    if_err_as c.receive.result _ (λ end. end ≡ lane_end.NoMemory) _ (λ end loses is. serving_lost told before _ end _ _ _ _ c.in-Some.live c.receive.new.live here loses is c.receive.ensures.same.0) c.receive.ensures.loses c.receive.ensures.memory
+    if_err_as c.receive.result _ (λ end. end ≡ lane_end.NoMemory) _ (λ end loses is. serving_lost told before _ end _ _ _ _ c.in-Some.live c.receive.new.live here loses.0 is loses.1 (subst (HasPlace c.args.worker.now.pass.view) c.in-Some.is c.requires.place)) (both_err c.receive.result _ _ c.receive.ensures.loses c.receive.ensures.kept) c.receive.ensures.memory
