@@ -24,6 +24,7 @@ pub mod ExactLaws
 pub mod SideLaws
 pub mod DueLaws
 pub mod IndexedLaws
+pub mod DropLaws
 pub mod LeavingLaws
 pub mod CountLaws
 pub mod CacheLaws

@@ -8,6 +8,7 @@ use Rattle.std.proofs.lemmas.Bool.{cases_Bool, cases_lt, both_ways, lt-ltb}
 use Rattle.std.proofs.Math.Seq.{take-append-add, take-append_seam, drop-append_seam, drop-append-add, drop-length, take-length}
 use Rattle.std.proofs.lemmas.List.{length-append, take-append-drop, take-append-le, drop-append-le, length-drop, length-take-le, append-nil, drop-drop, set-append_left, set-append_right}
 use Rattle.std.proofs.lemmas.Option.{same_Some}
+use Rattle.xl_base.proofs.Members.{all_append}
 use Rattle.xl_matrix.specs.declared.claim.Claim.{Claim}
 use Rattle.xl_table.specs.Pages.{paged, AreFull, IsBehind, IsInside, IsThere, IsFullBut, IsShifting, ends, count_at}
 use Rattle.xl_index.specs.Parted.{IsParted}
@@ -124,6 +125,19 @@ pages_parted p ((c ∷ cs) ∷ ps) full parted = (
   λ fails. none_end p ps full.1 (ended_in p c cs (paged ps) parted (sym (ends_is p c cs) ∙ fails)).behind,
   pages_parted p ps full.1 (parted_second p (c ∷ cs) (paged ps) parted),
 )
+
+-- all claims of the pages that pass with their last claim pass
+pub front_passes : (p : Claim → Bool) (ps : List (List Claim)) → AreFull ps → IsParted p (paged ps) → AllByRecursion (λ d. p d ≡ true) (paged (take (prefix_len (ends p) ps) ps))
+front_passes p [] full parted = tt
+front_passes p ([] ∷ ps) full parted = absurd (omega (arith, full.0))
+front_passes p ((c ∷ cs) ∷ ps) full parted =
+    elim (cases_Bool (ends p (c ∷ cs))) [
+      | inl passes ↦
+          rw (passes, one-add (prefix_len (ends p) ps))
+          (all_append (λ d. p d ≡ true) (c ∷ cs) (paged (take (prefix_len (ends p) ps) ps)) (all_pass p c cs (parted_first p (c ∷ cs) (paged ps) parted) (sym (ends_is p c cs) ∙ passes))
+          (front_passes p ps full.1 (parted_second p (c ∷ cs) (paged ps) parted)))
+      | inr fails ↦ rw fails tt
+    ]
 
 last_after : (p : Claim → Bool) (c : Claim) (cs : List Claim) → p (last_or c cs) ≡ false → prefix_len p (c ∷ cs) < length (c ∷ cs)
 last_after p c [] h = rw h (omega arith)

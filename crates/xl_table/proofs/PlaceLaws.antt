@@ -2,28 +2,33 @@
 use Rattle.std.proofs.Common.{◌≡◌, ℕ, ◌+◌, ◌-◌, ◌<◌, ◌≤◌, suc, zero, Bool, true, false, nat_lt, ◌&&◌, ◌||◌, ◌==◌, if◌then◌else◌, List, [], ◌∷◌, ◌++◌, length, take, drop, get_or, Option, Some, None, IsTrue, ◌↔◌, refl, sym, ap, subst, ◌∙◌, inl, inr, arith}
 use Rattle.std.proofs.Math.Numerals.{one-add}
 use Rattle.std.specs.List.{AllByRecursion, filter, list_any, prefix_len, remove}
-use Rattle.std.proofs.lemmas.List.{length-append}
+use Rattle.std.proofs.Math.Seq.{take-length}
+use Rattle.std.proofs.lemmas.List.{append_assoc, length-append, length-drop}
 use Rattle.xl_base.specs.declared.name.Owner.{Owner}
 use Rattle.xl_base.specs.declared.name.Owner.TheVariants as owners
 use Rattle.xl_base.specs.declared.name.Party.{Party}
 use Rattle.xl_base.specs.declared.name.Party.TheVariants as parties
 use Rattle.xl_matrix.specs.declared.claim.What.{What}
 use Rattle.xl_matrix.specs.declared.claim.What.TheVariants.{Share, Range, Cache}
-use Rattle.xl_table.specs.Pages.{paged, IsFoundAt}
-use Rattle.xl_table.proofs.PageLaws.{any_more, drop_page}
-use Rattle.std.proofs.lemmas.Bool.{cases_Bool}
+use Rattle.xl_base.proofs.Members.{all_in}
+use Rattle.xl_base.proofs.Searches.{any_none}
+use Rattle.xl_matrix.proofs.EqualLaws.{same_claims-true}
+use Rattle.xl_table.specs.Pages.{paged, AreFull, passes, ends, IsFoundAt}
+use Rattle.xl_table.specs.declared.marks.Mark.TheVariants.{Before}
+use Rattle.xl_table.proofs.PageLaws.{any_more, drop_page, front_passes}
+use Rattle.std.proofs.lemmas.Bool.{cases_Bool, both_ways, not-true, false_from_ne_true}
 use Rattle.xl_base.specs.Lists.{IsIn, Pairwise, placed}
 use Rattle.xl_matrix.specs.declared.claim.Claim.{Claim}
 use Rattle.xl_matrix.specs.Equal.{same_claims}
 use Rattle.xl_table.specs.Order.{no_later, owner_key, party_key, place_in_group, key_from, key_by, key, goes_first}
 use Rattle.xl_table.specs.Flat.{inserted, removed, changed, with_what, locks_by, locks, lesser, holder_from, holder}
 use Rattle.xl_table.specs.Elements.{taken_back}
-use Rattle.xl_table.specs.Sections.{is_no_later_than, is_upto}
+use Rattle.xl_table.specs.Sections.{is_no_later_than, is_before, is_upto}
 use Rattle.xl_index.specs.Parted.{IsParted}
 use Rattle.xl_table.proofs.AloneLaws.{equal_here}
 use Rattle.xl_table.proofs.FlatLaws.{held_iff}
-use Rattle.xl_table.proofs.OrderLaws.{no_later-on}
-use Rattle.xl_table.proofs.SectionLaws.{parted_ordered}
+use Rattle.xl_table.proofs.OrderLaws.{no_later-on, no_later-self}
+use Rattle.xl_table.proofs.SectionLaws.{parted_ordered, before_parted}
 
 -- ---- a claim's place, and the one equal to it
 
@@ -173,6 +178,42 @@ found_late claim i n xs ys none is found = subst (λ (m : ℕ). IsFoundAt claim 
 
 pub found_nowhere : (claim : Claim) (xs ys : List Claim) → list_any (λ held. same_claims held claim) xs ≡ false → list_any (λ held. same_claims held claim) ys ≡ false → list_any (λ held. same_claims held claim) (xs ++ ys) ≡ false
 found_nowhere claim xs ys none also = any_more (λ held. same_claims held claim) xs ys ∙ rw (none, also) refl
+
+-- none equal to it stands before its numbers, so it is looked for from there on
+paged_cut : (ps : List (List Claim)) (at : ℕ) → paged (take at ps) ++ paged (drop at ps) ≡ paged ps
+paged_cut [] zero = refl
+paged_cut [] (suc at) = refl
+paged_cut (p ∷ ps) zero = refl
+paged_cut (p ∷ ps) (suc at) = append_assoc p (paged (take at ps)) (paged (drop at ps)) ∙ ap (λ (cs : List Claim). p ++ cs) (paged_cut ps at)
+
+none_ahead : (claim : Claim) (ps : List (List Claim)) (at : ℕ) (front : List ℕ) → Pairwise goes_first (paged ps) → AreFull ps → front ≡ key claim → at ≡ prefix_len (ends (passes Before front)) ps → list_any (λ held. same_claims held claim) (paged (take at ps)) ≡ false
+none_ahead claim ps at front ordered full is e =
+    any_none (λ held. same_claims held claim) (paged (take at ps)) (λ d there. false_from_ne_true (same_claims d claim) (λ (h : same_claims d claim ≡ true).
+    let passing : AllByRecursion (λ x. is_before front x ≡ true) (paged (take at ps)) = subst (λ (n : ℕ). AllByRecursion (λ x. is_before front x ≡ true) (paged (take n ps))) (sym e) (front_passes (passes Before front) ps full (before_parted front (paged ps) ordered)) in
+    let before : is_before front d ≡ true = all_in (λ x. is_before front x ≡ true) d (paged (take at ps)) passing there in
+    let own : no_later front (key d) ≡ true = (λ i. no_later (is i) (key (same_claims-true d claim h i))) ∙ no_later-self (key claim) in
+    both_ways (no_later front (key d)) (not-true (no_later front (key d)) before) own))
+
+-- the pages from a place on, as a slice
+abbrev from_page : ℕ → List (List Claim) → List (List Claim)
+from_page at ps = take (length ps - at) (drop at ps)
+
+from_is : (ps : List (List Claim)) (at : ℕ) → from_page at ps ≡ drop at ps
+from_is ps at = ap (λ (n : ℕ). take n (drop at ps)) (sym (length-drop at ps)) ∙ take-length (drop at ps)
+
+pub found_behind : (claim : Claim) (i n at : ℕ) (ps : List (List Claim)) (front : List ℕ) → Pairwise goes_first (paged ps) → AreFull ps → front ≡ key claim → at ≡ prefix_len (ends (passes Before front)) ps → n ≡ length (paged (take at ps)) → IsFoundAt claim i (paged (from_page at ps)) → IsFoundAt claim (n + i) (paged ps)
+found_behind claim i n at ps front ordered full is e long found =
+    subst (λ (cs : List Claim). IsFoundAt claim (n + i) cs) (paged_cut ps at)
+    (found_late claim i n (paged (take at ps)) (paged (drop at ps)) (none_ahead claim ps at front ordered full is e) long (subst (λ (qs : List (List Claim)). IsFoundAt claim i (paged qs)) (from_is ps at) found))
+
+pub found_none : (claim : Claim) (at : ℕ) (ps : List (List Claim)) (front : List ℕ) → Pairwise goes_first (paged ps) → AreFull ps → front ≡ key claim → at ≡ prefix_len (ends (passes Before front)) ps → list_any (λ held. same_claims held claim) (paged (from_page at ps)) ≡ false → list_any (λ held. same_claims held claim) (paged ps) ≡ false
+found_none claim at ps front ordered full is e none =
+    subst (λ (cs : List Claim). list_any (λ held. same_claims held claim) cs ≡ false) (paged_cut ps at)
+    (found_nowhere claim (paged (take at ps)) (paged (drop at ps)) (none_ahead claim ps at front ordered full is e) (subst (λ (qs : List (List Claim)). list_any (λ held. same_claims held claim) (paged qs) ≡ false) (from_is ps at) none))
+
+pub room_behind : (ps : List (List Claim)) (at : ℕ) → length (paged (take at ps)) + length (paged (from_page at ps)) ≡ length (paged ps)
+room_behind ps at =
+    ap (λ (qs : List (List Claim)). length (paged (take at ps)) + length (paged qs)) (from_is ps at) ∙ sym (length-append (paged (take at ps)) (paged (drop at ps))) ∙ ap length (paged_cut ps at)
 
 pub found_there : (claim : Claim) (i : ℕ) (cs : List Claim) → IsFoundAt claim i cs → i + 1 ≤ length cs
 found_there claim i cs found = omega (arith, found.within)

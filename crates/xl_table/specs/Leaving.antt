@@ -7,6 +7,8 @@ use Rattle.xl_index.specs.Stands.{who_of, who_opens, is_by, is_past, any_on}
 use Rattle.xl_matrix.specs.Blocks.{is_cache}
 use Rattle.xl_matrix.specs.Equal.{same_owners, same_parties}
 use Rattle.xl_matrix.specs.declared.claim.Claim.{Claim}
+use Rattle.xl_table.specs.Order.{key}
+use Rattle.xl_table.specs.Sections.{group, party_group, starts}
 use Rattle.xl_table.specs.declared.leaver.Leaver.{Leaver}
 use Rattle.xl_table.specs.declared.leaver.Leaver.TheVariants as leavers
 
@@ -27,6 +29,17 @@ goes (leavers.Open number party) c = if is_cache c.what then is_of_some party c 
 -- and it does, being on this file
 abbrev pub goes_on : Leaver → ℕ → Claim → Bool
 goes_on who file c = goes who c && (c.file == file)
+
+-- the claim's numbers begin with these
+abbrev pub in_group : List ℕ → Claim → Bool
+in_group front c = starts front (key c)
+
+-- what goes with an SMB open on a file: its share and its ranges there; and with the party that goes with it its caches besides
+abbrev pub owned : ℕ → ℕ → Claim → Bool
+owned file number c = in_group (group file 0 (owners.Open number)) c || in_group (group file 1 (owners.Open number)) c
+
+abbrev pub all_owned : ℕ → ℕ → Party → Claim → Bool
+all_owned file number party c = owned file number c || in_group (party_group file party) c
 
 -- The claim is that of who leaves: of the party, or of the SMB open or the party that goes with it. All that goes is,
 -- but not all of it goes: an SMB open's claims by another party stay if that one leaves alone.

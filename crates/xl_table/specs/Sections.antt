@@ -2,6 +2,7 @@
 use Rattle.std.specs.Prelude.{ℕ, ◌-◌, Bool, true, false, not, ◌&&◌, ◌||◌, ◌==◌, nat_lt, nat_le, if◌then◌else◌, List, [], ◌∷◌, length, Option, Some, None}
 use Rattle.std.specs.List.{slice_get}
 use Rattle.xl_base.specs.declared.name.Owner.{Owner}
+use Rattle.xl_base.specs.declared.name.Party.{Party}
 use Rattle.xl_matrix.specs.declared.claim.Extent.TheVariants.{Bytes}
 use Rattle.xl_matrix.specs.declared.claim.What.{What}
 use Rattle.xl_matrix.specs.declared.claim.What.TheVariants.{Range}
@@ -10,11 +11,15 @@ use Rattle.xl_spans.specs.declared.span.Span.{Span}
 use Rattle.xl_table.specs.declared.ordering.Side.{Side}
 use Rattle.xl_table.specs.declared.ordering.Side.TheVariants.{Earlier, Among, Later}
 use Rattle.xl_table.specs.Held.{is_cache, with_span}
-use Rattle.xl_table.specs.Order.{no_later, owner_key, key}
+use Rattle.xl_table.specs.Order.{no_later, owner_key, party_key, key}
 
 -- the numbers with which those of a file's claims begin, and those of an owner's shares (class 0) or ranges (class 1) there
 abbrev pub group : ℕ → ℕ → Owner → List ℕ
 group file class owner = file ∷ class ∷ owner_key owner
+
+-- and those of a party's caches
+abbrev pub party_group : ℕ → Party → List ℕ
+party_group file party = file ∷ 2 ∷ party_key party
 
 -- a claim's numbers begin with these
 abbrev pub starts : List ℕ → List ℕ → Bool

@@ -70,7 +70,7 @@ pub(crate) fn key_of_owner(owner: Owner) -> [u64; 3]
     }
 }
 
-fn key_of_party(party: Party) -> [u64; 3]
+pub(crate) fn key_of_party(party: Party) -> [u64; 3]
     ensures { result ≡ party_key party }
 {
     match party {

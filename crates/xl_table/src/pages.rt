@@ -30,7 +30,7 @@ pub(crate) fn count_claims(pages: &[Page]) -> usize
 
 /// How many claims stand in the pages before this one.
 #[tactic(auto, using(crate::proofs::PageLaws::front_within))]
-fn count_front(pages: &[Page], at: usize) -> usize
+pub(crate) fn count_front(pages: &[Page], at: usize) -> usize
     requires at { at ≤ length pages.now }
     requires room { length (paged pages.now) < 2 ^ 32 }
     ensures { result ≡ length (paged (take at pages.now)) }
@@ -39,7 +39,7 @@ fn count_front(pages: &[Page], at: usize) -> usize
 }
 
 /// How many pages pass the mark with all their claims.
-fn count_whole(pages: &[Page], mark: Mark, front: &[u64]) -> usize
+pub(crate) fn count_whole(pages: &[Page], mark: Mark, front: &[u64]) -> usize
     requires full { AreFull pages.now }
     requires parted { IsParted (passes mark front.now) (paged pages.now) }
     ensures count { result ≡ prefix_len (ends (passes mark front.now)) pages.now }

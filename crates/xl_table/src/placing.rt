@@ -14,7 +14,7 @@ use crate::files::{OnFile, find_file, on_file};
 use crate::marks::Mark;
 use crate::ordering::key_of;
 use crate::page::Page;
-use crate::pages::{count_passing, move_claim, splice, take_between};
+use crate::pages::{count_front, count_passing, count_whole, move_claim, splice, take_between};
 use std::alloc::AllocError;
 use xl_matrix::{Claim, What, same_claim};
 
@@ -60,7 +60,7 @@ fn find_equal(claims: &[Claim], claim: &Claim) -> Option<usize>
 
 /// The place of the first claim in these pages that is equal to this one, if there is one.
 #[tactic(auto, using(crate::proofs::PlaceLaws::found_early, crate::proofs::PlaceLaws::found_late, crate::proofs::PlaceLaws::found_nowhere))]
-fn find_in(pages: &[Page], claim: &Claim) -> Option<usize>
+fn find_from(pages: &[Page], claim: &Claim) -> Option<usize>
     requires { length (paged pages.now) < 2 ^ 32 }
     ensures found { IfSome result (λ i. IsFoundAt claim.now i (paged pages.now)) }
     ensures none { IfNone result (list_any (λ held. same_claims held claim.now) (paged pages.now) ≡ false) }
@@ -69,7 +69,7 @@ fn find_in(pages: &[Page], claim: &Claim) -> Option<usize>
         [] => None,
         [page, rest @ ..] => match find_equal(page.as_slice(), claim) {
             Some(i) => Some(i),
-            None => match find_in(rest, claim) {
+            None => match find_from(rest, claim) {
                 Some(i) => Some(page.len() + i),
                 None => None,
             },
@@ -77,28 +77,44 @@ fn find_in(pages: &[Page], claim: &Claim) -> Option<usize>
     }
 }
 
-fn has_equal(claims: &[Claim], claim: &Claim) -> bool
-    ensures { result ≡ list_any (λ held. same_claims held claim.now) claims.now }
+/// The same. It is looked for from that page on in which its numbers may stand first.
+#[tactic(auto, using(crate::proofs::SectionLaws::before_parted))]
+fn find_in(pages: &[Page], claim: &Claim) -> Option<usize>
+    requires ordered { Pairwise goes_first (paged pages.now) }
+    requires full { AreFull pages.now }
+    requires room { length (paged pages.now) < 2 ^ 32 }
+    ensures found { IfSome result (λ i. IsFoundAt claim.now i (paged pages.now)) }
+    ensures none { IfNone result (list_any (λ held. same_claims held claim.now) (paged pages.now) ≡ false) }
 {
-    claims.iter().any(|held| same_claim(held, claim))
+    let key = key_of(claim);
+    let at = count_whole(pages, Mark::Before, &key);
+    let front = count_front(pages, at);
+    match find_from(&pages[at..], claim) {
+        Some(i) => Some(front + i),
+        None => None,
+    }
 }
 
 /// Whether one of the claims in these pages is equal to this one.
-#[tactic(auto, using(crate::proofs::PageLaws::any_more))]
+#[tactic(auto, using(crate::proofs::PlaceLaws::found_is_held))]
 fn has_in(pages: &[Page], claim: &Claim) -> bool
+    requires ordered { Pairwise goes_first (paged pages.now) }
+    requires full { AreFull pages.now }
+    requires room { length (paged pages.now) < 2 ^ 32 }
     ensures { result ≡ list_any (λ held. same_claims held claim.now) (paged pages.now) }
 {
-    for page in pages {
-        if has_equal(page.as_slice(), claim) {
-            return true;
-        }
+    match find_in(pages, claim) {
+        Some(_) => true,
+        None => false,
     }
-    false
 }
 
 /// Whether a claim is held.
+#[tactic(auto, using(crate::proofs::FileLaws::ordered_here, crate::proofs::FileLaws::room_here))]
 pub(crate) fn is_held(lists: &[OnFile], claim: &Claim) -> bool
-    requires { IsFiled lists.now }
+    requires filed { IsFiled lists.now }
+    requires ordered { Pairwise goes_first (joined lists.now) }
+    requires room { length (joined lists.now) ≤ most_claims }
     ensures test { result ≡ is_held claim.now (joined lists.now) }
     ensures held { IsTrue result ↔ IsIn claim.now (joined lists.now) }
 {
@@ -139,6 +155,7 @@ pub(crate) fn put(lists: &mut Vec<OnFile>, at: usize, claim: Claim) -> Result<()
 /// Takes out the first of a file's claims equal to this one, and answers whether there is one.
 #[tactic(auto, using(crate::proofs::PlaceLaws::found_there, crate::proofs::PlaceLaws::found_is_held, crate::proofs::PlaceLaws::found_removed))]
 fn take_from(pages: &mut Vec<Page>, claim: &Claim) -> bool
+    requires ordered { Pairwise goes_first (paged pages.old.items) }
     requires full { AreFull pages.old.items }
     requires room { length (paged pages.old.items) < 2 ^ 32 }
     ensures claims { paged pages.new.items ≡ removed claim.now (paged pages.old.items) }

@@ -7,15 +7,15 @@ ghost use Rattle.xl_table.specs.Files.{joined, AreOn, IsFiled};
 ghost use Rattle.xl_table.specs.Pages.{paged, AreFull};
 ghost use Rattle.xl_table.specs.Held.{is_cache, is_share, most_claims};
 ghost use Rattle.xl_table.specs.Relock.{is_share_of, is_range_of};
-ghost use Rattle.xl_table.specs.Sections.{group, is_before, is_upto, ends_in_cache};
+ghost use Rattle.xl_table.specs.Sections.{group, party_group, is_before, is_upto, ends_in_cache};
 
 use crate::files::{OnFile, on_file};
 use crate::marks::Mark;
-use crate::ordering::key_of_owner;
+use crate::ordering::{key_of_owner, key_of_party};
 use crate::page::Page;
 use crate::pages::{between, claim_at, count_passing};
 use std::alloc::{AllocError, Global};
-use xl_base::Owner;
+use xl_base::{Owner, Party};
 use xl_matrix::Claim;
 
 /// How many claims stand before those whose numbers begin with these.
@@ -44,7 +44,7 @@ fn count_upto(pages: &[Page], front: &[u64]) -> usize
 
 /// Where the claims whose numbers begin with these begin, and where they end.
 #[tactic(auto, using(crate::proofs::SectionLaws::section_order))]
-fn places(pages: &[Page], front: &[u64]) -> (usize, usize)
+pub(crate) fn places(pages: &[Page], front: &[u64]) -> (usize, usize)
     requires ordered { Pairwise goes_first (paged pages.now) }
     requires full { AreFull pages.now }
     requires room { length (paged pages.now) < 2 ^ 32 }
@@ -152,6 +152,13 @@ pub(crate) fn group_of(file: u32, class: u64, owner: Owner) -> [u64; 5]
 {
     let [protocol, number, sort] = key_of_owner(owner);
     [u64::from(file), class, protocol, number, sort]
+}
+
+pub(crate) fn party_group(file: u32, party: Party) -> [u64; 5]
+    ensures { result ≡ party_group file party }
+{
+    let [protocol, number, sort] = key_of_party(party);
+    [u64::from(file), 2, protocol, number, sort]
 }
 
 /// Where the owner's shares on the file (class 0), or its ranges there (class 1), begin and end.

@@ -1,4 +1,7 @@
+use Rattle.std.proofs.Common.{not}
 use Rattle.xl_table.specs.Files.{joined}
+use Rattle.xl_table.specs.Leaving.{goes_on}
+use Rattle.xl_table.proofs.DropLaws.{fewer_than}
 use Rattle.xl_table.proofs.LeavingLaws.{dropping_more, dropping_done}
 use Rattle.xl_table.proofs.leaving.drop_by.Goals as goal
 
@@ -8,6 +11,7 @@ files-preserved c =
       dropping_more c.args.leaver c.args.who c.files.past c.in-Some.file (joined c.args.lists.now.items) now (joined c.drop_on.new.lists.items) c.files.invariant.0 (c.in-Some.ensures now c.files.invariant.2) c.drop_on.ensures.claims,
       c.drop_on.ensures.filed,
       c.drop_on.ensures.index,
+      fewer_than (λ x. not (goes_on c.args.leaver c.in-Some.file x)) now (joined c.drop_on.new.lists.items) c.drop_on.ensures.claims c.files.invariant.3,
     )
 
 pub returns-clause-gone : goal.returns-clause-gone

@@ -3,7 +3,10 @@ use Rattle.xl_table.specs.declared.files.OnFile.{OnFile}
 use Rattle.xl_table.specs.Files.{joined, IsAt, here}
 use Rattle.xl_table.specs.Pages.{paged}
 use Rattle.xl_table.specs.Flat.{removed}
-use Rattle.xl_table.proofs.FileLaws.{full_at, room_here, here_at, done_at}
+use Rattle.xl_base.specs.Lists.{Pairwise}
+use Rattle.xl_matrix.specs.declared.claim.Claim.{Claim}
+use Rattle.xl_table.specs.Order.{goes_first}
+use Rattle.xl_table.proofs.FileLaws.{full_at, room_here, ordered_here, here_at, done_at}
 use Rattle.xl_table.proofs.FlatLaws.{removed_none}
 use Rattle.xl_table.proofs.AloneLaws.{equal_here, removed_alone, removed_on}
 use Rattle.xl_table.proofs.placing.take_out.Goals as goal
@@ -61,3 +64,11 @@ take_from-requires-clause-room c =
     let lists = c.args.lists.now.items in
     let there : IsAt claim.file c.in-Some.at lists = subst (λ (ls : List OnFile). IsAt claim.file c.in-Some.at ls) c.as_slice.ensures.value c.in-Some.ensures.found.0 in
     room_here claim.file (joined lists) (paged c.index_mut.result.now.pages.items) c.requires.room (here_at claim.file c.in-Some.at lists c.index_mut.result.now c.requires.filed there c.index_mut.ensures.value)
+
+pub take_from-requires-clause-ordered : goal.take_from-requires-clause-ordered
+take_from-requires-clause-ordered c =
+    let claim = c.args.claim.now in
+    let lists = c.args.lists.now.items in
+    let there : IsAt claim.file c.in-Some.at lists = subst (λ (ls : List OnFile). IsAt claim.file c.in-Some.at ls) c.as_slice.ensures.value c.in-Some.ensures.found.0 in
+    subst (λ (cs : List Claim). Pairwise goes_first cs) (sym (here_at claim.file c.in-Some.at lists c.index_mut.result.now c.requires.filed there c.index_mut.ensures.value))
+    (ordered_here claim.file (joined lists) c.requires.ordered)
