@@ -1,4 +1,4 @@
--- What is said by a form is read again, and how long it is; what holds of all that is read; which fault is met.
+-- What is spelled by a form is read again, and how long it is; what holds of all that is read; which fault is met.
 use Rattle.std.proofs.Common.{◌≡◌, ℕ, ◌+◌, ◌^◌, ◌<◌, Bool, true, false, cond, ltb, leb, eqb, List, [], ◌∷◌, ◌++◌, length, drop, Option, Some, None, Result, Ok, Err, refl, sym, ap, subst, ◌∙◌, append_assoc, inl, inr, arith}
 use Rattle.std.specs.Int.{w16}
 use Rattle.std.specs.Result.{result_err}
@@ -8,12 +8,12 @@ use Rattle.std.proofs.lemmas.List.{drop_at, drop-drop, append-nil, length-append
 use Rattle.xl_base.specs.Codec.{little_endian, ◌>>=◌, IsBytes}
 use Rattle.xl_base.proofs.CodecLaws.{guard_ok, ok_is}
 use Rattle.xl_layout.specs.Places.{joined}
-use Rattle.xl_layout.specs.Layouts.{U16, all_stand, AllRead, extent, fields, parts, can_tell}
-use Rattle.xl_layout.specs.Forms.{Form, size_found, has_fixed, form_value, form_parts, form_read, Body, unread, reads, body_read, has_form, first_fault, parts_begin, form_text, FormFits, Said, nothing, says, said, SaidFits}
+use Rattle.xl_layout.specs.Layouts.{U16, all_stand, extent, fields, parts}
+use Rattle.xl_layout.specs.Forms.{Form, size_found, has_fixed, form_value, form_parts, form_read, Body, unread, reads, body_read, has_form, first_fault, parts_begin, form_text, FormFits, Spelling, no_body, by_form, spelled, SpellingFits}
 use Rattle.xl_layout.proofs.PlaceLaws.{joined-append}
-use Rattle.xl_layout.proofs.LayoutLaws.{next, number_length, number_again, fields_length, again, found}
+use Rattle.xl_layout.proofs.LayoutLaws.{next, number_length, number_again, fields_length, can_tell, again, AllRead, found}
 
--- ---- what is said is read again
+-- ---- what is spelled is read again
 
 -- the size fits its number, the fields take the fixed part, and the places of the parts can be told
 abbrev pub IsWhole : {A : Type 0} → Form A → A → Type 0
@@ -59,20 +59,20 @@ form_again f a front length_is fits whole =
     let at_front = subst (λ (b : List ℕ). (all_stand (form_parts f frame b) ≡ true) × (form_value f frame b ≡ a)) is_body seen in
     (begins, rw (begins, same, uncut) refl, at_front.0, at_front.1)
 
--- this is read of what is said behind so many bytes, by the body of the size that is said
-abbrev pub Speaks : {A E : Type 0} → ℕ → (ℕ → E) → E → (ℕ → Body A) → Said → A → Type 0
-Speaks before cut gone b nothing a = (size : ℕ) (frame body : List ℕ) → body_read cut gone (b size) frame body ≡ Ok a
-Speaks before cut gone b (says f x) a = (f.before ≡ before) × IsWhole f x × ((frame body : List ℕ) → form_read cut gone f frame body ≡ Ok x → body_read cut gone (b f.size) frame body ≡ Ok a)
+-- this is read of what is spelled behind so many bytes, by the body for the size that is spelled
+abbrev pub IsRead : {A E : Type 0} → ℕ → (ℕ → E) → E → (ℕ → Body A) → Spelling → A → Type 0
+IsRead before cut gone b no_body a = (size : ℕ) (frame body : List ℕ) → body_read cut gone (b size) frame body ≡ Ok a
+IsRead before cut gone b (by_form f x) a = (f.before ≡ before) × IsWhole f x × ((frame body : List ℕ) → form_read cut gone f frame body ≡ Ok x → body_read cut gone (b f.size) frame body ≡ Ok a)
 
-pub said_again : {A E : Type 0} (cut : ℕ → E) (gone : E) (b : ℕ → Body A) (s : Said) (a : A) (front : List ℕ) → SaidFits s → Speaks (length front) cut gone b s a
-    → body_read cut gone (b (size_found (said s))) (front ++ said s) (said s) ≡ Ok a
+pub spelled_again : {A E : Type 0} (cut : ℕ → E) (gone : E) (b : ℕ → Body A) (s : Spelling) (a : A) (front : List ℕ) → SpellingFits s → IsRead (length front) cut gone b s a
+    → body_read cut gone (b (size_found (spelled s))) (front ++ spelled s) (spelled s) ≡ Ok a
 unfolding form_read
-said_again cut gone b nothing a front fits speaks = speaks (size_found []) (front ++ []) []
-said_again cut gone b (says f x) a front fits speaks =
+spelled_again cut gone b no_body a front fits speaks = speaks (size_found []) (front ++ []) []
+spelled_again cut gone b (by_form f x) a front fits speaks =
     let seen = form_again f x front (sym speaks.0) fits speaks.1 in
     rw (seen.0) (speaks.2 (front ++ form_text f x) (form_text f x) (rw (seen.1, seen.2, seen.3) refl))
 
--- how many bytes are said
+-- how many bytes are spelled
 abbrev pub total : List (List ℕ) → ℕ
 total [] = 0
 total (t ∷ []) = length t
@@ -83,13 +83,13 @@ total_is [] = refl
 total_is (t ∷ []) = ap length (append-nil t)
 total_is (t ∷ u ∷ ts) = length-append t (joined (u ∷ ts)) ∙ rw (total_is (u ∷ ts)) refl
 
-abbrev pub said_size : Said → ℕ
-said_size nothing = 0
-said_size (says f x) = 2 + extent f.layout x + total (parts f.layout (parts_begin f x) x)
+abbrev pub spelled_size : Spelling → ℕ
+spelled_size no_body = 0
+spelled_size (by_form f x) = 2 + extent f.layout x + total (parts f.layout (parts_begin f x) x)
 
-pub said_length : (s : Said) → SaidFits s → length (said s) ≡ said_size s
-said_length nothing fits = refl
-said_length (says f x) fits = form_length f x fits ∙ rw (total_is (parts f.layout (parts_begin f x) x)) refl
+pub spelled_length : (s : Spelling) → SpellingFits s → length (spelled s) ≡ spelled_size s
+spelled_length no_body fits = refl
+spelled_length (by_form f x) fits = form_length f x fits ∙ rw (total_is (parts f.layout (parts_begin f x) x)) refl
 
 -- ---- what is read
 

@@ -1,5 +1,5 @@
 -- What is spelled by a layout is read again, and what holds of all that is read.
-use Rattle.std.proofs.Common.{◌≡◌, ℕ, ◌+◌, ◌-◌, ◌*◌, ◌/◌, ◌^◌, ◌<◌, ◌≤◌, Bool, true, false, ltb, eqb, List, [], ◌∷◌, ◌++◌, length, take, drop, get_or, Option, Some, None, refl, sym, ap, ◌∙◌, append_assoc, inl, inr, arith}
+use Rattle.std.proofs.Common.{◌≡◌, ℕ, ◌+◌, ◌-◌, ◌*◌, ◌/◌, ◌^◌, ◌<◌, ◌≤◌, Bool, true, false, ◌&&◌, ltb, eqb, List, [], ◌∷◌, ◌++◌, length, take, drop, get_or, Option, Some, None, refl, sym, ap, ◌∙◌, append_assoc, inl, inr, arith}
 use Rattle.std.specs.Int.{w16, w32, w64, to_le_bytes, from_le_bytes}
 use Rattle.std.proofs.Math.Nat.{div-add-mod, mul-le-mul_left}
 use Rattle.std.proofs.lemmas.Bool.{cases_Bool, and_parts, eqb-true, eqb-false, ltb-true, ltb-false, le-ltb}
@@ -9,7 +9,7 @@ use Rattle.std.proofs.lemmas.Nat.{from_le_bytes-to_le_bytes_2 as half_again, fro
 use Rattle.xl_base.specs.Codec.{little_endian, IsBytes}
 use Rattle.xl_base.proofs.CodecLaws.{IsBytes-take, IsBytes-drop}
 use Rattle.xl_layout.specs.Places.{bytes_at, u16_at, u32_at, u64_at, lies, joined, zeros}
-use Rattle.xl_layout.specs.Layouts.{Unsigned, U16, U32, U64, width, size, limit, number_at, Field, unused, octet, number, octets, Value, breadth, value_at, text, Holds, Naming, passes, stands, place_if_any, offset_of, padding, Layout, made, field, array, part, aligned, read, parts_at, all_stand, AllRead, extent, fields, parts, Fit, can_tell}
+use Rattle.xl_layout.specs.Layouts.{Unsigned, U16, U32, U64, width, size, limit, number_at, Field, unused, octet, number, octets, Value, breadth, value_at, text, Holds, Naming, passes, stands, place_if_any, offset_of, padding, Layout, made, field, array, part, aligned, read, parts_at, all_stand, extent, fields, parts, Fit}
 
 -- ---- texts at places
 
@@ -94,6 +94,16 @@ fields_length (part n get rest) start a fit =
     omega (arith, length-append (little_endian (width n.offset) (offset_of n start count)) (little_endian (width n.count) count ++ joined more), length-append (little_endian (width n.count) count) (joined more), number_length n.offset (offset_of n start count), number_length n.count count, fields_length (rest (get a)) (start + count) a fit.2)
 fields_length (aligned get l) start a fit = fields_length l (start + padding start (length (get a))) a fit
 
+-- Whether the offset of each part can be told, if the body begins at this place of the frame and has so many fixed bytes, its
+-- parts begin here at the earliest, and the next one so many bytes later at most; and whether an array stands where the
+-- fixed part ends, as it is read there.
+abbrev pub can_tell : {A : Type 0} → Layout A → (before fixed first later : ℕ) → A → Bool
+can_tell (made b) before fixed first later a = true
+can_tell (field f get rest) before fixed first later a = can_tell (rest (get a)) before fixed first later a
+can_tell (array unit get rest) before fixed first later a = eqb first (before + fixed) && (eqb later 0 && can_tell (rest (get a)) before fixed first (later + unit * 2 ^ 16) a)
+can_tell (part n get rest) before fixed first later a = ltb (first + later) (limit n.offset) && can_tell (rest (get a)) before fixed first (later + limit n.count) a
+can_tell (aligned get l) before fixed first later a = can_tell l before fixed first (later + 8) a
+
 -- The fields stand at a place of the body, which begins before the fixed part, and the parts from a place of the frame on.
 pub again : {A : Type 0} (l : Layout A) (a : A) (before fixed first later place start : ℕ) (frame rest behind : List ℕ)
     → Fit l a → can_tell l before fixed first later a ≡ true → first ≤ start → start ≤ first + later
@@ -137,6 +147,14 @@ again (aligned get l) a before fixed first later place start frame rest behind f
     (next pad start (take pad (zeros 8)) (joined (parts l (start + pad) a)) behind frame (padding_length start (length (get a))) there)
 
 -- ---- what is read
+
+-- P holds of each value that may be read: arrays have whole elements, and parts the lengths that their numbers hold
+abbrev pub AllRead : {A : Type 0} → Layout A → (A → Type 0) → Type 0
+AllRead (made a) P = P a
+AllRead (field f get rest) P = (v : Value f) → AllRead (rest v) P
+AllRead (array unit get rest) P = (b : List ℕ) (count : ℕ) → length b ≡ unit * count → count < 2 ^ 16 → AllRead (rest b) P
+AllRead (part n get rest) P = (b : List ℕ) → length b < limit n.count → passes n.test b ≡ true → AllRead (rest b) P
+AllRead (aligned get l) P = AllRead l P
 
 number_below : (n : Unsigned) (place : ℕ) (bytes : List ℕ) → IsBytes bytes → number_at n place bytes < limit n
 unfolding u16_at u32_at u64_at

@@ -1,5 +1,5 @@
 -- Forms: bodies that begin with their size, and which form a body has.
-use Rattle.std.specs.Prelude.{ℕ, ◌+◌, Bool, true, false, ◌&&◌, not, ◌==◌, List, [], ◌∷◌, ◌++◌, length, nat_lt, Option, Some, None, Result, Ok, Err, if◌then◌else◌}
+use Rattle.std.specs.Prelude.{◌≡◌, ℕ, ◌+◌, Bool, true, false, ◌&&◌, not, ◌==◌, List, [], ◌∷◌, ◌++◌, length, nat_lt, Option, Some, None, Result, Ok, Err, OnOk, if◌then◌else◌}
 use Rattle.std.specs.Int.{w16}
 use Rattle.xl_base.specs.Codec.{little_endian, ◌>>=◌}
 use Rattle.xl_layout.specs.Places.{u16_at, joined}
@@ -52,7 +52,7 @@ body_read cut gone (reads make f) frame body = form_read cut gone f frame body >
 
 -- ---- faults
 
--- size and fixed part of a form, None if a body is not looked at
+-- whether a body has the form of this size and fixed part; one that is not looked at has none, and needs none
 abbrev pub has_form : Option (ℕ × ℕ) → List ℕ → Bool
 has_form None body = true
 has_form (Some form) body = has_fixed form.0 form.1 body
@@ -73,15 +73,19 @@ form_text f a = joined (little_endian w16 f.size ∷ (fields f.layout (parts_beg
 abbrev pub FormFits : {A : Type 0} → Form A → A → Type 0
 FormFits f a = Fit f.layout a
 
--- no body, or one of a form
-pub data Said : Type 1 where
-  nothing : Said
-  says : {A : Type 0} → Form A → A → Said
+-- what is spelled of a message: no body, or one of a form for this value
+pub data Spelling : Type 1 where
+  no_body : Spelling
+  by_form : {A : Type 0} → Form A → A → Spelling
 
-abbrev pub said : Said → List ℕ
-said nothing = []
-said (says f a) = form_text f a
+abbrev pub spelled : Spelling → List ℕ
+spelled no_body = []
+spelled (by_form f a) = form_text f a
 
-abbrev pub SaidFits : Said → Type 0
-SaidFits nothing = Unit {0}
-SaidFits (says f a) = FormFits f a
+abbrev pub SpellingFits : Spelling → Type 0
+SpellingFits no_body = Unit {0}
+SpellingFits (by_form f a) = FormFits f a
+
+-- what a function that writes a body does: unless memory runs out it adds what is spelled, and what is spelled fits its fields
+abbrev pub Puts : {X E : Type 0} → Spelling → Result X E → List ℕ → List ℕ → Type 0
+Puts s result old new = OnOk result (new ≡ old ++ spelled s) × SpellingFits s

@@ -1,8 +1,8 @@
 -- Layouts: how a value is read at a place of a body, how it is spelled, and which values have a spelling, field by field.
 -- The fields stand one behind the other in the fixed part of a body, and the parts that they name behind it. The bytes
 -- that no field names are free when they are read, and zeros when they are written.
-use Rattle.std.specs.Prelude.{◌≡◌, ℕ, ◌+◌, ◌-◌, ◌*◌, ◌/◌, ◌%◌, ◌^◌, ◌<◌, Bool, true, ◌&&◌, ◌==◌, List, [], ◌∷◌, length, take, slice_index, nat_lt, Option, Some, None, if◌then◌else◌}
-use Rattle.std.specs.Int.{Width, w16, w32, w64}
+use Rattle.std.specs.Prelude.{◌≡◌, ℕ, ◌+◌, ◌-◌, ◌*◌, ◌/◌, ◌%◌, ◌^◌, ◌<◌, Bool, true, ◌&&◌, ◌==◌, List, [], ◌∷◌, length, take, slice_index, Option, Some, None, if◌then◌else◌}
+use Rattle.std.specs.Int.{Width, w16, w32, w64, byte_len}
 use Rattle.std.specs.List.{list_all}
 use Rattle.xl_base.specs.Codec.{little_endian}
 use Rattle.xl_layout.specs.Places.{bytes_at, u16_at, u32_at, u64_at, lies, zeros}
@@ -21,21 +21,17 @@ width U32 = w32
 width U64 = w64
 
 abbrev pub size : Unsigned → ℕ
-size U16 = 2
-size U32 = 4
-size U64 = 8
+size n = byte_len (width n)
 
 abbrev pub limit : Unsigned → ℕ
-limit U16 = 2 ^ 16
-limit U32 = 2 ^ 32
-limit U64 = 2 ^ 64
+limit n = 2 ^ (8 * size n)
 
 abbrev pub number_at : Unsigned → ℕ → List ℕ → ℕ
 number_at U16 place bytes = u16_at place bytes
 number_at U32 place bytes = u32_at place bytes
 number_at U64 place bytes = u64_at place bytes
 
--- a field: so many bytes that have no meaning, a byte, a number, or so many bytes
+-- a field: so many bytes that mean nothing, a byte, a number, or so many bytes
 pub data Field : Type 0 where
   unused : ℕ → Field
   octet : Field
@@ -108,9 +104,9 @@ IsCounted unit bytes = (length bytes % unit ≡ 0) × (length bytes / unit < 2 ^
 
 -- ---- layouts
 
--- The fields of an A in their order: each with what it is of a value, and with what stands behind it if it is this.
+-- The fields of an A in their order: each says what it holds of a value, and which fields stand behind it if it holds this.
 pub data Layout (A : Type 0) : Type 0 where
-  -- all fields stand before, and this is the value
+  -- no more field: this is the value
   made : A → Layout A
   field : (f : Field) → (A → Value f) → (Value f → Layout A) → Layout A
   -- the count, in two bytes, of the elements of so many bytes that stand behind the fixed part, first of all parts
@@ -163,14 +159,6 @@ parts_at (aligned get l) place fixed frame body = parts_at l place fixed frame b
 abbrev pub all_stand : List Bool → Bool
 all_stand parts = list_all (λ stands. stands) parts
 
--- P holds of each value that may be read: arrays have whole elements, and parts the lengths that their numbers hold
-abbrev pub AllRead : {A : Type 0} → Layout A → (A → Type 0) → Type 0
-AllRead (made a) P = P a
-AllRead (field f get rest) P = (v : Value f) → AllRead (rest v) P
-AllRead (array unit get rest) P = (b : List ℕ) (count : ℕ) → length b ≡ unit * count → count < 2 ^ 16 → AllRead (rest b) P
-AllRead (part n get rest) P = (b : List ℕ) → length b < limit n.count → passes n.test b ≡ true → AllRead (rest b) P
-AllRead (aligned get l) P = AllRead l P
-
 -- ---- spelling
 
 -- how many bytes the fields take
@@ -207,13 +195,3 @@ Fit (field f get rest) a = Holds f (get a) × Fit (rest (get a)) a
 Fit (array unit get rest) a = IsCounted unit (get a) × Fit (rest (get a)) a
 Fit (part n get rest) a = (length (get a) < limit n.count) × (passes n.test (get a) ≡ true) × Fit (rest (get a)) a
 Fit (aligned get l) a = Fit l a
-
--- Whether the offset of each part can be told, if the body begins at this place of the frame and has so many fixed bytes, its
--- parts begin here at the earliest, and the next one so many bytes later at most; and whether an array stands where the
--- fixed part ends, as it is read there.
-abbrev pub can_tell : {A : Type 0} → Layout A → (before fixed first later : ℕ) → A → Bool
-can_tell (made b) before fixed first later a = true
-can_tell (field f get rest) before fixed first later a = can_tell (rest (get a)) before fixed first later a
-can_tell (array unit get rest) before fixed first later a = (first == before + fixed) && ((later == 0) && can_tell (rest (get a)) before fixed first (later + unit * 2 ^ 16) a)
-can_tell (part n get rest) before fixed first later a = nat_lt (first + later) (limit n.offset) && can_tell (rest (get a)) before fixed first (later + limit n.count) a
-can_tell (aligned get l) before fixed first later a = can_tell l before fixed first (later + 8) a

@@ -8,18 +8,18 @@ use Rattle.xl_base.specs.Codec.{IsBytes}
 use Rattle.xl_base.specs.Results.{Gives}
 use Rattle.xl_base.proofs.CodecLaws.{IsBytes-drop}
 use Rattle.xl_layout.specs.Places.{u32_at}
-use Rattle.xl_layout.specs.Forms.{size_found, Body, reads, Said, said, SaidFits}
+use Rattle.xl_layout.specs.Forms.{size_found, Body, reads, Spelling, spelled, SpellingFits}
 use Rattle.xl_layout.proofs.LayoutLaws.{padding_length}
-use Rattle.xl_layout.proofs.FormLaws.{Speaks, said_again, said_size, said_length, AllTold, body_found, seen_ok, seen_err, IsListed, body_fault as listed_fault}
+use Rattle.xl_layout.proofs.FormLaws.{IsRead, spelled_again, spelled_size, spelled_length, AllTold, body_found, seen_ok, seen_err, IsListed, body_fault as listed_fault}
 use Rattle.xl_smb.specs.Bodies.{form_at, body_at}
 use Rattle.xl_smb.specs.Heads.{command_of, head_of, has_mark, is_set, is_async, head_fields, head_at, head, is_notice, HeadFits}
 use Rattle.xl_smb.specs.Sessions.{negotiate_call, negotiate_reply, setup_call, setup_reply, tree_call, tree_reply, empty}
 use Rattle.xl_smb.specs.Creates.{create_call, create_reply}
 use Rattle.xl_smb.specs.Locks.{close_call, close_reply, lock_call}
-use Rattle.xl_smb.specs.Breaks.{oplock_break, lease_break, oplock_notice, lease_notice, notice_form, notice_said, notice}
-use Rattle.xl_smb.specs.Calls.{CallItem, call_body, call_at, call_said, call_text, command_of_call, CallHas}
+use Rattle.xl_smb.specs.Breaks.{oplock_break, lease_break, oplock_notice, lease_notice, notice_form, notice_spelling, notice}
+use Rattle.xl_smb.specs.Calls.{CallItem, call_body, call_at, call_spelling, call_text, command_of_call, CallHas}
 use Rattle.xl_smb.specs.Calls as call
-use Rattle.xl_smb.specs.Replies.{ReplyItem, success_body, error, error_body, reply_said, reply_text, has_reply, Answers, ReplyHas}
+use Rattle.xl_smb.specs.Replies.{ReplyItem, success_body, error, error_body, reply_spelling, reply_text, has_reply, Answers, ReplyHas}
 use Rattle.xl_smb.specs.Replies as reply
 use Rattle.xl_smb.specs.Messages.{MessageItem, Call, Reply, Told, shown, IsOf, reply_body, reply_at, told_at, message_at, notice_head, spelling, Fits, IsReplyTo, HasSpelling}
 use Rattle.xl_smb.specs.Lengths.{call_length, reply_length, notice_length, message_length}
@@ -35,13 +35,13 @@ use Rattle.xl_smb.specs.declared.head.SmbHead.{SmbHead}
 use Rattle.xl_smb.specs.declared.message.SmbMessage.{SmbMessage}
 use Rattle.xl_smb.proofs.HeadLaws.{head_again, head_length, mark_stands, notice_says}
 
--- ---- what is said is read again
+-- ---- what is spelled is read again
 
--- by this body, of the size that is said, behind the header
-abbrev IsTold : {A : Type 0} → ℕ → (ℕ → Body A) → Said → A → Type 0
-IsTold command b s a = Speaks 64 (Size command) Offset b s a
+-- behind the header, by the body for the size that is spelled
+abbrev IsTold : {A : Type 0} → ℕ → (ℕ → Body A) → Spelling → A → Type 0
+IsTold command b s a = IsRead 64 (Size command) Offset b s a
 
-call_told : (n : ℕ) (c : CallItem) → IsTold n (λ size. call_body size (command_of_call c)) (call_said c) c
+call_told : (n : ℕ) (c : CallItem) → IsTold n (λ size. call_body size (command_of_call c)) (call_spelling c) c
 unfolding negotiate_call setup_call tree_call create_call close_call lock_call empty oplock_break lease_break
 call_told n call.Other = λ _ _ _. refl
 call_told n (call.OplockBreak (held.Oplock level id)) = (refl, (refl, refl, refl), λ _ _ read. rw read refl)
@@ -52,21 +52,21 @@ other_told n None size frame body none = refl
 other_told n (Some command.Cancel) size frame body none = refl
 other_told n (Some _) size frame body none = absurd cc
 
-reply_told : (h : SmbHead) (r : ReplyItem) → IsReplyTo h r → IsTold h.command (λ size. reply_body size h) (reply_said r) r
+reply_told : (h : SmbHead) (r : ReplyItem) → IsReplyTo h r → IsTold h.command (λ size. reply_body size h) (reply_spelling r) r
 unfolding negotiate_reply setup_reply tree_reply create_reply close_reply empty oplock_break lease_break error
 reply_told h reply.Error is = rw is (refl, (refl, refl, refl), λ _ _ read. rw read refl)
 reply_told h reply.Other is = rw (is.0) (λ size frame body. other_told h.command (command_of h.command) size frame body is.1)
 reply_told h (reply.OplockBreak (held.Oplock level id)) is = rw (is.0, is.1) (refl, (refl, refl, refl), λ _ _ read. rw read refl)
 reply_told h _ is = rw (is.0, is.1) (refl, (refl, refl, refl), λ _ _ read. rw read refl)
 
-notice_told : (n : Notice) → IsTold 18 (λ size. reads Told (notice_form size)) (notice_said n) (Told n)
+notice_told : (n : Notice) → IsTold 18 (λ size. reads Told (notice_form size)) (notice_spelling n) (Told n)
 unfolding oplock_notice lease_notice
 notice_told (told.Oplock level id) = (refl, (refl, refl, refl), λ _ _ read. rw read refl)
 notice_told _ = (refl, (refl, refl, refl), λ _ _ read. rw read refl)
 
-told_again : {A : Type 0} (h : SmbHead) (command : ℕ) (b : ℕ → Body A) (s : Said) (a : A) → HeadFits h → is_set 2 h.flags ≡ is_async h.route → SaidFits s → IsTold command b s a
-    → body_at (b (size_found (said s))) command (head h ++ said s) (said s) ≡ Ok a
-told_again h command b s a head_fits form fits speaks = said_again (Size command) Offset b s a (head h) fits (rw (head_length h head_fits form) speaks)
+told_again : {A : Type 0} (h : SmbHead) (command : ℕ) (b : ℕ → Body A) (s : Spelling) (a : A) → HeadFits h → is_set 2 h.flags ≡ is_async h.route → SpellingFits s → IsTold command b s a
+    → body_at (b (size_found (spelled s))) command (head h ++ spelled s) (spelled s) ≡ Ok a
+told_again h command b s a head_fits form fits speaks = spelled_again (Size command) Offset b s a (head h) fits (rw (head_length h head_fits form) speaks)
 
 opens : (h : SmbHead) (body : List ℕ) → HeadFits h → is_set 2 h.flags ≡ is_async h.route → message_at (head h ++ body) ≡ told_at h (head h ++ body) body
 unfolding message_at head_of
@@ -87,40 +87,40 @@ notice_head_stands = (record { credit_charge = omega arith; status = omega arith
 pub message_again : (m : MessageItem) → Fits m → HasSpelling m → message_at (spelling m) ≡ Ok m
 unfolding told_at reply_at call_at spelling
 message_again (Call h c) fits has =
-    opens h (call_text c) fits.0 has.form ∙ rw (no_notice h has.request, has.request, has.command, told_again h h.command (λ size. call_body size (command_of_call c)) (call_said c) c fits.0 has.form fits.1 (call_told h.command c)) refl
+    opens h (call_text c) fits.0 has.form ∙ rw (no_notice h has.request, has.request, has.command, told_again h h.command (λ size. call_body size (command_of_call c)) (call_spelling c) c fits.0 has.form fits.1 (call_told h.command c)) refl
 message_again (Reply h r) fits has =
-    opens h (reply_text r) fits.0 has.form ∙ rw (has.no_notice, has.reply, told_again h h.command (λ size. reply_body size h) (reply_said r) r fits.0 has.form fits.1 (reply_told h r has.command)) refl
+    opens h (reply_text r) fits.0 has.form ∙ rw (has.no_notice, has.reply, told_again h h.command (λ size. reply_body size h) (reply_spelling r) r fits.0 has.form fits.1 (reply_told h r has.command)) refl
 message_again (Told n) fits has =
     let s = notice_head_stands in
-    opens notice_head (notice n) s.0 s.1 ∙ rw (s.2) (told_again notice_head 18 (λ size. reads Told (notice_form size)) (notice_said n) (Told n) s.0 s.1 fits (notice_told n))
+    opens notice_head (notice n) s.0 s.1 ∙ rw (s.2) (told_again notice_head 18 (λ size. reads Told (notice_form size)) (notice_spelling n) (Told n) s.0 s.1 fits (notice_told n))
 
 -- ---- lengths
 
-call_size : (c : CallItem) → said_size (call_said c) ≡ call_length c
+call_size : (c : CallItem) → spelled_size (call_spelling c) ≡ call_length c
 unfolding negotiate_call setup_call tree_call create_call close_call lock_call empty oplock_break lease_break
 call_size (call.Create c) = omega (arith, padding_length (120 + length c.name) (length c.contexts))
 call_size (call.OplockBreak (held.Oplock level id)) = refl
 call_size _ = refl
 
-reply_size : (r : ReplyItem) → said_size (reply_said r) ≡ reply_length r
+reply_size : (r : ReplyItem) → spelled_size (reply_spelling r) ≡ reply_length r
 unfolding negotiate_reply setup_reply tree_reply create_reply close_reply empty error oplock_break lease_break
 reply_size (reply.OplockBreak (held.Oplock level id)) = refl
 reply_size _ = refl
 
-notice_size : (n : Notice) → said_size (notice_said n) ≡ notice_length n
+notice_size : (n : Notice) → spelled_size (notice_spelling n) ≡ notice_length n
 unfolding oplock_notice lease_notice
 notice_size (told.Oplock level id) = refl
 notice_size _ = refl
 
--- a header, and what is said behind it
-both_length : (h : SmbHead) (s : Said) (n : ℕ) → HeadFits h → is_set 2 h.flags ≡ is_async h.route → SaidFits s → said_size s ≡ n → length (head h ++ said s) ≡ 64 + n
-both_length h s n head_fits form fits is = length-append (head h) (said s) ∙ rw (head_length h head_fits form, said_length s fits, is) refl
+-- a header, and what is spelled behind it
+both_length : (h : SmbHead) (s : Spelling) (n : ℕ) → HeadFits h → is_set 2 h.flags ≡ is_async h.route → SpellingFits s → spelled_size s ≡ n → length (head h ++ spelled s) ≡ 64 + n
+both_length h s n head_fits form fits is = length-append (head h) (spelled s) ∙ rw (head_length h head_fits form, spelled_length s fits, is) refl
 
 pub message_has : (m : MessageItem) → Fits m → HasSpelling m → length (spelling m) ≡ message_length m
 unfolding spelling
-message_has (Call h c) fits has = both_length h (call_said c) (call_length c) fits.0 has.form fits.1 (call_size c)
-message_has (Reply h r) fits has = both_length h (reply_said r) (reply_length r) fits.0 has.form fits.1 (reply_size r)
-message_has (Told n) fits has = both_length notice_head (notice_said n) (notice_length n) notice_head_stands.0 notice_head_stands.1 fits (notice_size n)
+message_has (Call h c) fits has = both_length h (call_spelling c) (call_length c) fits.0 has.form fits.1 (call_size c)
+message_has (Reply h r) fits has = both_length h (reply_spelling r) (reply_length r) fits.0 has.form fits.1 (reply_size r)
+message_has (Told n) fits has = both_length notice_head (notice_spelling n) (notice_length n) notice_head_stands.0 notice_head_stands.1 fits (notice_size n)
 
 -- ---- what is read has a spelling
 

@@ -17,8 +17,8 @@ number_of_fault Offset = 4
 abbrev pub buffer : {A : Type 0} → (A → List ℕ) → (List ℕ → Layout A) → Layout A
 buffer get rest = part (record { offset = U16; count = U16; empty_at_0 = false; test = None }) get rest
 
--- a body behind the header of 64 bytes, of this size and so many fixed bytes; those that no field names are free when they are
--- read, and zeros when they are written (SMB-4)
+-- a body behind the header of 64 bytes, of this size and so many fixed bytes; those that no field names may be anything when
+-- they are read, and are zeros when they are written (SMB-4)
 abbrev pub form : {A : Type 0} → ℕ → ℕ → Layout A → Form A
 form size fixed layout = record { before = 64; size = size; fixed = fixed; layout = layout }
 

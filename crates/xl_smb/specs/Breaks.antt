@@ -1,7 +1,7 @@
 -- OPLOCK_BREAK: acknowledgements and their replies, which have the same forms, and notices.
 use Rattle.std.specs.Prelude.{ℕ, ◌==◌, List, [], if◌then◌else◌}
 use Rattle.xl_layout.specs.Layouts.{made, reserved, byte, u32, u64, raw}
-use Rattle.xl_layout.specs.Forms.{Form, Said, says, said, SaidFits}
+use Rattle.xl_layout.specs.Forms.{Form, Spelling, by_form, spelled, SpellingFits}
 use Rattle.xl_smb.specs.Bodies.{form}
 use Rattle.xl_smb.specs.Files.{file_id}
 use Rattle.xl_smb.specs.declared.file.FileId.{FileId}
@@ -16,7 +16,7 @@ use Rattle.xl_smb.specs.declared.breaks.LeaseNotice.{LeaseNotice}
 abbrev pub oplock : {A : Type 0} → (A → ℕ × FileId) → (ℕ → FileId → A) → Form A
 oplock get make = form 24 24 (byte (λ a. (get a).0) λ level. reserved 5 (file_id (λ a. (get a).1) λ id. made (make level id)))
 
--- the fields of a break of the other kind, which isn't made of them
+-- what these fields are of a break of a lease, which isn't made of them; the fields of a lease likewise
 abbrev pub no_oplock : ℕ × FileId
 no_oplock = (0, record { persistent = 0; volatile = 0 })
 
@@ -41,9 +41,9 @@ lease_break = form 36 36 (reserved 2 (u32 (λ b. (lease_in b).flags) λ flags. r
 abbrev pub break_form : ℕ → Form Break
 break_form size = if size == 36 then lease_break else oplock_break
 
-abbrev pub break_said : Break → Said
-break_said (held.Oplock level id) = says oplock_break (held.Oplock level id)
-break_said (held.Lease l) = says lease_break (held.Lease l)
+abbrev pub break_spelling : Break → Spelling
+break_spelling (held.Oplock level id) = by_form oplock_break (held.Oplock level id)
+break_spelling (held.Lease l) = by_form lease_break (held.Lease l)
 
 -- ---- notices: of an oplock, and 44 bytes of a lease (MS-SMB2 2.2.23.2)
 
@@ -66,12 +66,12 @@ lease_notice = form 44 44 (reserved 2 (u32 (λ n. (lease_told n).flags) λ flags
 abbrev pub notice_form : ℕ → Form Notice
 notice_form size = if size == 44 then lease_notice else oplock_notice
 
-abbrev pub notice_said : Notice → Said
-notice_said (told.Oplock level id) = says oplock_notice (told.Oplock level id)
-notice_said (told.Lease n) = says lease_notice (told.Lease n)
+abbrev pub notice_spelling : Notice → Spelling
+notice_spelling (told.Oplock level id) = by_form oplock_notice (told.Oplock level id)
+notice_spelling (told.Lease n) = by_form lease_notice (told.Lease n)
 
 abbrev pub notice : Notice → List ℕ
-notice n = said (notice_said n)
+notice n = spelled (notice_spelling n)
 
 abbrev pub NoticeFits : Notice → Type 0
-NoticeFits n = SaidFits (notice_said n)
+NoticeFits n = SpellingFits (notice_spelling n)

@@ -1,13 +1,13 @@
 -- Requests, by their command.
 use Rattle.std.specs.Prelude.{ℕ, ◌<◌, ◌^◌, List, length, Option, Some, None, Result}
 use Rattle.xl_layout.specs.Layouts.{IsCounted}
-use Rattle.xl_layout.specs.Forms.{size_found, Body, unread, reads, Said, nothing, says, said, SaidFits}
+use Rattle.xl_layout.specs.Forms.{size_found, Body, unread, reads, Spelling, no_body, by_form, spelled, SpellingFits}
 use Rattle.xl_smb.specs.Bodies.{body_at}
 use Rattle.xl_smb.specs.Heads.{command_of}
 use Rattle.xl_smb.specs.Sessions.{NegotiateCallItem, shown_negotiate_call, negotiate_call, SetupCallItem, shown_setup_call, setup_call, tree_call, empty}
 use Rattle.xl_smb.specs.Creates.{CreateCallItem, shown_create_call, create_call, CreateCallHas}
 use Rattle.xl_smb.specs.Locks.{close_call, LockItem, shown_lock, lock_call}
-use Rattle.xl_smb.specs.Breaks.{break_form, break_said}
+use Rattle.xl_smb.specs.Breaks.{break_form, break_spelling}
 use Rattle.xl_smb.specs.declared.breaks.Break.{Break}
 use Rattle.xl_smb.specs.declared.call.SmbCall.{SmbCall}
 use Rattle.xl_smb.specs.declared.call.SmbCall.TheVariants as call
@@ -65,28 +65,28 @@ call_body size None = unread Other
 unfoldable pub call_at : ℕ → List ℕ → List ℕ → Result CallItem SmbBad
 call_at command frame body = body_at (call_body (size_found body) (command_of command)) command frame body
 
--- ---- what a request is told by
+-- ---- how a request is spelled
 
-abbrev pub call_said : CallItem → Said
-call_said (Negotiate c) = says negotiate_call c
-call_said (SessionSetup c) = says setup_call c
-call_said Logoff = says empty tt
-call_said (TreeConnect path) = says tree_call path
-call_said TreeDisconnect = says empty tt
-call_said (Create c) = says create_call c
-call_said (Close c) = says close_call c
-call_said (Lock c) = says lock_call c
-call_said Cancel = says empty tt
-call_said Echo = says empty tt
-call_said (OplockBreak b) = break_said b
-call_said Other = nothing
+abbrev pub call_spelling : CallItem → Spelling
+call_spelling (Negotiate c) = by_form negotiate_call c
+call_spelling (SessionSetup c) = by_form setup_call c
+call_spelling Logoff = by_form empty tt
+call_spelling (TreeConnect path) = by_form tree_call path
+call_spelling TreeDisconnect = by_form empty tt
+call_spelling (Create c) = by_form create_call c
+call_spelling (Close c) = by_form close_call c
+call_spelling (Lock c) = by_form lock_call c
+call_spelling Cancel = by_form empty tt
+call_spelling Echo = by_form empty tt
+call_spelling (OplockBreak b) = break_spelling b
+call_spelling Other = no_body
 
 abbrev pub call_text : CallItem → List ℕ
-call_text c = said (call_said c)
+call_text c = spelled (call_spelling c)
 
 -- what fits its fields
 abbrev pub CallFits : CallItem → Type 0
-CallFits c = SaidFits (call_said c)
+CallFits c = SpellingFits (call_spelling c)
 
 -- the command of a request
 abbrev pub command_of_call : CallItem → Option Command

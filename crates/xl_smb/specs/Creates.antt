@@ -14,7 +14,7 @@ use Rattle.xl_smb.specs.declared.file.FileStatus.{FileStatus}
 abbrev pub contexts : {A : Type 0} → (A → List ℕ) → (List ℕ → Layout A) → Layout A
 contexts get rest = part (record { offset = U32; count = U32; empty_at_0 = true; test = Some are_contexts }) get rest
 
--- ---- CREATE request (MS-SMB2 2.2.13)
+-- ---- CREATE request (MS-SMB2 2.2.13): 56 bytes, then the name, and the contexts
 
 pub record CreateCallItem : Type 0 where
   pub oplock_level : ℕ
@@ -28,7 +28,7 @@ pub record CreateCallItem : Type 0 where
 abbrev pub shown_create_call : CreateCall → CreateCallItem
 shown_create_call c = record { oplock_level = c.oplock_level; desired_access = c.desired_access; share_access = c.share_access; disposition = c.disposition; options = c.options; name = c.name.now; contexts = c.contexts.0.now }
 
--- 56 bytes, then the name, and the contexts from a multiple of 8 on (SMB-8)
+-- the contexts are written from a multiple of 8 on (SMB-8)
 unfoldable pub create_call : Form CreateCallItem
 create_call = form 57 56 (reserved 1 (byte (λ c. c.oplock_level) λ oplock_level. reserved 20 (u32 (λ c. c.desired_access) λ desired_access. reserved 4 (
     u32 (λ c. c.share_access) λ share_access. u32 (λ c. c.disposition) λ disposition. u32 (λ c. c.options) λ options. buffer (λ c. c.name) λ name. aligned (λ c. c.contexts) (contexts (λ c. c.contexts) λ list.

@@ -1,12 +1,12 @@
 -- Replies, by their command and status.
 use Rattle.std.specs.Prelude.{◌≡◌, ℕ, ◌<◌, ◌^◌, Bool, true, false, List, length, Option, Some, None}
 use Rattle.xl_layout.specs.Layouts.{made, reserved}
-use Rattle.xl_layout.specs.Forms.{Form, Body, unread, reads, Said, nothing, says, said, SaidFits}
+use Rattle.xl_layout.specs.Forms.{Form, Body, unread, reads, Spelling, no_body, by_form, spelled, SpellingFits}
 use Rattle.xl_smb.specs.Bodies.{form}
 use Rattle.xl_smb.specs.Sessions.{NegotiateReplyItem, shown_negotiate_reply, negotiate_reply, SetupReplyItem, shown_setup_reply, setup_reply, tree_reply, empty}
 use Rattle.xl_smb.specs.Creates.{CreateReplyItem, shown_create_reply, create_reply, CreateReplyHas}
 use Rattle.xl_smb.specs.Locks.{close_reply}
-use Rattle.xl_smb.specs.Breaks.{break_form, break_said}
+use Rattle.xl_smb.specs.Breaks.{break_form, break_spelling}
 use Rattle.xl_smb.specs.declared.breaks.Break.{Break}
 use Rattle.xl_smb.specs.declared.reply.SmbReply.{SmbReply}
 use Rattle.xl_smb.specs.declared.reply.SmbReply.TheVariants as reply
@@ -69,28 +69,28 @@ error = form 9 8 (reserved 7 (made tt))
 abbrev pub error_body : Body ReplyItem
 error_body = reads (λ _. Error) error
 
--- ---- what a reply is told by
+-- ---- how a reply is spelled
 
-abbrev pub reply_said : ReplyItem → Said
-reply_said (Negotiate r) = says negotiate_reply r
-reply_said (SessionSetup r) = says setup_reply r
-reply_said Logoff = says empty tt
-reply_said (TreeConnect r) = says tree_reply r
-reply_said TreeDisconnect = says empty tt
-reply_said (Create r) = says create_reply r
-reply_said (Close r) = says close_reply r
-reply_said Lock = says empty tt
-reply_said Echo = says empty tt
-reply_said (OplockBreak b) = break_said b
-reply_said Error = says error tt
-reply_said Other = nothing
+abbrev pub reply_spelling : ReplyItem → Spelling
+reply_spelling (Negotiate r) = by_form negotiate_reply r
+reply_spelling (SessionSetup r) = by_form setup_reply r
+reply_spelling Logoff = by_form empty tt
+reply_spelling (TreeConnect r) = by_form tree_reply r
+reply_spelling TreeDisconnect = by_form empty tt
+reply_spelling (Create r) = by_form create_reply r
+reply_spelling (Close r) = by_form close_reply r
+reply_spelling Lock = by_form empty tt
+reply_spelling Echo = by_form empty tt
+reply_spelling (OplockBreak b) = break_spelling b
+reply_spelling Error = by_form error tt
+reply_spelling Other = no_body
 
 abbrev pub reply_text : ReplyItem → List ℕ
-reply_text r = said (reply_said r)
+reply_text r = spelled (reply_spelling r)
 
 -- what fits its fields
 abbrev pub ReplyFits : ReplyItem → Type 0
-ReplyFits r = SaidFits (reply_said r)
+ReplyFits r = SpellingFits (reply_spelling r)
 
 -- whether a command has a reply of its own at status 0
 abbrev pub has_reply : Option Command → Bool

@@ -1,6 +1,6 @@
 //! The size with which a body begins, its fixed part, and the parts that it names.
-ghost use Rattle.std.specs.Prelude.{◌≡◌, ◌≤◌, true, false, length, OnOk, IfOk, IfErr};
-ghost use Rattle.xl_layout.specs.Places.{bytes_at, lies};
+ghost use Rattle.std.specs.Prelude.{◌≡◌, ◌+◌, ◌≤◌, true, false, length, OnOk, IfOk, IfErr};
+ghost use Rattle.xl_layout.specs.Places.{bytes_at, u16_at, lies};
 ghost use Rattle.xl_layout.specs.Forms.{size_found, has_fixed};
 
 use crate::fault::SmbBad;
@@ -42,4 +42,15 @@ pub(crate) fn part_at(frame: &[u8], start: u32, count: u32) -> Result<&[u8], Smb
         return Err(SmbBad::Offset);
     }
     Ok(&frame[start..start + count])
+}
+
+/// The part whose offset and length stand, in two bytes each, at a place of the body.
+pub(crate) fn buffer_at<'a>(frame: &'a [u8], body: &[u8], place: usize) -> Result<&'a [u8], SmbBad>
+    requires { place + 4 ≤ length body.now }
+    ensures ok { IfOk result (λ part. (lies (u16_at place body.now) (u16_at (place + 2) body.now) frame.now ≡ true) × (part.now ≡ bytes_at (u16_at (place + 2) body.now) (u16_at place body.now) frame.now)) }
+    ensures err { IfErr result (λ e. (lies (u16_at place body.now) (u16_at (place + 2) body.now) frame.now ≡ false) × (e ≡ SmbBad.Offset)) }
+{
+    let start = u16_at(body, place);
+    let count = u16_at(body, place + 2);
+    part_at(frame, u32::from(start), u32::from(count))
 }

@@ -1,9 +1,9 @@
 //! OPLOCK_BREAK: acknowledgements, their replies, and the notices that ask for them.
-ghost use Rattle.std.specs.Prelude.{◌≡◌, ℕ, List, ◌++◌, OnOk};
+ghost use Rattle.std.specs.Prelude.{ℕ, List};
 ghost use Rattle.xl_base.specs.Results.{Gives};
-ghost use Rattle.xl_layout.specs.Forms.{size_found, form_text, FormFits, said, SaidFits};
+ghost use Rattle.xl_layout.specs.Forms.{size_found, by_form, Puts};
 ghost use Rattle.xl_smb.specs.Bodies.{form_at};
-ghost use Rattle.xl_smb.specs.Breaks.{oplock_break, lease_break, break_form, break_said, oplock_notice, lease_notice, notice_form, notice, NoticeFits};
+ghost use Rattle.xl_smb.specs.Breaks.{oplock_break, lease_break, break_form, break_spelling, oplock_notice, lease_notice, notice_form, notice_spelling};
 
 use crate::body::{check_fixed, size_found};
 use crate::command::Command;
@@ -84,9 +84,8 @@ pub(crate) fn notice_at(body: &[u8]) -> Result<Notice, SmbBad>
 /// Writes the form of an oplock's break, which acknowledgements, replies and notices share.
 #[tactic(auto, unfolding(xl_layout::specs::Forms::form_text, crate::specs::Breaks::oplock_break, crate::specs::Breaks::oplock_notice))]
 fn put_oplock(out: &mut Vec<u8>, level: u8, file_id: FileId) -> Result<(), AllocError>
-    ensures held { OnOk result (out.new.items ≡ out.old.items ++ form_text oplock_break (Break.Oplock level file_id)) }
-    ensures told { OnOk result (out.new.items ≡ out.old.items ++ form_text oplock_notice (Notice.Oplock level file_id)) }
-    ensures fits { FormFits oplock_break (Break.Oplock level file_id) × FormFits oplock_notice (Notice.Oplock level file_id) }
+    ensures held { Puts (by_form oplock_break (Break.Oplock level file_id)) result out.old.items out.new.items }
+    ensures told { Puts (by_form oplock_notice (Notice.Oplock level file_id)) result out.old.items out.new.items }
 {
     put_all(
         out,
@@ -102,8 +101,7 @@ fn put_oplock(out: &mut Vec<u8>, level: u8, file_id: FileId) -> Result<(), Alloc
 
 #[tactic(auto, unfolding(xl_layout::specs::Forms::form_text, crate::specs::Breaks::lease_break))]
 fn put_lease(out: &mut Vec<u8>, lease: Lease) -> Result<(), AllocError>
-    ensures ok { OnOk result (out.new.items ≡ out.old.items ++ form_text lease_break (Break.Lease lease)) }
-    ensures fits { FormFits lease_break (Break.Lease lease) }
+    ensures { Puts (by_form lease_break (Break.Lease lease)) result out.old.items out.new.items }
 {
     put_all(
         out,
@@ -120,8 +118,7 @@ fn put_lease(out: &mut Vec<u8>, lease: Lease) -> Result<(), AllocError>
 
 #[tactic(auto, unfolding(xl_layout::specs::Forms::form_text, crate::specs::Breaks::lease_notice))]
 fn put_lease_notice(out: &mut Vec<u8>, told: LeaseNotice) -> Result<(), AllocError>
-    ensures ok { OnOk result (out.new.items ≡ out.old.items ++ form_text lease_notice (Notice.Lease told)) }
-    ensures fits { FormFits lease_notice (Notice.Lease told) }
+    ensures { Puts (by_form lease_notice (Notice.Lease told)) result out.old.items out.new.items }
 {
     put_all(
         out,
@@ -139,8 +136,7 @@ fn put_lease_notice(out: &mut Vec<u8>, told: LeaseNotice) -> Result<(), AllocErr
 
 /// Writes an acknowledgement or the reply to one.
 pub(crate) fn put_break(out: &mut Vec<u8>, held: Break) -> Result<(), AllocError>
-    ensures ok { OnOk result (out.new.items ≡ out.old.items ++ said (break_said held)) }
-    ensures fits { SaidFits (break_said held) }
+    ensures { Puts (break_spelling held) result out.old.items out.new.items }
 {
     match held {
         Break::Oplock(level, file_id) => put_oplock(out, level, file_id),
@@ -150,8 +146,7 @@ pub(crate) fn put_break(out: &mut Vec<u8>, held: Break) -> Result<(), AllocError
 
 /// Writes the body of a notice.
 pub(crate) fn put_notice(out: &mut Vec<u8>, told: Notice) -> Result<(), AllocError>
-    ensures ok { OnOk result (out.new.items ≡ out.old.items ++ notice told) }
-    ensures fits { NoticeFits told }
+    ensures { Puts (notice_spelling told) result out.old.items out.new.items }
 {
     match told {
         Notice::Oplock(level, file_id) => put_oplock(out, level, file_id),

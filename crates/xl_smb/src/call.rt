@@ -1,10 +1,10 @@
 //! Requests.
-ghost use Rattle.std.specs.Prelude.{◌≡◌, ◌++◌, Some, OnOk};
+ghost use Rattle.std.specs.Prelude.{Some};
 ghost use Rattle.xl_base.specs.Results.{Gives};
-ghost use Rattle.xl_layout.specs.Forms.{size_found};
+ghost use Rattle.xl_layout.specs.Forms.{size_found, Puts};
 ghost use Rattle.xl_smb.specs.Bodies.{body_at};
 ghost use Rattle.xl_smb.specs.Heads.{number_of};
-ghost use Rattle.xl_smb.specs.Calls.{shown_call, call_body, call_text, CallFits, CallHas};
+ghost use Rattle.xl_smb.specs.Calls.{shown_call, call_body, call_spelling, CallHas};
 
 use crate::breaks::{Break, break_at, put_break};
 use crate::command::Command;
@@ -14,7 +14,7 @@ use crate::lock::{
     CloseCall, LockCall, close_call_at, lock_call_at, put_close_call, put_lock_call,
 };
 use crate::session::{
-    NegotiateCall, SessionSetupCall, check_empty, negotiate_call_at, path_at, put_empty,
+    NegotiateCall, SessionSetupCall, empty_at, negotiate_call_at, path_at, put_empty,
     put_negotiate_call, put_setup_call, put_tree_call, setup_call_at,
 };
 use std::alloc::AllocError;
@@ -64,30 +64,17 @@ pub(crate) fn call_at<'a>(
         Command::Close => Ok(SmbCall::Close(close_call_at(body)?)),
         Command::Lock => Ok(SmbCall::Lock(lock_call_at(body)?)),
         Command::OplockBreak => Ok(SmbCall::OplockBreak(break_at(body)?)),
-        Command::Logoff => {
-            check_empty(command, body)?;
-            Ok(SmbCall::Logoff)
-        }
-        Command::TreeDisconnect => {
-            check_empty(command, body)?;
-            Ok(SmbCall::TreeDisconnect)
-        }
-        Command::Cancel => {
-            check_empty(command, body)?;
-            Ok(SmbCall::Cancel)
-        }
-        Command::Echo => {
-            check_empty(command, body)?;
-            Ok(SmbCall::Echo)
-        }
+        Command::Logoff => Ok(empty_at(command, body, SmbCall::Logoff)?),
+        Command::TreeDisconnect => Ok(empty_at(command, body, SmbCall::TreeDisconnect)?),
+        Command::Cancel => Ok(empty_at(command, body, SmbCall::Cancel)?),
+        Command::Echo => Ok(empty_at(command, body, SmbCall::Echo)?),
     }
 }
 
 /// Writes the body of a request.
 pub(crate) fn put_call(out: &mut Vec<u8>, call: SmbCall<'_>) -> Result<(), AllocError>
     requires { CallHas (shown_call call) }
-    ensures ok { OnOk result (out.new.items ≡ out.old.items ++ call_text (shown_call call.entry)) }
-    ensures fits { CallFits (shown_call call.entry) }
+    ensures { Puts (call_spelling (shown_call call.entry)) result out.old.items out.new.items }
 {
     match call {
         SmbCall::Negotiate(call) => put_negotiate_call(out, call),

@@ -1,14 +1,14 @@
 //! CREATE.
-ghost use Rattle.std.specs.Prelude.{◌≡◌, ◌++◌, ◌<◌, ◌^◌, true, false, Some, length, OnOk, IfOk, IfErr};
+ghost use Rattle.std.specs.Prelude.{◌≡◌, ◌+◌, ◌≤◌, ◌<◌, ◌^◌, true, false, Some, length, IfOk, IfErr};
 ghost use Rattle.xl_base.specs.Results.{Gives};
-ghost use Rattle.xl_layout.specs.Places.{bytes_at};
+ghost use Rattle.xl_layout.specs.Places.{bytes_at, u32_at};
 ghost use Rattle.xl_layout.specs.Layouts.{stands, padding, place_if_any};
-ghost use Rattle.xl_layout.specs.Forms.{form_text, FormFits};
+ghost use Rattle.xl_layout.specs.Forms.{by_form, Puts};
 ghost use Rattle.xl_smb.specs.Bodies.{form_at};
 ghost use Rattle.xl_smb.specs.Creates.{shown_create_call, create_call, CreateCallHas, shown_create_reply, create_reply, CreateReplyHas};
 ghost use Rattle.xl_smb.specs.Leases.{are_contexts};
 
-use crate::body::{check_fixed, part_at};
+use crate::body::{buffer_at, check_fixed, part_at};
 use crate::command::Command;
 use crate::fault::SmbBad;
 use crate::file::{FileId, FileStatus, file_id_at, status_at};
@@ -50,12 +50,13 @@ pub struct CreateReply<'a> {
     pub contexts: Contexts<'a>,
 }
 
-/// The contexts at a place of the frame, each of which lies within them.
-fn contexts_at(frame: &[u8], start: u32, count: u32) -> Result<&[u8], SmbBad>
-    ensures ok { IfOk result (λ list. (stands (Some are_contexts) start count frame.now ≡ true) × (list.now ≡ bytes_at count start frame.now)) }
-    ensures err { IfErr result (λ e. (stands (Some are_contexts) start count frame.now ≡ false) × (e ≡ SmbBad.Offset)) }
+/// The contexts whose offset and length stand, in four bytes each, at a place of the body; each lies within them.
+fn contexts_at<'a>(frame: &'a [u8], body: &[u8], place: usize) -> Result<&'a [u8], SmbBad>
+    requires { place + 8 ≤ length body.now }
+    ensures ok { IfOk result (λ list. (stands (Some are_contexts) (u32_at place body.now) (u32_at (place + 4) body.now) frame.now ≡ true) × (list.now ≡ bytes_at (u32_at (place + 4) body.now) (u32_at place body.now) frame.now)) }
+    ensures err { IfErr result (λ e. (stands (Some are_contexts) (u32_at place body.now) (u32_at (place + 4) body.now) frame.now ≡ false) × (e ≡ SmbBad.Offset)) }
 {
-    let list = part_at(frame, start, count)?;
+    let list = part_at(frame, u32_at(body, place), u32_at(body, place + 4))?;
     if !are_contexts(list) {
         return Err(SmbBad::Offset);
     }
@@ -67,12 +68,8 @@ pub(crate) fn create_call_at<'a>(frame: &'a [u8], body: &[u8]) -> Result<CreateC
     ensures { Gives shown_create_call result (form_at create_call 5 frame.now body.now) }
 {
     check_fixed(Command::Create.number(), 57, 56, body)?;
-    let name = part_at(
-        frame,
-        u32::from(u16_at(body, 44)),
-        u32::from(u16_at(body, 46)),
-    )?;
-    let contexts = contexts_at(frame, u32_at(body, 48), u32_at(body, 52))?;
+    let name = buffer_at(frame, body, 44)?;
+    let contexts = contexts_at(frame, body, 48)?;
     Ok(CreateCall {
         oplock_level: body[3],
         desired_access: u32_at(body, 24),
@@ -89,7 +86,7 @@ pub(crate) fn create_reply_at<'a>(frame: &'a [u8], body: &[u8]) -> Result<Create
     ensures { Gives shown_create_reply result (form_at create_reply 5 frame.now body.now) }
 {
     check_fixed(Command::Create.number(), 89, 88, body)?;
-    let contexts = contexts_at(frame, u32_at(body, 80), u32_at(body, 84))?;
+    let contexts = contexts_at(frame, body, 80)?;
     Ok(CreateReply {
         oplock_level: body[2],
         action: u32_at(body, 4),
@@ -125,8 +122,7 @@ fn contexts_place(before: usize, contexts: usize) -> u32
 #[tactic(auto, unfolding(xl_layout::specs::Forms::form_text, crate::specs::Creates::create_call))]
 pub(crate) fn put_create_call(out: &mut Vec<u8>, call: CreateCall<'_>) -> Result<(), AllocError>
     requires { CreateCallHas (shown_create_call call) }
-    ensures ok { OnOk result (out.new.items ≡ out.old.items ++ form_text create_call (shown_create_call call.entry)) }
-    ensures fits { FormFits create_call (shown_create_call call.entry) }
+    ensures { Puts (by_form create_call (shown_create_call call.entry)) result out.old.items out.new.items }
 {
     let Contexts(contexts) = call.contexts;
     let start = 120 + call.name.len();
@@ -160,8 +156,7 @@ pub(crate) fn put_create_call(out: &mut Vec<u8>, call: CreateCall<'_>) -> Result
 #[tactic(auto, unfolding(xl_layout::specs::Forms::form_text, crate::specs::Creates::create_reply))]
 pub(crate) fn put_create_reply(out: &mut Vec<u8>, reply: CreateReply<'_>) -> Result<(), AllocError>
     requires { CreateReplyHas (shown_create_reply reply) }
-    ensures ok { OnOk result (out.new.items ≡ out.old.items ++ form_text create_reply (shown_create_reply reply.entry)) }
-    ensures fits { FormFits create_reply (shown_create_reply reply.entry) }
+    ensures { Puts (by_form create_reply (shown_create_reply reply.entry)) result out.old.items out.new.items }
 {
     let Contexts(contexts) = reply.contexts;
     let status = reply.status;

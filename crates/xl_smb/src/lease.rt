@@ -4,7 +4,7 @@ ghost use Rattle.xl_base.specs.Results.{Gives};
 ghost use Rattle.xl_layout.specs.Layouts.{Fit};
 ghost use Rattle.xl_smb.specs.Leases.{shown_context, context_at, are_contexts, is_named, find, lease_fields, lease_at, lease_of, lease_context};
 
-use crate::body::part_at;
+use crate::body::{buffer_at, part_at};
 use crate::fault::SmbBad;
 use std::alloc::{AllocError, Global};
 use xl_layout::{bytes_at, put_all, u16_at, u16_bytes, u32_at, u32_bytes, u64_at, u64_bytes};
@@ -64,7 +64,7 @@ fn context_at(list: &[u8]) -> Result<Context<'_>, SmbBad>
     if list.len() < 16 {
         return Err(SmbBad::Offset);
     }
-    let name = part_at(list, u32::from(u16_at(list, 4)), u32::from(u16_at(list, 6)))?;
+    let name = buffer_at(list, list, 4)?;
     let content = part_at(list, u32::from(u16_at(list, 10)), u32_at(list, 12))?;
     Ok(Context {
         next: u32_at(list, 0),

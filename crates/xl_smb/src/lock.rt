@@ -1,8 +1,8 @@
 //! CLOSE and LOCK.
-ghost use Rattle.std.specs.Prelude.{◌≡◌, ℕ, List, ◌<◌, ◌≤◌, ◌++◌, length, slice_index_or, OnOk, IsTrue, ◌↔◌};
+ghost use Rattle.std.specs.Prelude.{◌≡◌, ℕ, List, ◌<◌, ◌≤◌, length, slice_index_or, IsTrue, ◌↔◌};
 ghost use Rattle.xl_base.specs.Results.{Gives};
 ghost use Rattle.xl_layout.specs.Layouts.{IsCounted};
-ghost use Rattle.xl_layout.specs.Forms.{form_text, FormFits};
+ghost use Rattle.xl_layout.specs.Forms.{by_form, Puts};
 ghost use Rattle.xl_smb.specs.Bodies.{form_at};
 ghost use Rattle.xl_smb.specs.Locks.{close_call, close_reply, shown_lock, lock_call, element_at};
 
@@ -136,8 +136,7 @@ pub(crate) fn lock_call_at(body: &[u8]) -> Result<LockCall<'_>, SmbBad>
 /// Writes a CLOSE request.
 #[tactic(auto, unfolding(xl_layout::specs::Forms::form_text, crate::specs::Locks::close_call))]
 pub(crate) fn put_close_call(out: &mut Vec<u8>, call: CloseCall) -> Result<(), AllocError>
-    ensures ok { OnOk result (out.new.items ≡ out.old.items ++ form_text close_call call) }
-    ensures fits { FormFits close_call call }
+    ensures { Puts (by_form close_call call) result out.old.items out.new.items }
 {
     put_all(
         out,
@@ -154,8 +153,7 @@ pub(crate) fn put_close_call(out: &mut Vec<u8>, call: CloseCall) -> Result<(), A
 /// Writes a CLOSE reply.
 #[tactic(auto, unfolding(xl_layout::specs::Forms::form_text, crate::specs::Locks::close_reply))]
 pub(crate) fn put_close_reply(out: &mut Vec<u8>, reply: CloseReply) -> Result<(), AllocError>
-    ensures ok { OnOk result (out.new.items ≡ out.old.items ++ form_text close_reply reply) }
-    ensures fits { FormFits close_reply reply }
+    ensures { Puts (by_form close_reply reply) result out.old.items out.new.items }
 {
     let status = reply.status;
     put_all(
@@ -179,8 +177,7 @@ pub(crate) fn put_close_reply(out: &mut Vec<u8>, reply: CloseReply) -> Result<()
 #[tactic(auto, unfolding(xl_layout::specs::Forms::form_text, crate::specs::Locks::lock_call))]
 pub(crate) fn put_lock_call(out: &mut Vec<u8>, call: LockCall<'_>) -> Result<(), AllocError>
     requires { IsCounted 24 (shown_lock call).elements }
-    ensures ok { OnOk result (out.new.items ≡ out.old.items ++ form_text lock_call (shown_lock call.entry)) }
-    ensures fits { FormFits lock_call (shown_lock call.entry) }
+    ensures { Puts (by_form lock_call (shown_lock call.entry)) result out.old.items out.new.items }
 {
     let LockElements(elements) = call.elements;
     let count = (elements.len() / 24) as u16;

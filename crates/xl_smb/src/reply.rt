@@ -1,10 +1,10 @@
 //! Replies.
-ghost use Rattle.std.specs.Prelude.{◌≡◌, ℕ, List, ◌++◌, Some, OnOk};
+ghost use Rattle.std.specs.Prelude.{ℕ, List, Some};
 ghost use Rattle.xl_base.specs.Results.{Gives};
-ghost use Rattle.xl_layout.specs.Forms.{size_found, form_text, FormFits};
+ghost use Rattle.xl_layout.specs.Forms.{size_found, by_form, Puts};
 ghost use Rattle.xl_smb.specs.Bodies.{body_at};
 ghost use Rattle.xl_smb.specs.Heads.{number_of};
-ghost use Rattle.xl_smb.specs.Replies.{shown_reply, success_body, error, error_body, reply_text, ReplyFits, ReplyHas};
+ghost use Rattle.xl_smb.specs.Replies.{shown_reply, success_body, error, error_body, reply_spelling, ReplyHas};
 
 use crate::body::check_fixed;
 use crate::breaks::{Break, break_at, put_break};
@@ -13,8 +13,8 @@ use crate::create::{CreateReply, create_reply_at, put_create_reply};
 use crate::fault::SmbBad;
 use crate::lock::{CloseReply, close_reply_at, put_close_reply};
 use crate::session::{
-    NegotiateReply, SessionSetupReply, TreeConnectReply, check_empty, negotiate_reply_at,
-    put_empty, put_negotiate_reply, put_setup_reply, put_tree_reply, setup_reply_at, tree_reply_at,
+    NegotiateReply, SessionSetupReply, TreeConnectReply, empty_at, negotiate_reply_at, put_empty,
+    put_negotiate_reply, put_setup_reply, put_tree_reply, setup_reply_at, tree_reply_at,
 };
 use std::alloc::AllocError;
 use xl_layout::{put_all, u16_bytes};
@@ -64,22 +64,10 @@ pub(crate) fn success_at<'a>(
         Command::Close => Ok(SmbReply::Close(close_reply_at(body)?)),
         Command::OplockBreak => Ok(SmbReply::OplockBreak(break_at(body)?)),
         Command::Cancel => Ok(SmbReply::Other),
-        Command::Logoff => {
-            check_empty(command, body)?;
-            Ok(SmbReply::Logoff)
-        }
-        Command::TreeDisconnect => {
-            check_empty(command, body)?;
-            Ok(SmbReply::TreeDisconnect)
-        }
-        Command::Lock => {
-            check_empty(command, body)?;
-            Ok(SmbReply::Lock)
-        }
-        Command::Echo => {
-            check_empty(command, body)?;
-            Ok(SmbReply::Echo)
-        }
+        Command::Logoff => Ok(empty_at(command, body, SmbReply::Logoff)?),
+        Command::TreeDisconnect => Ok(empty_at(command, body, SmbReply::TreeDisconnect)?),
+        Command::Lock => Ok(empty_at(command, body, SmbReply::Lock)?),
+        Command::Echo => Ok(empty_at(command, body, SmbReply::Echo)?),
     }
 }
 
@@ -95,8 +83,7 @@ pub(crate) fn error_at<'a>(command: u16, body: &[u8]) -> Result<SmbReply<'a>, Sm
 /// Writes the error form, whose data is one zero byte.
 #[tactic(auto, unfolding(xl_layout::specs::Forms::form_text, crate::specs::Replies::error))]
 fn put_error(out: &mut Vec<u8>) -> Result<(), AllocError>
-    ensures ok { OnOk result (out.new.items ≡ out.old.items ++ form_text error tt) }
-    ensures fits { FormFits error tt }
+    ensures { Puts (by_form error tt) result out.old.items out.new.items }
 {
     put_all(out, &[&u16_bytes(9), &[0; 7]])
 }
@@ -104,8 +91,7 @@ fn put_error(out: &mut Vec<u8>) -> Result<(), AllocError>
 /// Writes the body of a reply.
 pub(crate) fn put_reply(out: &mut Vec<u8>, reply: SmbReply<'_>) -> Result<(), AllocError>
     requires { ReplyHas (shown_reply reply) }
-    ensures ok { OnOk result (out.new.items ≡ out.old.items ++ reply_text (shown_reply reply.entry)) }
-    ensures fits { ReplyFits (shown_reply reply.entry) }
+    ensures { Puts (reply_spelling (shown_reply reply.entry)) result out.old.items out.new.items }
 {
     match reply {
         SmbReply::Negotiate(reply) => put_negotiate_reply(out, reply),

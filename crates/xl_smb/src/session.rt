@@ -1,14 +1,14 @@
 //! NEGOTIATE, SESSION_SETUP and TREE_CONNECT, and the commands whose messages have no field.
-ghost use Rattle.std.specs.Prelude.{◌≡◌, ℕ, List, ◌==◌, ◌++◌, ◌<◌, ◌^◌, length, OnOk, IsTrue, ◌↔◌};
+ghost use Rattle.std.specs.Prelude.{◌≡◌, ℕ, List, ◌==◌, ◌<◌, ◌^◌, length, Ok, Err, IfOk, IfErr, IsTrue, ◌↔◌};
 ghost use Rattle.std.specs.List.{list_any};
 ghost use Rattle.xl_base.specs.Results.{Gives};
 ghost use Rattle.xl_layout.specs.Layouts.{IsCounted};
-ghost use Rattle.xl_layout.specs.Forms.{form_text, FormFits};
+ghost use Rattle.xl_layout.specs.Forms.{by_form, Puts};
 ghost use Rattle.xl_smb.specs.Bodies.{form_at};
 ghost use Rattle.xl_smb.specs.Heads.{number_of};
 ghost use Rattle.xl_smb.specs.Sessions.{shown_negotiate_call, negotiate_call, shown_negotiate_reply, negotiate_reply, shown_setup_call, setup_call, shown_setup_reply, setup_reply, tree_call, tree_reply, empty};
 
-use crate::body::{check_fixed, part_at};
+use crate::body::{buffer_at, check_fixed, part_at};
 use crate::command::Command;
 use crate::fault::SmbBad;
 use std::alloc::AllocError;
@@ -148,11 +148,7 @@ pub(crate) fn negotiate_reply_at<'a>(
     ensures { Gives shown_negotiate_reply result (form_at negotiate_reply 0 frame.now body.now) }
 {
     check_fixed(Command::Negotiate.number(), 65, 64, body)?;
-    let buffer = part_at(
-        frame,
-        u32::from(u16_at(body, 56)),
-        u32::from(u16_at(body, 58)),
-    )?;
+    let buffer = buffer_at(frame, body, 56)?;
     Ok(NegotiateReply {
         security_mode: u16_at(body, 2),
         dialect: u16_at(body, 4),
@@ -175,11 +171,7 @@ pub(crate) fn setup_call_at<'a>(
     ensures { Gives shown_setup_call result (form_at setup_call 1 frame.now body.now) }
 {
     check_fixed(Command::SessionSetup.number(), 25, 24, body)?;
-    let buffer = part_at(
-        frame,
-        u32::from(u16_at(body, 12)),
-        u32::from(u16_at(body, 14)),
-    )?;
+    let buffer = buffer_at(frame, body, 12)?;
     Ok(SessionSetupCall {
         flags: body[2],
         security_mode: body[3],
@@ -196,11 +188,7 @@ pub(crate) fn setup_reply_at<'a>(
     ensures { Gives shown_setup_reply result (form_at setup_reply 1 frame.now body.now) }
 {
     check_fixed(Command::SessionSetup.number(), 9, 8, body)?;
-    let buffer = part_at(
-        frame,
-        u32::from(u16_at(body, 4)),
-        u32::from(u16_at(body, 6)),
-    )?;
+    let buffer = buffer_at(frame, body, 4)?;
     Ok(SessionSetupReply {
         flags: u16_at(body, 2),
         buffer,
@@ -213,11 +201,7 @@ pub(crate) fn path_at<'a>(frame: &'a [u8], body: &[u8]) -> Result<&'a [u8], SmbB
     ensures { Gives (λ path. path.now) result (form_at tree_call 3 frame.now body.now) }
 {
     check_fixed(Command::TreeConnect.number(), 9, 8, body)?;
-    part_at(
-        frame,
-        u32::from(u16_at(body, 4)),
-        u32::from(u16_at(body, 6)),
-    )
+    buffer_at(frame, body, 4)
 }
 
 #[tactic(auto, unfolding(xl_layout::specs::Forms::form_read, crate::specs::Sessions::tree_reply))]
@@ -240,8 +224,7 @@ pub(crate) fn put_negotiate_call(
     call: NegotiateCall<'_>,
 ) -> Result<(), AllocError>
     requires { IsCounted 2 (shown_negotiate_call call).dialects }
-    ensures ok { OnOk result (out.new.items ≡ out.old.items ++ form_text negotiate_call (shown_negotiate_call call.entry)) }
-    ensures fits { FormFits negotiate_call (shown_negotiate_call call.entry) }
+    ensures { Puts (by_form negotiate_call (shown_negotiate_call call.entry)) result out.old.items out.new.items }
 {
     let Dialects(dialects) = call.dialects;
     let guid = call.client_guid;
@@ -268,8 +251,7 @@ pub(crate) fn put_negotiate_reply(
     reply: NegotiateReply<'_>,
 ) -> Result<(), AllocError>
     requires { length (shown_negotiate_reply reply).buffer < 2 ^ 16 }
-    ensures ok { OnOk result (out.new.items ≡ out.old.items ++ form_text negotiate_reply (shown_negotiate_reply reply.entry)) }
-    ensures fits { FormFits negotiate_reply (shown_negotiate_reply reply.entry) }
+    ensures { Puts (by_form negotiate_reply (shown_negotiate_reply reply.entry)) result out.old.items out.new.items }
 {
     let guid = reply.server_guid;
     put_all(
@@ -301,8 +283,7 @@ pub(crate) fn put_setup_call(
     call: SessionSetupCall<'_>,
 ) -> Result<(), AllocError>
     requires { length (shown_setup_call call).buffer < 2 ^ 16 }
-    ensures ok { OnOk result (out.new.items ≡ out.old.items ++ form_text setup_call (shown_setup_call call.entry)) }
-    ensures fits { FormFits setup_call (shown_setup_call call.entry) }
+    ensures { Puts (by_form setup_call (shown_setup_call call.entry)) result out.old.items out.new.items }
 {
     put_all(
         out,
@@ -326,8 +307,7 @@ pub(crate) fn put_setup_reply(
     reply: SessionSetupReply<'_>,
 ) -> Result<(), AllocError>
     requires { length (shown_setup_reply reply).buffer < 2 ^ 16 }
-    ensures ok { OnOk result (out.new.items ≡ out.old.items ++ form_text setup_reply (shown_setup_reply reply.entry)) }
-    ensures fits { FormFits setup_reply (shown_setup_reply reply.entry) }
+    ensures { Puts (by_form setup_reply (shown_setup_reply reply.entry)) result out.old.items out.new.items }
 {
     put_all(
         out,
@@ -345,8 +325,7 @@ pub(crate) fn put_setup_reply(
 #[tactic(auto, unfolding(xl_layout::specs::Forms::form_text, crate::specs::Sessions::tree_call))]
 pub(crate) fn put_tree_call(out: &mut Vec<u8>, path: &[u8]) -> Result<(), AllocError>
     requires { length path.now < 2 ^ 16 }
-    ensures ok { OnOk result (out.new.items ≡ out.old.items ++ form_text tree_call path.now) }
-    ensures fits { FormFits tree_call path.now }
+    ensures { Puts (by_form tree_call path.now) result out.old.items out.new.items }
 {
     put_all(
         out,
@@ -363,8 +342,7 @@ pub(crate) fn put_tree_call(out: &mut Vec<u8>, path: &[u8]) -> Result<(), AllocE
 /// Writes a TREE_CONNECT reply.
 #[tactic(auto, unfolding(xl_layout::specs::Forms::form_text, crate::specs::Sessions::tree_reply))]
 pub(crate) fn put_tree_reply(out: &mut Vec<u8>, reply: TreeConnectReply) -> Result<(), AllocError>
-    ensures ok { OnOk result (out.new.items ≡ out.old.items ++ form_text tree_reply reply) }
-    ensures fits { FormFits tree_reply reply }
+    ensures { Puts (by_form tree_reply reply) result out.old.items out.new.items }
 {
     put_all(
         out,
@@ -379,19 +357,20 @@ pub(crate) fn put_tree_reply(out: &mut Vec<u8>, reply: TreeConnectReply) -> Resu
     )
 }
 
-/// Sees that the body of a message without fields is whole.
+/// What a message without fields tells, if its body is whole.
 #[tactic(auto, unfolding(xl_layout::specs::Forms::form_read, crate::specs::Sessions::empty))]
-pub(crate) fn check_empty(command: Command, body: &[u8]) -> Result<(), SmbBad>
-    ensures { (frame : List ℕ) → Gives (λ done. done) result (form_at empty (number_of command) frame body.now) }
+pub(crate) fn empty_at<T: Copy>(command: Command, body: &[u8], told: T) -> Result<T, SmbBad>
+    ensures ok { (frame : List ℕ) → IfOk result (λ x. (x ≡ told) × (form_at empty (number_of command) frame body.now ≡ Ok tt)) }
+    ensures err { (frame : List ℕ) → IfErr result (λ e. form_at empty (number_of command) frame body.now ≡ Err e) }
 {
-    check_fixed(command.number(), 4, 4, body)
+    check_fixed(command.number(), 4, 4, body)?;
+    Ok(told)
 }
 
 /// Writes the body of a message without fields.
 #[tactic(auto, unfolding(xl_layout::specs::Forms::form_text, crate::specs::Sessions::empty))]
 pub(crate) fn put_empty(out: &mut Vec<u8>) -> Result<(), AllocError>
-    ensures ok { OnOk result (out.new.items ≡ out.old.items ++ form_text empty tt) }
-    ensures fits { FormFits empty tt }
+    ensures { Puts (by_form empty tt) result out.old.items out.new.items }
 {
     put_all(out, &[&u16_bytes(4), &[0; 2]])
 }
