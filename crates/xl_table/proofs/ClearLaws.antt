@@ -68,7 +68,7 @@ past_one (Range (Empty offset) exclusive) w b h within = cc
 past_one (Share x y) w b h within = cc
 past_one (Cache x y) w b h within = cc
 
-past_all : (asked : What) (b : Bounds) (cs : List Claim) → is_past asked b ≡ true → AreWithin b cs → AllByRecursion (λ c. is_clear asked c.what ≡ true) cs
+pub past_all : (asked : What) (b : Bounds) (cs : List Claim) → is_past asked b ≡ true → AreWithin b cs → AllByRecursion (λ c. is_clear asked c.what ≡ true) cs
 past_all asked b cs h all = all_weaker (λ c. IsWithin b c.what) (λ c. is_clear asked c.what ≡ true) cs (λ c within. past_one asked c.what b h within) all
 
 and_no : (a : Bool) → (a && false) ≡ false

@@ -17,6 +17,7 @@ pub mod RoomLaws
 pub mod ChangeLaws
 pub mod PlaceLaws
 pub mod ClearLaws
+pub mod BeyondLaws
 pub mod PageLaws
 pub mod TouchLaws
 pub mod ElementLaws

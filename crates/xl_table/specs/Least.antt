@@ -1,5 +1,5 @@
 -- The least of some claims, as a blocker is reported.
-use Rattle.std.specs.Prelude.{ℕ, Bool, ◌==◌, nat_lt, if◌then◌else◌, List, [], ◌∷◌, Option, Some, None}
+use Rattle.std.specs.Prelude.{ℕ, Bool, false, not, ◌&&◌, ◌||◌, ◌==◌, nat_lt, if◌then◌else◌, List, [], ◌∷◌, Option, Some, None}
 use Rattle.std.specs.Ordering.{nat_cmp, is_lt}
 use Rattle.std.specs.Cmp.Lexicographic.{slice_cmp}
 use Rattle.xl_matrix.specs.declared.claim.Claim.{Claim}
@@ -8,6 +8,9 @@ use Rattle.xl_matrix.specs.declared.claim.What.{What}
 use Rattle.xl_matrix.specs.declared.claim.What.TheVariants.{Range}
 use Rattle.xl_names.specs.Texts.{owner_text}
 use Rattle.xl_names.specs.declared.name.Name.{Name}
+use Rattle.xl_table.specs.Flat.{blocks}
+use Rattle.xl_table.specs.Held.{is_range}
+use Rattle.xl_table.specs.declared.bounds.Bounds.{Bounds}
 
 -- how ranges are told apart: the first byte, whether there are bytes, the last, and exclusive before shared
 abbrev pub range_key : What → ℕ × ℕ × ℕ × ℕ
@@ -35,3 +38,12 @@ least_from names least (c ∷ cs) = least_from names (lesser names least c) cs
 -- the least of these, which a refusal names (CORE-2)
 unfoldable pub least : List Name → List Claim → Option Claim
 least names cs = least_from names None cs
+
+-- the held claim blocks the ask, and is a range if ranges alone count
+abbrev pub counts : Claim → Bool → Claim → Bool
+counts ask ranges held = blocks ask held && (not ranges || is_range held.what)
+
+-- no claim within these bounds comes before the least so far: each is a range that begins behind it
+abbrev pub is_beyond : Option Claim → Bounds → Bool
+is_beyond None b = false
+is_beyond (Some c) b = not b.mixed && nat_lt (range_key c.what).0 b.low

@@ -3,11 +3,18 @@ ghost use Rattle.std.specs.Prelude.{◌≡◌, IfOk};
 ghost use Rattle.std.specs.Ordering.{nat_cmp, is_lt};
 ghost use Rattle.std.specs.Cmp.Lexicographic.{slice_cmp};
 ghost use Rattle.xl_names.specs.Texts.{owner_text};
-ghost use Rattle.xl_table.specs.Least.{range_key, range_before, lesser, least};
+ghost use Rattle.std.specs.List.{filter};
+ghost use Rattle.xl_table.specs.Files.{joined, IsFiled};
+ghost use Rattle.xl_table.specs.Least.{range_key, range_before, lesser, least_from, least, counts, is_beyond};
+ghost use Rattle.xl_table.specs.Pages.{paged};
 
+use crate::bounds::Bounds;
+use crate::files::{OnFile, on_file};
+use crate::listing::blocks;
+use crate::page::Page;
 use std::alloc::{AllocError, Global};
 use xl_base::Owner;
-use xl_matrix::{Claim, Extent, What};
+use xl_matrix::{Claim, Extent, What, is_a_range};
 use xl_names::{Names, owner_text};
 
 /// What orders ranges: the first byte, whether there are bytes, the last, and 0 if it is exclusive.
@@ -76,6 +83,76 @@ fn lesser(
         }
     }
     Ok(Some(*claim))
+}
+
+/// Whether no claim within these bounds comes before the least so far: each is a range that begins behind it.
+pub(crate) fn is_beyond(least: Option<Claim>, bounds: Bounds) -> bool
+    ensures { result ≡ is_beyond least bounds }
+{
+    match least {
+        Some(claim) => !bounds.mixed && range_key(&claim).0 < bounds.low,
+        None => false,
+    }
+}
+
+/// Whether a held claim blocks the ask, and is a range if ranges alone count.
+fn counts(ask: &Claim, ranges: bool, held: &Claim) -> bool
+    ensures { result ≡ counts ask.now ranges held.now }
+{
+    blocks(ask, held) && (!ranges || is_a_range(held.what))
+}
+
+/// The lesser of the least so far, and those of these claims that count.
+pub(crate) fn least_among(
+    alloc: Global,
+    names: &Names,
+    least: Option<Claim>,
+    claims: &[Claim],
+    ask: &Claim,
+    ranges: bool,
+) -> Result<Option<Claim>, AllocError>
+    ensures { IfOk result (λ c. c ≡ least_from names.now least (filter (counts ask.now ranges) claims.now)) }
+{
+    let mut least = least;
+    for claim in claims {
+        if counts(ask, ranges, claim) {
+            least = lesser(alloc, names, least, claim)?;
+        }
+    }
+    Ok(least)
+}
+
+/// The least of those in these pages that count. A page is passed by if all of it begins behind the least so far.
+#[tactic(auto, unfolding(crate::specs::Least::least))]
+fn least_in(
+    alloc: Global,
+    names: &Names,
+    pages: &[Page],
+    ask: &Claim,
+    ranges: bool,
+) -> Result<Option<Claim>, AllocError>
+    ensures { IfOk result (λ c. c ≡ least names.now (filter (counts ask.now ranges) (paged pages.now))) }
+{
+    let mut least = None;
+    for page in pages {
+        least = page.least_with(alloc, names, least, ask, ranges)?;
+    }
+    Ok(least)
+}
+
+/// The least of the held claims that block the ask, or of the ranges that do.
+pub(crate) fn least_on(
+    alloc: Global,
+    names: &Names,
+    lists: &[OnFile],
+    ask: &Claim,
+    ranges: bool,
+) -> Result<Option<Claim>, AllocError>
+    requires { IsFiled lists.now }
+    ensures { IfOk result (λ c. c ≡ least names.now (filter (counts ask.now ranges) (joined lists.now))) }
+{
+    let least = least_in(alloc, names, on_file(lists, ask.file), ask, ranges)?;
+    Ok(least)
 }
 
 /// The least of these claims: by first byte, then by last (a range without bytes before all that begin there), then exclusive

@@ -5,7 +5,7 @@ ghost use Rattle.xl_matrix.specs.Equal.{same_parties};
 ghost use Rattle.xl_table.specs.Files.{joined, IsFiled};
 ghost use Rattle.xl_table.specs.Pages.{paged, AreFull};
 ghost use Rattle.xl_table.specs.Flat.{blocks, is_blocked, may_obstruct, is_due};
-ghost use Rattle.xl_table.specs.Held.{is_range, most_claims};
+ghost use Rattle.xl_table.specs.Held.{most_claims};
 ghost use Rattle.xl_table.specs.Leaving.{goes};
 ghost use Rattle.xl_table.specs.Clear.{lies_apart, is_clear};
 
@@ -42,7 +42,7 @@ fn is_clear(asked: What, held: What) -> bool
 
 /// Whether the held claim blocks the ask.
 #[tactic(auto, using(crate::proofs::ClearLaws::clear_is_false))]
-fn blocks(ask: &Claim, held: &Claim) -> bool
+pub(crate) fn blocks(ask: &Claim, held: &Claim) -> bool
     ensures { result ≡ blocks ask.now held.now }
 {
     if is_clear(ask.what, held.what) {
@@ -220,13 +220,6 @@ pub(crate) fn is_blocked(lists: &[OnFile], ask: &Claim) -> bool
     ensures { result ≡ is_blocked (joined lists.now) ask.now }
 {
     any_blocks_in(on_file(lists, ask.file), ask)
-}
-
-/// Leaves the ranges alone.
-pub(crate) fn keep_ranges(claims: &mut Vec<Claim>)
-    ensures { claims.new.items ≡ filter (λ c. is_range c.what) claims.old.items }
-{
-    claims.retain(|claim| matches!(claim.what, What::Range(_, _)));
 }
 
 /// Adds the claims in these pages.

@@ -6,6 +6,7 @@ ghost use Rattle.xl_table.specs.Flat.{blocks, is_blocked, may_obstruct, is_due, 
 ghost use Rattle.xl_table.specs.Leaving.{goes};
 ghost use Rattle.xl_table.specs.Pages.{passes, passes_side, ends};
 ghost use Rattle.xl_table.specs.Held.{is_cache};
+ghost use Rattle.xl_table.specs.Least.{least_from, counts};
 ghost use Rattle.xl_table.specs.Sections.{ends_in_cache};
 ghost use Rattle.xl_index.specs.Parted.{IsParted};
 
@@ -13,6 +14,7 @@ use crate::bounds::{Bounds, any_edge, bounds_of, is_past, widened, widened_by};
 use crate::change::{put_all, take_between};
 use crate::due::is_asleep;
 use crate::holding::holder_with;
+use crate::least::{is_beyond, least_among};
 use crate::leaver::Leaver;
 use crate::listing::{any_blocks, drop_from, push_blockers, push_due, push_obstacles};
 use crate::marks::Mark;
@@ -23,6 +25,7 @@ use std::marker::Model;
 use std::sync::ledger::Ledger;
 use xl_base::Moment;
 use xl_matrix::{Claim, Extent, What};
+use xl_names::Names;
 use xl_steps::Steps;
 
 /// Some of a file's claims. A contract sees their list.
@@ -277,6 +280,27 @@ impl Page {
             return false;
         }
         any_blocks(self.claims.as_slice(), ask)
+    }
+
+    /// The lesser of the least so far, and those of the claims that count.
+    pub(crate) fn least_with(
+        &self,
+        alloc: Global,
+        names: &Names,
+        least: Option<Claim>,
+        ask: &Claim,
+        ranges: bool,
+    ) -> Result<Option<Claim>, AllocError>
+        ensures { IfOk result (λ c. c ≡ least_from names.now least (filter (counts ask.now ranges) self.now)) }
+    {
+        if is_past(ask.what, self.bounds) {
+            return Ok(least);
+        }
+        if is_beyond(least, self.bounds) {
+            return Ok(least);
+        }
+        let least = least_among(alloc, names, least, self.claims.as_slice(), ask, ranges)?;
+        Ok(least)
     }
 
     /// Adds those of the claims that block the ask: one step for each of them at most.

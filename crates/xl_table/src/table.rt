@@ -8,12 +8,11 @@ use crate::change::{Change, gone_by, grant, unlock, write};
 use crate::exact::find_unlocked;
 use crate::files::{OnFile, open_file};
 use crate::holding::find_holder;
-use crate::least::least_of;
+use crate::least::least_on;
 use crate::leaver::Leaver;
 use crate::leaving::{drop_leaver, list_party, next_left};
 use crate::listing::{
-    is_blocked, keep_ranges, list_all, list_blockers, list_blockers_in, list_due, list_file,
-    list_obstacles,
+    is_blocked, list_all, list_blockers, list_blockers_in, list_due, list_file, list_obstacles,
 };
 use crate::placing::{is_held, put, replace, take_back, take_out};
 use crate::relock::spans_in;
@@ -186,8 +185,8 @@ impl Table {
     ) -> Result<Option<Claim>, AllocError>
         ensures { IfOk result (λ c. c ≡ least names.now (filter (λ held. blocks ask.now held) self.now)) }
     {
-        let blockers = list_blockers(alloc, &self.lists, ask)?;
-        Ok(least_of(alloc, names, &blockers)?)
+        let least = least_on(alloc, names, &self.lists, ask, false)?;
+        Ok(least)
     }
 
     /// The least of the held ranges that block the ask, which a test is answered with.
@@ -199,9 +198,8 @@ impl Table {
     ) -> Result<Option<Claim>, AllocError>
         ensures { IfOk result (λ c. c ≡ least names.now (filter (λ held. is_range held.what) (filter (λ held. blocks ask.now held) self.now))) }
     {
-        let mut blockers = list_blockers(alloc, &self.lists, ask)?;
-        keep_ranges(&mut blockers);
-        Ok(least_of(alloc, names, &blockers)?)
+        let least = least_on(alloc, names, &self.lists, ask, true)?;
+        Ok(least)
     }
 
     /// The spans of an NLM or NFSv4 owner's ranges on a file: maximal runs of one mode, in the order of their bytes. They are
