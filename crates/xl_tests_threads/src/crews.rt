@@ -166,13 +166,7 @@ fn readings_are_entered_once_they_are_due(rt: HostRuntime) -> Result<(), Fail> {
     assert_eq!(rt; ticks_in(&machine), (1_000u64, 1usize));
     let later = [Moment(999), Moment(2_500), Moment(100), Moment(3_499)];
     let unsteady = clock(alloc, 0, Vec::from_slice(alloc, &later)?);
-    let (done, machine) = serve(
-        &rt,
-        alloc,
-        &OpenGate,
-        two_lanes(alloc, 1_000)?,
-        unsteady,
-    )?;
+    let (done, machine) = serve(&rt, alloc, &OpenGate, two_lanes(alloc, 1_000)?, unsteady)?;
     assert!(rt; are_both_served(&done));
     assert_eq!(rt; ticks_in(&machine), (2_500u64, 1usize));
     Ok(())

@@ -92,7 +92,13 @@ pub(crate) fn end_of(end: LaneEnd) -> u64 {
 }
 
 /// Whether this was sent to the link, which said its end and is shut, or not, and of which so many calls failed.
-pub(crate) fn is_link(link: Option<&Link>, sent: &[u8], ended: bool, failed: u64, shut: bool) -> bool {
+pub(crate) fn is_link(
+    link: Option<&Link>,
+    sent: &[u8],
+    ended: bool,
+    failed: u64,
+    shut: bool,
+) -> bool {
     match link {
         Some(link) => {
             link.sent.as_slice() == sent
