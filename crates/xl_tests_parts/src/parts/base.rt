@@ -121,8 +121,9 @@ fn are(bytes: &[u8], text: &str) -> bool {
     bytes == text.as_bytes()
 }
 
-/// What four reads give, what the buffer then has, and how many failed: the second does.
-const READS: [(usize, &str, u64); 4] = [(3, "abc", 0), (9, "abc", 1), (2, "dec", 1), (0, "dec", 1)];
+/// What four reads give, what the buffer then has, and how many failed: the second does, and the third gives the one byte that
+/// is left.
+const READS: [(usize, &str, u64); 4] = [(3, "abc", 0), (9, "abc", 1), (1, "dbc", 1), (0, "dbc", 1)];
 
 fn is_read(source: &mut MemorySource, buffer: &mut [u8; 3], row: &(usize, &str, u64)) -> bool {
     let (count, text, faults) = row;
@@ -154,7 +155,7 @@ fn are_written(sink: &mut MemorySink) -> bool {
 
 fn sources(alloc: Global) -> Result<bool, AllocError> {
     let failing = Vec::from_slice(alloc, &[2])?;
-    let mut source = MemorySource::new(Vec::from_slice(alloc, b"abcde")?, failing);
+    let mut source = MemorySource::new(Vec::from_slice(alloc, b"abcd")?, failing);
     Ok(are_read(&mut source))
 }
 

@@ -85,10 +85,14 @@ enum Step {
     Due(u64),
     ClientIs(u32, bool, u32),
     ClientNamed(&'static [u8], bool, u32),
+    /// No longer id string that begins with this one finds a confirmed client.
+    NoneGoesOn(&'static [u8]),
     ClientIsIdle(u32),
     ForgetsClient(u32),
     /// An owner of this kind and name comes, under this number; 0 if none may.
     OwnerComes(OwnerKind, &'static [u8], u64),
+    /// So many open owners come, whose names are their numbers.
+    OwnersCome(u32),
     OwnerNamed(OwnerKind, &'static [u8], u64),
     /// An owner's request of this operation is taken, with its seqid.
     Advances(u64, u32, u32),
@@ -172,6 +176,18 @@ fn comes(
     }
 }
 
+/// Whether none of 1,000 id strings that begin with this one, each longer than the one before, finds a confirmed client.
+fn none_goes_on(alloc: Global, state: &NfsState, id: &[u8]) -> Result<bool, AllocError> {
+    let mut longer = Vec::from_slice(alloc, id)?;
+    for _ in 0..1_000 {
+        longer.push(b'a')?;
+        if state.find_client_named(&longer, true).is_some() {
+            return Ok(false);
+        }
+    }
+    Ok(true)
+}
+
 fn has_number(found: Option<&ClientRow>, number: u32) -> bool {
     matches!(found, Some(row) if row.number == number && row.details.callback.program == number.wrapping_add(1))
 }
@@ -244,6 +260,15 @@ fn adds_owner(alloc: Global, state: &mut NfsState, kind: OwnerKind, bytes: &[u8]
     } else {
         0
     }
+}
+
+fn owners_come(alloc: Global, state: &mut NfsState, count: u32) -> bool {
+    for number in 0..count {
+        if adds_owner(alloc, state, OwnerKind::Open, &number.to_be_bytes()) == 0 {
+            return false;
+        }
+    }
+    true
 }
 
 fn advances(state: &mut NfsState, number: u64, op: u32, seqid: u32) -> bool {
@@ -433,6 +458,7 @@ fn client_step(alloc: Global, state: &mut NfsState, step: &Step) -> Option<bool>
         Step::ClientNamed(id, confirmed, found) => {
             is_client(state.find_client_named(id, *confirmed), *found)
         }
+        Step::NoneGoesOn(id) => matches!(none_goes_on(alloc, state, id), Ok(true)),
         Step::ClientIsIdle(number) => state.is_client_idle(*number),
         Step::ForgetsClient(number) => {
             state.forget_client(*number);
@@ -453,6 +479,7 @@ fn is_owner(found: Option<&OwnerRow>, number: u64) -> bool {
 fn owner_step(alloc: Global, state: &mut NfsState, step: &Step) -> Option<bool> {
     Some(match step {
         Step::OwnerComes(kind, name, number) => adds_owner(alloc, state, *kind, name) == *number,
+        Step::OwnersCome(count) => owners_come(alloc, state, *count),
         Step::OwnerNamed(kind, name, number) => {
             is_owner(state.find_owner_named(named(*kind, name)), *number)
         }
@@ -619,6 +646,17 @@ const ENDS: &[(Step, bool)] = &[
     (Step::ClientIsIdle(1), true),
 ];
 
+/// A client is found by its own id string alone. 8,192 owners come and no more, until one goes.
+const LIMITS: &[(Step, bool)] = &[
+    (Step::Comes(1, true, b"c", 10), true),
+    (Step::ClientNamed(b"c", true, 1), true),
+    (Step::NoneGoesOn(b"c"), true),
+    (Step::OwnersCome(8_192), true),
+    (Step::OwnerComes(OwnerKind::Open, b"owner", 0), true),
+    (Step::OwnerGoes(7), true),
+    (Step::OwnerComes(OwnerKind::Open, b"owner", 8_193), true),
+];
+
 /// The place of the first row that comes to something else.
 fn first_wrong(alloc: Global, state: &mut NfsState, rows: &[(Step, bool)]) -> Option<usize> {
     for (place, row) in rows.iter().enumerate() {
@@ -638,7 +676,7 @@ fn wrong_row(alloc: Global, rows: &[(Step, bool)]) -> Option<usize> {
 
 #[test]
 fn a_state_of_nfs(rt: HostRuntime) {
-    for rows in [CLIENTS, OWNERS, STATEIDS, ENDS] {
+    for rows in [CLIENTS, OWNERS, STATEIDS, ENDS, LIMITS] {
         let wrong = wrong_row(rt.alloc(), rows);
         assert!(rt; wrong.is_none(), "{wrong:?}");
     }

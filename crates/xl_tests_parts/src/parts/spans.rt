@@ -108,6 +108,11 @@ fn are_four(spans: &mut Spans) -> bool {
     make_four(spans) && are_found(spans)
 }
 
+/// Whether room for so many spans more is made, and kept.
+fn makes_room(spans: &mut Spans, more: usize) -> bool {
+    spans.spare() < more && spans.reserve(more).is_ok() && more <= spans.spare()
+}
+
 /// Whether these are the bytes from 7 on.
 fn is_whole(spans: Spans) -> bool {
     same_spans(&spans.into_vec(), &WHOLE)
@@ -115,7 +120,10 @@ fn is_whole(spans: Spans) -> bool {
 
 fn reaches_the_last_byte(alloc: Global) -> bool {
     let mut spans = Spans::from_vec(Vec::new(alloc));
-    spans.spare() == 0 && reach_the_last_byte(&mut spans) && is_whole(spans)
+    spans.spare() == 0
+        && reach_the_last_byte(&mut spans)
+        && makes_room(&mut spans, 100)
+        && is_whole(spans)
 }
 
 #[test]
@@ -155,16 +163,26 @@ fn mode_by_looks(spans: &Spans, byte: u64) -> Option<Mode> {
     counted_mode::<Brand>(spans, byte, Blank::new(1))
 }
 
-fn same_answers(spans: &Spans, held: &[Span], first: u64, last: u64) -> bool {
+fn same_conflicts(spans: &Spans, held: &[Span], first: u64, last: u64) -> bool {
+    same_conflict(spans, held, first, last, Mode::Shared)
+        && same_conflict(spans, held, first, last, Mode::Exclusive)
+}
+
+/// Whether both tell the same of a byte, and of the range that it begins.
+fn same_at(spans: &Spans, held: &[Span], byte: u64, last: u64) -> bool {
+    let mode = plain::mode_at(held, byte);
+    same_mode(spans.at(byte), mode)
+        && same_mode(mode_by_looks(spans, byte), mode)
+        && same_conflicts(spans, held, byte, last)
+}
+
+fn same_answers(spans: &Spans, held: &[Span], last: u64) -> bool {
     for k in 0..8 {
-        let mode = plain::mode_at(held, byte(k));
-        if !same_mode(spans.at(byte(k)), mode) || !same_mode(mode_by_looks(spans, byte(k)), mode) {
+        if !same_at(spans, held, byte(k), last) {
             return false;
         }
     }
     same_spans(spans.spans(), held)
-        && same_conflict(spans, held, first, last, Mode::Shared)
-        && same_conflict(spans, held, first, last, Mode::Exclusive)
 }
 
 /// What a drawn number asks for: a first byte, a last one no less, and a mode, or None for an unlock.
@@ -188,7 +206,7 @@ fn agree(alloc: Global, spans: &mut Spans, held: &mut Vec<Span>, number: u64) ->
         Ok(next) => *held = next,
         Err(_) => return false,
     }
-    same_answers(spans, held, first, last)
+    same_answers(spans, held, last)
 }
 
 /// 400 locks and unlocks of ranges among eight bytes, each by the fast body and by the plain program.

@@ -285,10 +285,16 @@ fn block_asks(alloc: Global, table: &Table) -> bool {
         && !table.is_blocked(&claim_in("lease read 40 41"))
 }
 
+/// Whether what goes with this one is on file 1 alone.
+fn is_on_one_file(table: &Table, leaver: Leaver) -> bool {
+    matches!(table.next_left(leaver, None), Some(1)) && table.next_left(leaver, Some(1)).is_none()
+}
+
 fn stand_in_order_and_block_asks(alloc: Global, table: &mut Table) -> bool {
     table.is_empty()
         && fills(alloc, table)
         && are_in_order(alloc, table)
+        && is_on_one_file(table, Leaver::Open(4, None))
         && block_asks(alloc, table)
         && are_sections(alloc, table)
         && are_spans(alloc, table)
@@ -322,12 +328,15 @@ fn breaks_end(alloc: Global, table: &mut Table) -> bool {
 
 /// The lease's party goes, and the others' claims stay.
 fn party_goes(alloc: Global, table: &mut Table) -> bool {
-    table.remove_leaver(Leaver::Party(Party::Name(Protocol::Smb, 5)));
-    are_held(
-        alloc,
-        table,
-        "client share r -\nclient read 10 24\nmoved lock 0 0",
-    ) && is_due(alloc, table, 7, "")
+    let lease = Leaver::Party(Party::Name(Protocol::Smb, 5));
+    table.remove_leaver(lease);
+    table.next_left(lease, None).is_none()
+        && are_held(
+            alloc,
+            table,
+            "client share r -\nclient read 10 24\nmoved lock 0 0",
+        )
+        && is_due(alloc, table, 7, "")
 }
 
 #[test]

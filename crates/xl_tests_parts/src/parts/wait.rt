@@ -62,8 +62,8 @@ fn is_waiter(waiter: Option<&Waiter>, id: u32) -> bool {
     matches!(waiter, Some(waiter) if waiter.id == id && is_room(waiter.rows))
 }
 
-fn came_by(alloc: Global, queue: &Queue, conn: u64) -> bool {
-    matches!(queue.of_conn(alloc, conn), Ok(numbers) if matches!(numbers.as_slice(), [7, 9]))
+fn came_by(alloc: Global, queue: &Queue, conn: u64, numbers: &[u32]) -> bool {
+    matches!(queue.of_conn(alloc, conn), Ok(found) if found.as_slice() == numbers)
 }
 
 fn cancels(queue: &mut Queue, id: u32) -> bool {
@@ -89,7 +89,8 @@ fn come_and_go(alloc: Global, queue: &mut Queue) -> bool {
         && cancels(queue, 8)
         && !cancels(queue, 8)
         && are_two(queue, 7, 9)
-        && came_by(alloc, queue, 0)
+        && came_by(alloc, queue, 0, &[7, 9])
+        && came_by(alloc, queue, 1, &[])
 }
 
 fn waits_on(waiter: &Waiter, file: u32) -> bool {

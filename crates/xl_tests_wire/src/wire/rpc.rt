@@ -202,11 +202,24 @@ fn is_no_bool(bytes: &[u8]) -> bool {
     }
 }
 
+/// Writes a number, and says then that memory ran out.
+fn put_half(out: &mut XdrOut) -> Result<(), AllocError> {
+    out.u32(9)?;
+    Err(AllocError)
+}
+
+/// Whether of a message that is cut by want of memory nothing is left, and what stands before it is.
+fn is_taken_back(out: &mut XdrOut) -> Result<bool, AllocError> {
+    out.u32(7)?;
+    Ok(put_whole!(out; put_half(out)).is_err() && matches!(out.as_slice(), [0, 0, 0, 7]))
+}
+
 /// Whether the items are written and read as the bytes.
 fn are_items(alloc: Global) -> Result<bool, AllocError> {
     Ok(
         are_put(alloc, &mut XdrOut::new(alloc))?
             && has_items(&mut Xdr::new(&bytes_of(alloc, ITEMS)?))
+            && is_taken_back(&mut XdrOut::new(alloc))?
             && is_no_bool(&[0, 0, 0, 2]),
     )
 }
