@@ -233,7 +233,7 @@ fn callers_share_the_calls(rt: HostRuntime) -> Result<(), Fail> {
     };
     let made = (calls_of(&first.caller), calls_of(&second.caller));
     assert_eq!(rt; made, (calls_in(&machine, 0), calls_in(&machine, 1)));
-    assert_eq!(rt; made.0 + made.1, 4usize);
+    assert_eq!(rt; made.0.saturating_add(made.1), 4usize);
     Ok(())
 }
 
