@@ -1,5 +1,5 @@
-//! Captures that are built in loops, with what their replays answer; how a house starts; what is read of a capture, and
-//! what a transcript says.
+//! Captures that are built in loops, with what their replays answer; how a house starts, and a lane and a caller over one;
+//! what is read of a capture, and what a transcript says.
 //!
 //! The cases of a text are parted by lines of two hyphens. Each is a capture, a line `=>`, and what a replay answers: its
 //! status, the number of the line and how many entries its journal has, and behind them the transcript. A line
@@ -9,6 +9,7 @@
 
 mod captures;
 mod house;
+mod lanes;
 mod limits;
 mod sharing;
 mod transcripts;

@@ -7,8 +7,8 @@ use xl_capture::{Capture, CaptureError, read_capture, transcript};
 use xl_house::{Ended, House};
 use xl_names::Names;
 
-/// One file, and default times.
-fn exports(alloc: Global) -> Result<Exports, CaptureError> {
+/// What the header lines of a capture say.
+pub(super) fn exports(alloc: Global, header: &[u8]) -> Result<Exports, CaptureError> {
     let Capture {
         files,
         addresses,
@@ -16,7 +16,7 @@ fn exports(alloc: Global) -> Result<Exports, CaptureError> {
         grace,
         break_time,
         events: _,
-    } = read_capture(alloc, b"F a.txt\n")?;
+    } = read_capture(alloc, header)?;
     Ok(Exports {
         files,
         addresses: addresses.into_sequence(),
@@ -32,7 +32,7 @@ fn start(
     failing: u64,
 ) -> Result<Result<House<MemoryKeeper>, Ended<MemoryKeeper>>, Fail> {
     let failing = Vec::from_slice(alloc, &[failing])?;
-    let exports = exports(alloc)?;
+    let exports = exports(alloc, b"F a.txt\n")?;
     let mut stable = Record::new(alloc);
     stable.set_epoch(7);
     let keeper = MemoryKeeper::new(alloc, stable, failing);

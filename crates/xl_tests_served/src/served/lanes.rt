@@ -2,13 +2,14 @@
 //! `tools/capture_from_words.py` has them.
 ghost use Rattle.std.specs.Prelude.{◌≡◌};
 
-use std::alloc::{AllocError, Global};
+use super::house::exports;
+use std::alloc::Global;
 use std::collections::VecDeque;
 use std::sync::Wait;
 use std::test::Fail;
 use xl_base::{
-    Asked, CallOutcome, Entry, Event, Exports, Kind, LaneEnd, MemoryCaller, MemoryKeeper,
-    MemoryLane, Moment, OpenGate, Part, Peer, Record, Sequence,
+    Asked, CallOutcome, Entry, Event, Kind, LaneEnd, MemoryCaller, MemoryKeeper, MemoryLane,
+    Moment, OpenGate, Part, Peer, Record, Sequence,
 };
 use xl_desk::{Desk, NoRoom, Pass};
 use xl_house::House;
@@ -46,21 +47,7 @@ const UNAVAILABLE: &str = "00000002000000010000000000000000000000000000000000000
 const NOTHING: &str = "-";
 
 /// What the house exports: `a.txt`, and the address at which the caller `b` is called back.
-fn exports(alloc: Global) -> Result<Exports, AllocError> {
-    let mut files = Sequence::new(alloc);
-    files.push(Sequence::from_slice(alloc, b"a.txt")?)?;
-    let name = Sequence::from_slice(alloc, b"b")?;
-    let address = Sequence::from_slice(alloc, b"127.0.0.1.3.4")?;
-    let mut addresses = Sequence::new(alloc);
-    addresses.push((name, address))?;
-    Ok(Exports {
-        files,
-        addresses,
-        lease: 90_000,
-        grace: 90_000,
-        break_time: 35_000,
-    })
-}
+const EXPORTS: &[u8] = b"F a.txt\nH 62 127.0.0.1.3.4\n";
 
 fn parts(alloc: Global) -> Result<VecDeque<Part>, Fail> {
     let mut parts = VecDeque::new(alloc);
@@ -207,7 +194,7 @@ fn serve_over_a_desk<R: Wait>(
 fn leaves<R: Wait>(rt: &R, alloc: Global, answer: &str, claims: usize) -> Result<bool, Fail> {
     let lane = lane(alloc)?;
     let caller = caller(alloc, answer)?;
-    let exports = exports(alloc)?;
+    let exports = exports(alloc, EXPORTS)?;
     let keeper = MemoryKeeper::new(alloc, Record::new(alloc), Vec::new(alloc));
     let Ok(house) = House::start(alloc, exports, keeper, Moment(0)) else {
         return Ok(false);
