@@ -46,10 +46,10 @@ use Rattle.xl_core.specs.State.{CoreState, drawn}
 use Rattle.xl_core.specs.declared.ask.Answer.{Answer}
 use Rattle.xl_core.specs.declared.ask.Effect.{Effect}
 use Rattle.xl_nfs_opens.proofs.CheckLaws.{finds, returns_is}
-use Rattle.xl_nfs_opens.specs.Checks.{or_else}
+use Rattle.xl_nfs_opens.specs.Checks.{found, unless, refused_by}
 use Rattle.xl_nfs_opens.specs.Closing.{delegates, state_found, state_returned, Returning, cache_of_client, return_done, returned, returned_status}
 use Rattle.xl_nfs_laws.specs.StateidNumbers.{AreGivenOut}
-use Rattle.xl_nfs_opens.specs.Opens.{all_rooms, answered, by_delegation, check_bits, check_claim, check_how, file_of_claim, is_delegation, is_stateid_of, named_file, cache_by, cache_held, delegation_in, can_enter, can_stand, client_in, delegated, delegated_in, delegation_row, delegation_told, either_bits, entered, freed, gives, gives_all, granted_by, granted_more, granted_new, granted_wish, has_room, is_granted, judged, open_as, open_by, open_held, open_judged, open_row, open_seqids, opened_file, opened_told, opener_of, reclaims, repeated, share_ask, stood, wish_of, unless_held, kind_for, type_claimed, wished_kinds, has_program, rights_of, has_none}
+use Rattle.xl_nfs_opens.specs.Opens.{all_rooms, answered, asked_fault, file_claimed, is_astray, is_delegation, is_stateid_of, named_file, cache_by, cache_held, delegation_in, can_enter, can_stand, client_in, delegated, delegated_in, delegation_row, delegation_told, either_bits, entered, freed, gives, gives_all, granted_by, granted_more, granted_new, granted_wish, has_room, is_granted, judged, open_as, open_by, open_held, open_judged, open_row, open_seqids, opened_file, opened_told, opener_of, reclaims, repeated, share_ask, stood, wish_of, unless_held, kind_for, type_claimed, wished_kinds, has_program, rights_of, has_none}
 use Rattle.xl_nfs_laws.specs.Orderly.{IsDelegated, IsReturned}
 use Rattle.xl_nfs_opens.specs.Plans.{Outcome, carried, status_of, told_behind}
 use Rattle.xl_nfs_opens.specs.Renewing.{number_of, same_stateid, stateid_of}
@@ -411,15 +411,17 @@ claim_back s stateid o r found is = ap (λ (x : Option StateidRow). is_stateid_o
 pub claim_exactly : (s : CoreState) (l : NfsLists) (client file : ℕ) (stateid : Stateid) → (is_delegation s l client file stateid ≡ true) ↔ ((r : StateidRow) × (find (delegated_on client file) l.stateids ≡ Some r) × (stateid ≡ stateid_of s r.number r.standing.seqid))
 claim_exactly s l client file stateid = (claim_forth s stateid (find (delegated_on client file) l.stateids), λ x. claim_back s stateid (find (delegated_on client file) l.stateids) x.0 x.1 x.2)
 
-pub claim_opens : (files : List (List ℕ)) (s : CoreState) (l : NfsLists) (client at file : ℕ) (a : OpenArgsItem) (d : NamedDelegationItem) → check_claim at a.claim ≡ None → check_bits a ≡ None → check_how a.how ≡ None → a.claim ≡ DelegateCurrent d → named_file files d.name ≡ Some file
+pub claim_opens : (files : List (List ℕ)) (s : CoreState) (l : NfsLists) (client at file : ℕ) (a : OpenArgsItem) (d : NamedDelegationItem) → asked_fault at a ≡ None → a.claim ≡ DelegateCurrent d → named_file files d.name ≡ Some file
     → opened_file files s l client at a ≡ (if is_delegation s l client file d.stateid then Ok file else Err statuses.BadStateid)
 unfolding opened_file
-claim_opens files s l client at file a d claim bits how is named =
-    ap (λ (x : Option NfsStatus). or_else x (or_else (check_bits a) (or_else (check_how a.how) (file_of_claim files s l client at a.claim)))) claim
-    ∙ ap (λ (x : Option NfsStatus). or_else x (or_else (check_how a.how) (file_of_claim files s l client at a.claim))) bits
-    ∙ ap (λ (x : Option NfsStatus). or_else x (file_of_claim files s l client at a.claim)) how
-    ∙ ap (λ (c : OpenClaimItem). file_of_claim files s l client at c) is
-    ∙ ap (λ (x : Option ℕ). by_delegation s l client d.stateid x) named
+claim_opens files s l client at file a d pass is named =
+    ap (λ (x : Option NfsStatus). unless x Err (found (file_claimed files at a.claim) (Err statuses.NoEnt) (λ f. refused_by Err ((is_astray s l client f a.claim, statuses.BadStateid) ∷ []) (Ok f)))) pass
+    ∙ ap (λ (c : OpenClaimItem). found (file_claimed files at c) (Err statuses.NoEnt) (λ f. refused_by Err ((is_astray s l client f c, statuses.BadStateid) ∷ []) (Ok f))) is
+    ∙ ap (λ (x : Option ℕ). found x (Err statuses.NoEnt) (λ f. refused_by Err ((not (is_delegation s l client f d.stateid), statuses.BadStateid) ∷ []) (Ok f))) named
+    ∙ elim (cases_Bool (is_delegation s l client file d.stateid)) [
+      | inl e ↦ rw e refl
+      | inr e ↦ rw e refl
+    ]
 
 -- ---- what an OPEN wishes for
 

@@ -17,7 +17,7 @@ ghost use Rattle.xl_nfs_opens.specs.Closing.{close, deleg_return, open_confirm, 
 ghost use Rattle.xl_nfs_laws.specs.Delegated.{AreTied};
 ghost use Rattle.xl_nfs_opens.specs.Downgrades.{open_downgrade};
 ghost use Rattle.xl_nfs_laws.specs.StateidNumbers.{AreGivenOut};
-ghost use Rattle.xl_nfs_opens.specs.Opens.{cache_held, check_bits, check_claim, check_how, client_in, has_none, has_program, is_delegation, judged, named_file, open_file, open_judged, opened_file, opener_of, rights_of, share_ask, type_claimed, wish_of, wished_kinds};
+ghost use Rattle.xl_nfs_opens.specs.Opens.{asked_fault, cache_held, client_in, has_none, has_program, is_delegation, judged, named_file, open_file, open_judged, opened_file, opener_of, rights_of, share_ask, type_claimed, wish_of, wished_kinds};
 ghost use Rattle.xl_nfs_laws.specs.Orderly.{IsDelegated, IsOrderly, IsReturned};
 ghost use Rattle.xl_nfs_opens.specs.Plans.{carried, status_of};
 ghost use Rattle.xl_nfs_opens.specs.Renewing.{stateid_of};
@@ -46,7 +46,7 @@ pub fn returned_delegations_are_gone()
 /// the stateid is of another start (RFC 7530 10.4.5, 16.16).
 pub fn claims_name_their_delegation()
     ensures exactly { (s : CoreState) (l : NfsLists) (client file : ℕ) (stateid : Stateid) → (is_delegation s l client file stateid ≡ true) ↔ ((r : StateidRow) × (find (delegated_on client file) l.stateids ≡ Some r) × (stateid ≡ stateid_of s r.number r.standing.seqid)) }
-    ensures opens { (files : List (List ℕ)) (s : CoreState) (l : NfsLists) (client at file : ℕ) (a : OpenArgsItem) (d : NamedDelegationItem) → check_claim at a.claim ≡ None → check_bits a ≡ None → check_how a.how ≡ None → a.claim ≡ DelegateCurrent d → named_file files d.name ≡ Some file → opened_file files s l client at a ≡ (if is_delegation s l client file d.stateid then Ok file else Err BadStateid) }
+    ensures opens { (files : List (List ℕ)) (s : CoreState) (l : NfsLists) (client at file : ℕ) (a : OpenArgsItem) (d : NamedDelegationItem) → asked_fault at a ≡ None → a.claim ≡ DelegateCurrent d → named_file files d.name ≡ Some file → opened_file files s l client at a ≡ (if is_delegation s l client file d.stateid then Ok file else Err BadStateid) }
 {}
 
 /// Of which delegation an OPEN's claim is, and none if the client has a cache or a delegation on the file. A claim of a

@@ -1,7 +1,10 @@
 -- What a plan comes to, put together.
-use Rattle.std.proofs.Common.{◌≡◌, ℕ, Bool, true, false, List, [], Some, Option, Result, sym, ap, ◌∙◌, append-nil}
+use Rattle.std.proofs.Common.{◌≡◌, ℕ, Bool, true, false, List, [], ◌∷◌, Some, Option, Result, sym, ap, ◌∙◌, append-nil}
+use Rattle.std.specs.Prelude.{not}
 use Rattle.xl_nfs.specs.Opens.{OpenArgsItem}
 use Rattle.xl_nfs.specs.declared.status.NfsStatus.{NfsStatus}
+use Rattle.xl_nfs.specs.declared.status.NfsStatus.TheVariants as statuses
+use Rattle.xl_nfs_opens.specs.Checks.{refused_by}
 use Rattle.xl_nfs_opens.specs.Opens.{all_rooms, share_ask, has_room, is_granted, answer_status, reclaims, refused, answered, wish_of, open_wish, open_on, opened_file, open_by, open_as, gives_all, open_judged, opener_of, judged, client_in, open_of, open_at}
 use Rattle.std.specs.List.{filter}
 use Rattle.xl_nfs_state.specs.State.{is_whose, without_owner}
@@ -37,7 +40,7 @@ pub room_done : (n others : ℕ) (s t u : CoreState) (l lists : NfsLists) (curre
     → has_room others l o file ≡ true → wish ≡ wish_of s l o a confirmed file → request ≡ share_ask wish o a file → ask n all_rooms s request ≡ (answer, effects, t) → carried n t l (answered l current o a file confirmed wish answer t) ≡ (told, handle, [], lists, u)
     → carried n s l (open_on others s l current o a confirmed file) ≡ (told, handle, effects, lists, u)
 room_done n others s t u l lists current handle o a confirmed file wish request answer told effects room wishes is asked e =
-    ap (λ (w : Option Bool). carried n s l (open_wish others l current o a confirmed file w)) (sym wishes)
+    ap (λ (w : Option Bool). carried n s l (refused_by (refused l current o a confirmed) ((not (has_room others l o file), statuses.Resource) ∷ []) (open_wish l current o a confirmed file w))) (sym wishes)
     ∙ rw room
     (asking_done n s t u l lists handle all_rooms (share_ask wish o a file) (answered l current o a file confirmed wish) answer told effects (ap (λ (q : Ask). ask n all_rooms s q) (sym is) ∙ asked) e)
 

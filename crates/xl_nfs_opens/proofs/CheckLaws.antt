@@ -15,7 +15,7 @@ use Rattle.xl_nfs_state.specs.declared.owner.OwnerRow.{OwnerRow}
 use Rattle.xl_nfs_state.specs.declared.owner.SeqidState.{SeqidState}
 use Rattle.xl_nfs_state.specs.declared.stateid.StateidRow.{StateidRow}
 use Rattle.xl_core.specs.State.{CoreState}
-use Rattle.xl_nfs_opens.specs.Checks.{failing, found, or_else}
+use Rattle.xl_nfs_opens.specs.Checks.{found, refused_by}
 use Rattle.xl_nfs_opens.specs.Closing.{owner_as, seqid_checked, state_checked, state_found, checked_as, delegates, state_returned, IsChecked}
 use Rattle.xl_nfs_opens.specs.Renewing.{number_of}
 use Rattle.xl_nfs_opens.specs.declared.opener.Checked.{Checked}
@@ -117,7 +117,7 @@ returns_is x r seqid e = by x.standing.closed (delegates x.holder) (nat_lt seqid
     even : (a b : ℕ) → nat_lt a b ≡ false → nat_lt b a ≡ false → a ≡ b
     even a b f g = grind (arith, nat_tests, f, g)
 
-    by : (shut is less more : Bool) → x.standing.closed ≡ shut → delegates x.holder ≡ is → nat_lt seqid x.standing.seqid ≡ less → nat_lt x.standing.seqid seqid ≡ more → or_else (failing ((shut || not is, statuses.BadStateid) ∷ (less, statuses.OldStateid) ∷ (more, statuses.BadStateid) ∷ [])) (Ok x) ≡ Ok r
+    by : (shut is less more : Bool) → x.standing.closed ≡ shut → delegates x.holder ≡ is → nat_lt seqid x.standing.seqid ≡ less → nat_lt x.standing.seqid seqid ≡ more → refused_by Err ((shut || not is, statuses.BadStateid) ∷ (less, statuses.OldStateid) ∷ (more, statuses.BadStateid) ∷ []) (Ok x) ≡ Ok r
         → (x ≡ r) × (x.standing.closed ≡ false) × (delegates x.holder ≡ true) × (seqid ≡ x.standing.seqid)
     by true is less more a b c d f = absurd cc
     by false false less more a b c d f = absurd cc

@@ -3,8 +3,8 @@ use Rattle.std.proofs.Common.{◌≡◌, ℕ, ◌<◌, ◌^◌, Bool, true, fals
 use Rattle.std.proofs.lemmas.Bool.{cases_Bool, true≢false}
 use Rattle.std.specs.Bool.{◌==◌}
 use Rattle.std.specs.List.{AllByRecursion, find}
-use Rattle.std.specs.Prelude.{◌&&◌, ◌||◌, nat_le, Result, Ok, Err}
-use Rattle.xl_nfs.specs.Opens.{OpenArgsItem, OpenHowItem, NoCreate, Create, Unchecked, Guarded, Exclusive, OpenClaimItem, Null, Previous, DelegateCurrent, DelegatePrevious}
+use Rattle.std.specs.Prelude.{◌&&◌, ◌||◌, Result, Ok, Err}
+use Rattle.xl_nfs.specs.Opens.{OpenArgsItem}
 use Rattle.xl_nfs.specs.Outcomes.{is_ok, is_denied}
 use Rattle.xl_nfs.specs.Results.{ResultItem, OpenAnswer, nfs_result}
 use Rattle.xl_nfs.specs.declared.basics.Stateid.{Stateid}
@@ -29,10 +29,10 @@ use Rattle.xl_nfs_state.specs.declared.owner.OwnerKind.{OwnerKind}
 use Rattle.xl_nfs_state.specs.declared.owner.OwnerKind.TheVariants as kinds
 use Rattle.xl_nfs_state.specs.declared.owner.SeqidState.{SeqidState}
 use Rattle.xl_nfs_state.specs.declared.stateid.StateidRow.{StateidRow}
-use Rattle.xl_nfs_opens.specs.Checks.{failing, or_else}
+use Rattle.xl_nfs_opens.specs.Checks.{found, unless, refused_by, failing}
 use Rattle.xl_nfs_opens.specs.Closing.{checked, checked_as, counts, standing_checks, standing_fault, confirm_done, open_confirm, can_weaken, close_done, close, Returning, returned, returned_checks, state_returned, return_done, deleg_return}
 use Rattle.xl_nfs_opens.specs.Downgrades.{range_fault, first_fault, downgrade_fault, downgrade_done, open_downgrade}
-use Rattle.xl_nfs_opens.specs.Opens.{check_claim, check_bits, check_how, found_name, named_file, is_delegation, by_delegation, file_of_claim, opened_file, judged, handle_by, handle_again, repeated, reclaims, open_held, has_room, granted_by, is_granted, answer_status, granted_wish, wish_of, answered, open_on, open_by, open_as, open_judged, opener_of, open_of, client_in, open_at, open_claimed, open_file}
+use Rattle.xl_nfs_opens.specs.Opens.{asked_checks, asked_fault, file_claimed, is_astray, opened_file, judged, handle_by, handle_again, repeated, reclaims, open_held, has_room, granted_by, is_granted, answer_status, granted_wish, wish_of, answered, open_on, open_by, open_as, open_judged, opener_of, open_of, client_in, open_at, open_claimed, open_file}
 use Rattle.xl_nfs_opens.specs.Seqids.{read_status, kept_status, is_short}
 use Rattle.xl_nfs_opens.specs.declared.opener.Checked.{Checked}
 use Rattle.xl_nfs_opens.specs.declared.opener.Checked.TheVariants.{Refused, Repeated, Passed}
@@ -86,63 +86,27 @@ failing_fault [] all = tt
 failing_fault ((true, status) ∷ checks) all = all.0
 failing_fault ((false, status) ∷ checks) all = failing_fault checks all.1
 
-or_fault : {A : Type 0} (o : Option NfsStatus) (rest : Result A NfsStatus) → IfFault o → OrFault rest → OrFault (or_else o rest)
-or_fault None rest first second = second
-or_fault (Some status) rest first second = first
+-- so does what is refused by it
+refused_fault : {A : Type 0} (checks : List (Bool × NfsStatus)) (rest : Result A NfsStatus) → AllByRecursion (λ c. IsFault c.1) checks → OrFault rest → OrFault (refused_by Err checks rest)
+refused_fault [] rest all goes = goes
+refused_fault ((true, status) ∷ checks) rest all goes = all.0
+refused_fault ((false, status) ∷ checks) rest all goes = refused_fault checks rest all.1 goes
 
-in_root : (at : ℕ) → IfFault (if at == 0 then None else Some statuses.NotDir)
-in_root at =
-    elim (cases_Bool (at == 0)) [
-      | inl e ↦ rw e tt
-      | inr e ↦ rw e (fault statuses.NotDir refl refl)
-    ]
+unless_fault : {A : Type 0} (o : Option NfsStatus) (rest : Result A NfsStatus) → IfFault o → OrFault rest → OrFault (unless o Err rest)
+unless_fault None rest f goes = goes
+unless_fault (Some status) rest f goes = f
 
-claim_fault : (at : ℕ) (claim : OpenClaimItem) → IfFault (check_claim at claim)
-claim_fault at (Null name) = in_root at
-claim_fault at (Previous type) =
-    elim (cases_Bool (at == 0)) [
-      | inl e ↦ rw e (fault statuses.IsDir refl refl)
-      | inr e ↦ rw e tt
-    ]
-claim_fault at (DelegateCurrent a) = in_root at
-claim_fault at (DelegatePrevious name) = fault statuses.NotSupp refl refl
-
-bits_fault : (a : OpenArgsItem) → IfFault (check_bits a)
-bits_fault a =
-    elim (cases_Bool (nat_le 1 a.access && (nat_le a.access 3 && nat_le a.deny 3))) [
-      | inl e ↦ rw e tt
-      | inr e ↦ rw e (fault statuses.Inval refl refl)
-    ]
-
-how_fault : (how : OpenHowItem) → IfFault (check_how how)
-how_fault NoCreate = tt
-how_fault (Create (Unchecked a)) = tt
-how_fault (Create (Guarded a)) = fault statuses.NotSupp refl refl
-how_fault (Create (Exclusive v)) = fault statuses.NotSupp refl refl
-
-name_fault : (o : Option ℕ) → OrFault (found_name o)
-name_fault None = fault statuses.NoEnt refl refl
-name_fault (Some file) = tt
-
-delegation_fault : (s : CoreState) (l : NfsLists) (client : ℕ) (stateid : Stateid) (o : Option ℕ) → OrFault (by_delegation s l client stateid o)
-delegation_fault s l client stateid None = fault statuses.NoEnt refl refl
-delegation_fault s l client stateid (Some file) =
-    elim (cases_Bool (is_delegation s l client file stateid)) [
-      | inl e ↦ rw e tt
-      | inr e ↦ rw e (fault statuses.BadStateid refl refl)
-    ]
-
-file_fault : (files : List (List ℕ)) (s : CoreState) (l : NfsLists) (client at : ℕ) (claim : OpenClaimItem) → OrFault (file_of_claim files s l client at claim)
-file_fault files s l client at (Null name) = name_fault (named_file files name)
-file_fault files s l client at (Previous type) = tt
-file_fault files s l client at (DelegateCurrent a) = delegation_fault s l client a.stateid (named_file files a.name)
-file_fault files s l client at (DelegatePrevious name) = fault statuses.NotSupp refl refl
+asked_is_fault : (at : ℕ) (a : OpenArgsItem) → IfFault (asked_fault at a)
+unfolding asked_fault
+asked_is_fault at a = failing_fault (asked_checks at a) (fault statuses.NotDir refl refl, (fault statuses.IsDir refl refl, (fault statuses.NotSupp refl refl, (fault statuses.Inval refl refl, (fault statuses.NotSupp refl refl, tt)))))
 
 opened_fault : (files : List (List ℕ)) (s : CoreState) (l : NfsLists) (client at : ℕ) (a : OpenArgsItem) → OrFault (opened_file files s l client at a)
 unfolding opened_file
-opened_fault files s l client at a =
-    or_fault (check_claim at a.claim) (or_else (check_bits a) (or_else (check_how a.how) (file_of_claim files s l client at a.claim))) (claim_fault at a.claim)
-    (or_fault (check_bits a) (or_else (check_how a.how) (file_of_claim files s l client at a.claim)) (bits_fault a) (or_fault (check_how a.how) (file_of_claim files s l client at a.claim) (how_fault a.how) (file_fault files s l client at a.claim)))
+opened_fault files s l client at a = unless_fault (asked_fault at a) _ (asked_is_fault at a) (by (file_claimed files at a.claim))
+  where
+    by : (file : Option ℕ) → OrFault {A = ℕ} (found file (Err statuses.NoEnt) (λ file. refused_by Err ((is_astray s l client file a.claim, statuses.BadStateid) ∷ []) (Ok file)))
+    by None = fault statuses.NoEnt refl refl
+    by (Some file) = refused_fault ((is_astray s l client file a.claim, statuses.BadStateid) ∷ []) (Ok file) (fault statuses.BadStateid refl refl, tt) tt
 
 -- ---- OPEN
 
@@ -284,7 +248,7 @@ returned_fault : (s : CoreState) (l : NfsLists) (current : Option ℕ) (stateid 
 unfolding returned
 returned_fault s l current stateid =
     finds (λ (x : Returning). OrFault (state_returned stateid.seqid x)) s l current stateid (λ _. fault statuses.NoFileHandle refl refl) (λ _ _. fault statuses.StaleStateid refl refl) (fault statuses.BadStateid refl refl)
-    (λ r file number there. or_fault (failing (returned_checks r stateid.seqid)) (Ok r) (failing_fault (returned_checks r stateid.seqid) (fault statuses.BadStateid refl refl, (fault statuses.OldStateid refl refl, (fault statuses.BadStateid refl refl, tt)))) tt)
+    (λ r file number there. refused_fault (returned_checks r stateid.seqid) (Ok r) (fault statuses.BadStateid refl refl, (fault statuses.OldStateid refl refl, (fault statuses.BadStateid refl refl, tt))) tt)
 
 return_done_ends : (s : CoreState) (l : NfsLists) (current : Option ℕ) (x : Returning) → OrFault x → Ends 8 current (return_done s l current x)
 return_done_ends s l current (Err status) f = ended 8 (omega arith) current status f

@@ -1,5 +1,5 @@
--- Checks in a row, from left to right.
-use Rattle.std.specs.Prelude.{Bool, if◌then◌else◌, List, [], ◌∷◌, Option, Some, None, Result, Err}
+-- Checks in a row, from left to right: each is a case in which a request is refused, and its status then.
+use Rattle.std.specs.Prelude.{Bool, if◌then◌else◌, List, [], ◌∷◌, Option, Some, None, Result, Ok, Err}
 use Rattle.xl_nfs.specs.declared.status.NfsStatus.{NfsStatus}
 
 -- what is found goes on; if nothing is, it ends so
@@ -7,12 +7,21 @@ abbrev pub found : {A R : Type 0} → Option A → R → (A → R) → R
 found None ends rest = ends
 found (Some x) ends rest = rest x
 
--- the status of the first check that fails
-abbrev pub failing : List (Bool × NfsStatus) → Option NfsStatus
-failing [] = None
-failing ((fails, status) ∷ checks) = if fails then Some status else failing checks
+-- what passes goes on; if it doesn't, it ends by its status
+abbrev pub passed : {A R : Type 0} → Result A NfsStatus → (NfsStatus → R) → (A → R) → R
+passed (Err status) ends rest = ends status
+passed (Ok x) ends rest = rest x
 
--- a check that fails, before the others
-abbrev pub or_else : {A : Type 0} → Option NfsStatus → Result A NfsStatus → Result A NfsStatus
-or_else None rest = rest
-or_else (Some status) rest = Err status
+-- it ends by the status of a fault, or goes on if there is none
+abbrev pub unless : {R : Type 0} → Option NfsStatus → (NfsStatus → R) → R → R
+unless None ends rest = rest
+unless (Some status) ends rest = ends status
+
+-- it ends by the status of the first of these that is the case, else so
+abbrev pub refused_by : {R : Type 0} → (NfsStatus → R) → List (Bool × NfsStatus) → R → R
+refused_by ends [] rest = rest
+refused_by ends (check ∷ checks) rest = if check.0 then ends check.1 else refused_by ends checks rest
+
+-- that status
+abbrev pub failing : List (Bool × NfsStatus) → Option NfsStatus
+failing checks = refused_by Some checks None

@@ -25,8 +25,8 @@ use Rattle.xl_nfs_state.specs.declared.stateid.Whose.TheVariants as whose
 use Rattle.xl_core.specs.Deeds.{Deed, Asks}
 use Rattle.xl_core.specs.State.{CoreState}
 use Rattle.xl_nfs_opens.specs.Asks.{all_ones, unlock_ask}
-use Rattle.xl_nfs_opens.specs.Checks.{found, failing, or_else}
-use Rattle.xl_nfs_opens.specs.Opens.{all_rooms, cache_held, rights_of, repeated, share_held, gives, freed, stood}
+use Rattle.xl_nfs_opens.specs.Checks.{found, refused_by, failing}
+use Rattle.xl_nfs_opens.specs.Opens.{share_read, share_both, all_rooms, cache_held, rights_of, repeated, share_held, gives, freed, stood}
 use Rattle.xl_plan.specs.Plans.{Does, Behind}
 use Rattle.xl_nfs_opens.specs.Operations.{op_close, op_open_confirm}
 use Rattle.xl_nfs_opens.specs.Plans.{Plan, status_of}
@@ -131,7 +131,7 @@ open_confirm s l current a = renewing l (state_client s l a.stateid) (λ t. conf
 -- an access is left, and both lie within what the open has
 unfoldable pub can_weaken : StateidRow → ℕ → ℕ → Bool
 can_weaken r access deny =
-    nat_le 1 access && (nat_le access 3 && (nat_le deny 3 && (rights_lie_within (rights_of access) (rights_of r.standing.access) && rights_lie_within (rights_of deny) (rights_of r.standing.deny))))
+    nat_le share_read access && (nat_le access share_both && (nat_le deny share_both && (rights_lie_within (rights_of access) (rights_of r.standing.access) && rights_lie_within (rights_of deny) (rights_of r.standing.deny))))
 
 -- ---- the owner's share in the core
 
@@ -210,7 +210,7 @@ returned_checks r seqid =
 
 abbrev pub state_returned : ℕ → Returning → Returning
 state_returned seqid (Err status) = Err status
-state_returned seqid (Ok r) = or_else (failing (returned_checks r seqid)) (Ok r)
+state_returned seqid (Ok r) = refused_by Err (returned_checks r seqid) (Ok r)
 
 unfoldable pub returned : CoreState → NfsLists → Option ℕ → Stateid → Returning
 returned s l current stateid = state_returned stateid.seqid (state_found s l current stateid)

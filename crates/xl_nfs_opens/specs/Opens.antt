@@ -13,7 +13,7 @@ use Rattle.xl_matrix.specs.declared.claim.Claim.{Claim}
 use Rattle.xl_matrix.specs.declared.claim.Rwd.{Rwd}
 use Rattle.xl_names.specs.Names.{number_of}
 use Rattle.xl_names.specs.declared.name.Name.TheVariants.{NfsShare, NfsParty}
-use Rattle.xl_nfs.specs.Opens.{OpenArgsItem, OpenHowItem, NoCreate, Create, Unchecked, Guarded, Exclusive, OpenClaimItem, Null, Previous, DelegateCurrent, DelegatePrevious}
+use Rattle.xl_nfs.specs.Opens.{OpenArgsItem, OpenHowItem, Create, Guarded, Exclusive, OpenClaimItem, Null, Previous, DelegateCurrent, DelegatePrevious}
 use Rattle.xl_nfs.specs.Results.{ResultItem, OpenAnswer, nfs_result}
 use Rattle.xl_nfs.specs.declared.basics.Stateid.{Stateid}
 use Rattle.xl_nfs.specs.declared.opens.DelegationType.{DelegationType}
@@ -52,12 +52,12 @@ use Rattle.xl_core.specs.declared.ask.Ask.{Ask}
 use Rattle.xl_core.specs.declared.ask.Who.TheVariants.{Named}
 use Rattle.std.specs.List.{filter}
 use Rattle.xl_core.specs.Ids.{number_in}
-use Rattle.xl_nfs_opens.specs.Checks.{or_else}
-use Rattle.xl_nfs_opens.specs.Files.{file_named}
+use Rattle.xl_nfs_opens.specs.Checks.{found, passed, unless, refused_by, failing}
+use Rattle.xl_nfs_opens.specs.Files.{root, file_named}
 use Rattle.xl_plan.specs.Plans.{Does, Behind, Asking}
 use Rattle.xl_nfs_opens.specs.Operations.{op_open}
 use Rattle.xl_nfs_opens.specs.Plans.{Plan}
-use Rattle.xl_nfs_opens.specs.Renewing.{same_stateid, stateid_of, number_of as number_in_other, state_client, renewing}
+use Rattle.xl_nfs_opens.specs.Renewing.{first_seqid, same_stateid, stateid_of, number_of as number_in_other, state_client, renewing}
 use Rattle.xl_nfs_opens.specs.Results.{spelled}
 use Rattle.xl_nfs_opens.specs.Seqids.{advances, is_short, is_opener, is_room_for, opener_number, seated, kept_for, remembered}
 use Rattle.xl_nfs_opens.specs.declared.opener.Judged.{Judged}
@@ -66,16 +66,28 @@ use Rattle.xl_nfs_opens.specs.declared.opener.Opener.{Opener}
 use Rattle.xl_nfs_opens.specs.declared.told.Told.{Told}
 use Rattle.xl_nfs_opens.specs.declared.told.Told.TheVariants.{Ended, Opened, Kept}
 
--- ---- access and deny (share_access4, share_deny4): 1 is reading, 2 writing, 3 both
+-- ---- access and deny: OPEN4_SHARE_ACCESS_READ, _WRITE and _BOTH, and the same of OPEN4_SHARE_DENY (RFC 7531)
+
+abbrev pub share_none : ℕ
+share_none = 0
+
+abbrev pub share_read : ℕ
+share_read = 1
+
+abbrev pub share_write : ℕ
+share_write = 2
+
+abbrev pub share_both : ℕ
+share_both = 3
 
 abbrev pub rights_of : ℕ → Rwd
-rights_of bits = record { r = (bits == 1) || (bits == 3); w = (bits == 2) || (bits == 3); d = false }
+rights_of bits = record { r = (bits == share_read) || (bits == share_both); w = (bits == share_write) || (bits == share_both); d = false }
 
 abbrev pub bits_of : Bool → Bool → ℕ
-bits_of true true = 3
-bits_of false true = 2
-bits_of true false = 1
-bits_of false false = 0
+bits_of true true = share_both
+bits_of false true = share_write
+bits_of true false = share_read
+bits_of false false = share_none
 
 -- the rights of both
 unfoldable pub either_bits : ℕ → ℕ → ℕ
@@ -83,28 +95,31 @@ either_bits a b = bits_of (either_right (rights_of a) (rights_of b)).r (either_r
 
 -- ---- what is opened
 
--- a claim by a name is made in the root, and one of a file that was open before a restart at the file; no delegation from before a client's restart is kept
--- (NFS-15)
-abbrev pub check_claim : ℕ → OpenClaimItem → Option NfsStatus
-check_claim at (Null name) = if at == 0 then None else Some statuses.NotDir
-check_claim at (Previous type) = if at == 0 then Some statuses.IsDir else None
-check_claim at (DelegateCurrent a) = if at == 0 then None else Some statuses.NotDir
-check_claim at (DelegatePrevious name) = Some statuses.NotSupp
+-- a claim by a name
+abbrev pub is_by_name : OpenClaimItem → Bool
+is_by_name (Null name) = true
+is_by_name (DelegateCurrent a) = true
+is_by_name claim = false
+
+-- a claim of a file that was open before the server's restart
+abbrev pub reclaims : OpenClaimItem → Bool
+reclaims (Previous type) = true
+reclaims _ = false
+
+-- a claim by a delegation from before the client's restart
+abbrev pub is_from_before : OpenClaimItem → Bool
+is_from_before (DelegatePrevious name) = true
+is_from_before claim = false
 
 -- something is asked for, and no other bits
-abbrev pub check_bits : OpenArgsItem → Option NfsStatus
-check_bits a = if nat_le 1 a.access && (nat_le a.access 3 && nat_le a.deny 3) then None else Some statuses.Inval
+abbrev pub are_bits : ℕ → ℕ → Bool
+are_bits access deny = nat_le share_read access && (nat_le access share_both && nat_le deny share_both)
 
--- no file is made: an unchecked creation opens what is there (NFS-15)
-abbrev pub check_how : OpenHowItem → Option NfsStatus
-check_how NoCreate = None
-check_how (Create (Unchecked a)) = None
-check_how (Create (Guarded a)) = Some statuses.NotSupp
-check_how (Create (Exclusive v)) = Some statuses.NotSupp
-
-abbrev pub found_name : Option ℕ → Result ℕ NfsStatus
-found_name None = Err statuses.NoEnt
-found_name (Some file) = Ok file
+-- a file has to be made; an unchecked creation opens what is there (NFS-15)
+abbrev pub makes : OpenHowItem → Bool
+makes (Create (Guarded a)) = true
+makes (Create (Exclusive v)) = true
+makes how = false
 
 abbrev pub named_file : List (List ℕ) → List ℕ → Option ℕ
 named_file files name = if length name == 0 then None else file_named files name
@@ -118,19 +133,39 @@ is_stateid_of s stateid (Some r) = same_stateid stateid (stateid_of s r.number r
 abbrev pub is_delegation : CoreState → NfsLists → ℕ → ℕ → Stateid → Bool
 is_delegation s l client file stateid = is_stateid_of s stateid (find (delegated_on client file) l.stateids)
 
-abbrev pub by_delegation : CoreState → NfsLists → ℕ → Stateid → Option ℕ → Result ℕ NfsStatus
-by_delegation s l client stateid None = Err statuses.NoEnt
-by_delegation s l client stateid (Some file) = if is_delegation s l client file stateid then Ok file else Err statuses.BadStateid
+-- the file that is claimed at this handle
+abbrev pub file_claimed : List (List ℕ) → ℕ → OpenClaimItem → Option ℕ
+file_claimed files at (Null name) = named_file files name
+file_claimed files at (Previous type) = Some at
+file_claimed files at (DelegateCurrent a) = named_file files a.name
+file_claimed files at (DelegatePrevious name) = None
 
-abbrev pub file_of_claim : List (List ℕ) → CoreState → NfsLists → ℕ → ℕ → OpenClaimItem → Result ℕ NfsStatus
-file_of_claim files s l client at (Null name) = found_name (named_file files name)
-file_of_claim files s l client at (Previous type) = Ok at
-file_of_claim files s l client at (DelegateCurrent a) = by_delegation s l client a.stateid (named_file files a.name)
-file_of_claim files s l client at (DelegatePrevious name) = Err statuses.NotSupp
+-- it is claimed by a stateid that isn't that of the client's delegation on it
+abbrev pub is_astray : CoreState → NfsLists → ℕ → ℕ → OpenClaimItem → Bool
+is_astray s l client file (DelegateCurrent a) = not (is_delegation s l client file a.stateid)
+is_astray s l client file claim = false
 
--- the file that this client opens, or the first check that fails
+-- A claim by a name is made in the root, and one of a file that was open before a restart at the file; no delegation
+-- from before a client's restart is kept (NFS-15).
+abbrev pub asked_checks : ℕ → OpenArgsItem → List (Bool × NfsStatus)
+asked_checks at a =
+    (is_by_name a.claim && not (at == root), statuses.NotDir)
+    ∷ (reclaims a.claim && (at == root), statuses.IsDir)
+    ∷ (is_from_before a.claim, statuses.NotSupp)
+    ∷ (not (are_bits a.access a.deny), statuses.Inval)
+    ∷ (makes a.how, statuses.NotSupp)
+    ∷ []
+
+unfoldable pub asked_fault : ℕ → OpenArgsItem → Option NfsStatus
+asked_fault at a = failing (asked_checks at a)
+
+-- the file that this client opens, or the status of the first check that fails
 unfoldable pub opened_file : List (List ℕ) → CoreState → NfsLists → ℕ → ℕ → OpenArgsItem → Result ℕ NfsStatus
-opened_file files s l client at a = or_else (check_claim at a.claim) (or_else (check_bits a) (or_else (check_how a.how) (file_of_claim files s l client at a.claim)))
+opened_file files s l client at a =
+    unless (asked_fault at a) Err
+    (found (file_claimed files at a.claim) (Err statuses.NoEnt) (λ file.
+    refused_by Err ((is_astray s l client file a.claim, statuses.BadStateid) ∷ [])
+    (Ok file)))
 
 -- ---- the owner
 
@@ -199,10 +234,6 @@ gives_all s o (r ∷ rs) = gives (share_held s o r.file) ++ gives_all (given_up 
 
 abbrev pub all_rooms : Rooms
 all_rooms = record { hosts = most_hosts; owners = most_owners; opens = limits.most_opens }
-
-abbrev pub reclaims : OpenClaimItem → Bool
-reclaims (Previous type) = true
-reclaims _ = false
 
 -- ---- a delegation that is wished for (RFC 7530 10.4)
 
@@ -333,7 +364,7 @@ open_row number o owner file a = record {
   client = o.client;
   file = file;
   holder = holders.Open owner;
-  standing = record { seqid = 1; access = a.access; deny = a.deny; closed = false };
+  standing = record { seqid = first_seqid; access = a.access; deny = a.deny; closed = false };
 }
 
 -- what a stateid stands on is there, nothing else stands in its place, and there is room for it
@@ -358,7 +389,7 @@ delegation_row number o file write = record {
   client = o.client;
   file = file;
   holder = holders.Delegation write;
-  standing = record { seqid = 1; access = 0; deny = 0; closed = false };
+  standing = record { seqid = first_seqid; access = share_none; deny = share_none; closed = false };
 }
 
 -- nothing has its number or stands in its place, and its client is confirmed
@@ -386,16 +417,22 @@ drawn_for (Some write) s = drawn s
 -- what is sent of it: its stateid, and whether it is for writing
 abbrev pub delegation_told : CoreState → Option Bool → Option (Stateid × Bool)
 delegation_told s None = None
-delegation_told s (Some write) = Some (stateid_of (drawn s) (s.counter + 1) 1, write)
+delegation_told s (Some write) = Some (stateid_of (drawn s) (s.counter + 1) first_seqid, write)
 
 -- what changes of this stateid
 abbrev pub stood : ℕ → StateidRow → ℕ → ℕ → Bool → NfsLists → NfsLists
 stood number r access deny closed l =
     with_stateids l (changed (is_stateid number) (with_standing (record { seqid = next_seqid r.standing.seqid; access = access; deny = deny; closed = closed })) l.stateids)
 
--- OPEN4_RESULT_CONFIRM
+-- OPEN4_RESULT_CONFIRM (RFC 7531)
+abbrev pub open_result_confirm : ℕ
+open_result_confirm = 2
+
+abbrev pub no_flags : ℕ
+no_flags = 0
+
 abbrev pub flags_of : Bool → ℕ
-flags_of confirmed = if confirmed then 0 else 2
+flags_of confirmed = if confirmed then no_flags else open_result_confirm
 
 abbrev pub opened_told : CoreState → ℕ → ℕ → Bool → Option (Stateid × Bool) → Told
 opened_told s number seqid confirmed delegation = Opened (stateid_of s number seqid) (flags_of confirmed) delegation
@@ -405,7 +442,7 @@ abbrev pub granted_new : CoreState → NfsLists → Opener → OpenArgsItem → 
 granted_new s l o a file confirmed write =
     let number = opener_number o l in
     let t = drawn s in
-    let told = opened_told (drawn_for write t) (s.counter + 1) 1 confirmed (delegation_told t write) in
+    let told = opened_told (drawn_for write t) (s.counter + 1) first_seqid confirmed (delegation_told t write) in
     Does (Draws ∷ draws_for write) (kept_for number (spelled op_open told) (delegated t o file write (entered (open_row (s.counter + 1) o number file a) (seated o (open_seqids a confirmed) l)))) (told, Some file)
 
 -- it has one: that has the rights of both from then on
@@ -427,17 +464,17 @@ answered l current o a file confirmed wish answer s =
 
 -- ---- the checks in their order
 
-abbrev pub open_wish : ℕ → NfsLists → Option ℕ → Opener → OpenArgsItem → Bool → ℕ → Option Bool → Plan
-open_wish others l current o a confirmed file wish =
-    if has_room others l o file then Asking all_rooms (share_ask wish o a file) (answered l current o a file confirmed wish)
-    else Does [] l (Ended statuses.Resource, current)
+-- the share is asked, with this wish
+abbrev pub open_wish : NfsLists → Option ℕ → Opener → OpenArgsItem → Bool → ℕ → Option Bool → Plan
+open_wish l current o a confirmed file wish = Asking all_rooms (share_ask wish o a file) (answered l current o a file confirmed wish)
 
 abbrev pub open_on : ℕ → CoreState → NfsLists → Option ℕ → Opener → OpenArgsItem → Bool → ℕ → Plan
-open_on others s l current o a confirmed file = open_wish others l current o a confirmed file (wish_of s l o a confirmed file)
+open_on others s l current o a confirmed file =
+    refused_by (refused l current o a confirmed) ((not (has_room others l o file), statuses.Resource) ∷ [])
+    (open_wish l current o a confirmed file (wish_of s l o a confirmed file))
 
 abbrev pub open_by : ℕ → CoreState → NfsLists → Option ℕ → Opener → OpenArgsItem → Bool → Result ℕ NfsStatus → Plan
-open_by others s l current o a confirmed (Err status) = refused l current o a confirmed status
-open_by others s l current o a confirmed (Ok file) = open_on others s l current o a confirmed file
+open_by others s l current o a confirmed file = passed file (refused l current o a confirmed) (open_on others s l current o a confirmed)
 
 -- of an owner that is confirmed, or new
 unfoldable pub open_as : List (List ℕ) → ℕ → CoreState → NfsLists → Option ℕ → ℕ → Opener → OpenArgsItem → Bool → Plan
@@ -455,16 +492,16 @@ abbrev pub opener_of : ClientRow → OpenArgsItem → Opener
 opener_of c a = record { client = c.number; id = c.id; kind = kinds.Open; owner = a.owner.owner }
 
 abbrev pub open_of : List (List ℕ) → ℕ → CoreState → NfsLists → Option ℕ → ℕ → OpenArgsItem → Option ClientRow → Plan
-open_of files others s l current at a None = Does [] l (Ended statuses.StaleClientId, current)
-open_of files others s l current at a (Some c) = open_judged files others s l current at (opener_of c a) a (judged l (opener_of c a) a.seqid)
+open_of files others s l current at a client =
+    found client (Does [] l (Ended statuses.StaleClientId, current)) (λ c. open_judged files others s l current at (opener_of c a) a (judged l (opener_of c a) a.seqid))
 
 -- the confirmed client of a clientid
 abbrev pub client_in : CoreState → NfsLists → ℕ → Option ClientRow
 client_in s l clientid = option_and_then (λ number. find (is_client number true) l.clients) (number_in s clientid)
 
 abbrev pub open_at : List (List ℕ) → ℕ → CoreState → NfsLists → OpenArgsItem → Option ℕ → Plan
-open_at files others s l a None = Does [] l (Ended statuses.NoFileHandle, None)
-open_at files others s l a (Some at) = open_of files others s l (Some at) at a (client_in s l a.owner.clientid)
+open_at files others s l a current =
+    found current (Does [] l (Ended statuses.NoFileHandle, current)) (λ at. open_of files others s l current at a (client_in s l a.owner.clientid))
 
 -- the client that a delegation names
 abbrev pub claim_client : CoreState → NfsLists → OpenClaimItem → Option ℕ

@@ -13,6 +13,10 @@ use Rattle.xl_nfs_opens.specs.Plans.{Plan}
 
 -- ---- stateids (RFC 7530 9.1.4)
 
+-- the seqid of a stateid that is new
+abbrev pub first_seqid : ℕ
+first_seqid = 1
+
 -- the stateid of this number and seqid: its `other` is the epoch of this start and the number (NFS-21)
 unfoldable pub stateid_of : CoreState → ℕ → ℕ → Stateid
 stateid_of s number seqid = record { seqid = seqid; other = to_be_bytes w32 s.stable.epoch ++ to_be_bytes w64 number }

@@ -4,49 +4,45 @@ ghost use Rattle.std.specs.List.{find};
 ghost use Rattle.xl_nfs_state.specs.State.{delegated_on};
 ghost use Rattle.xl_nfs.specs.Opens.{shown_open_args, shown_open_claim, shown_open_how};
 ghost use Rattle.xl_nfs.specs.Outcomes.{is_ok};
-ghost use Rattle.xl_nfs_opens.specs.Opens.{by_delegation, check_bits, check_claim, check_how, file_of_claim, is_delegation, is_stateid_of, named_file, opened_file};
+ghost use Rattle.xl_nfs_opens.specs.Opens.{are_bits, asked_fault, file_claimed, is_astray, is_by_name, is_delegation, is_from_before, is_stateid_of, makes, named_file, opened_file};
 
-use crate::files::file_named;
+use crate::files::{ROOT, file_named};
 use crate::renewing::{same_stateid, stateid_of};
+use crate::shares::{SHARE_BOTH, SHARE_READ, reclaims};
 use xl_base::Sequence;
 use xl_core::Core;
 use xl_nfs::{CreateHow, NfsStatus, OpenArgs, OpenClaim, OpenHow, Stateid};
 use xl_nfs_state::{NfsState, StateidRow};
 
-/// A claim by a name is made in the root, and one of a file that was open before a restart at the file.
-fn check_claim(at: u32, claim: &OpenClaim) -> Option<NfsStatus>
-    ensures value { result ≡ check_claim at (shown_open_claim claim.now) }
-    ensures fails { IfSome result (λ status. is_ok status ≡ false) }
+/// Whether a claim is by a name.
+fn is_by_name(claim: &OpenClaim) -> bool
+    ensures { result ≡ is_by_name (shown_open_claim claim.now) }
 {
-    match claim {
-        OpenClaim::Null(_) | OpenClaim::DelegateCurrent(_) if at != 0 => Some(NfsStatus::NotDir),
-        OpenClaim::Previous(_) if at == 0 => Some(NfsStatus::IsDir),
-        OpenClaim::DelegatePrevious(_) => Some(NfsStatus::NotSupp),
-        _ => None,
-    }
+    matches!(claim, OpenClaim::Null(_) | OpenClaim::DelegateCurrent(_))
 }
 
-/// Something is asked for, and no other bits.
-fn check_bits(args: &OpenArgs) -> Option<NfsStatus>
-    ensures value { result ≡ check_bits (shown_open_args args.now) }
-    ensures fails { IfSome result (λ status. is_ok status ≡ false) }
+/// Whether a claim is by a delegation from before the client's restart.
+fn is_from_before(claim: &OpenClaim) -> bool
+    ensures { result ≡ is_from_before (shown_open_claim claim.now) }
 {
-    if 1 <= args.access && args.access <= 3 && args.deny <= 3 {
-        None
-    } else {
-        Some(NfsStatus::Inval)
-    }
+    matches!(claim, OpenClaim::DelegatePrevious(_))
 }
 
-/// No file is made.
-fn check_how(how: &OpenHow) -> Option<NfsStatus>
-    ensures value { result ≡ check_how (shown_open_how how.now) }
-    ensures fails { IfSome result (λ status. is_ok status ≡ false) }
+/// Whether something is asked for, and no other bits.
+fn are_bits(access: u32, deny: u32) -> bool
+    ensures { result ≡ are_bits access deny }
+{
+    SHARE_READ <= access && access <= SHARE_BOTH && deny <= SHARE_BOTH
+}
+
+/// Whether a file has to be made.
+fn makes(how: &OpenHow) -> bool
+    ensures { result ≡ makes (shown_open_how how.now) }
 {
     match how {
-        OpenHow::NoCreate => None,
-        OpenHow::Create(CreateHow::Unchecked(_)) => None,
-        OpenHow::Create(_) => Some(NfsStatus::NotSupp),
+        OpenHow::NoCreate => false,
+        OpenHow::Create(CreateHow::Unchecked(_)) => false,
+        OpenHow::Create(_) => true,
     }
 }
 
@@ -80,51 +76,53 @@ fn is_delegation(core: &Core, state: &NfsState, client: u32, file: u32, stateid:
     is_stateid_of(core, stateid, state.find_delegation(client, file))
 }
 
-/// The file of this name, if the stateid is that of the client's delegation on it.
-fn by_delegation(
-    core: &Core,
-    state: &NfsState,
-    client: u32,
-    stateid: &Stateid,
-    file: Option<u32>,
-) -> Result<u32, NfsStatus>
-    ensures value { result ≡ by_delegation core.now state.now client stateid.now file }
-    ensures fails { IfErr result (λ status. is_ok status ≡ false) }
-{
-    match file {
-        Some(file) if is_delegation(core, state, client, file, stateid) => Ok(file),
-        Some(_) => Err(NfsStatus::BadStateid),
-        None => Err(NfsStatus::NoEnt),
-    }
-}
-
-/// The file of a claim, if it is one.
-fn file_of_claim(
-    files: &[Sequence<u8>],
-    core: &Core,
-    state: &NfsState,
-    client: u32,
-    at: u32,
-    claim: &OpenClaim,
-) -> Result<u32, NfsStatus>
-    ensures value { result ≡ file_of_claim files.now core.now state.now client at (shown_open_claim claim.now) }
-    ensures fails { IfErr result (λ status. is_ok status ≡ false) }
+/// The file that is claimed at this handle.
+fn file_claimed(files: &[Sequence<u8>], at: u32, claim: &OpenClaim) -> Option<u32>
+    ensures { result ≡ file_claimed files.now at (shown_open_claim claim.now) }
 {
     match claim {
-        OpenClaim::Null(name) => match named_file(files, name) {
-            Some(file) => Ok(file),
-            None => Err(NfsStatus::NoEnt),
-        },
-        OpenClaim::Previous(_) => Ok(at),
-        OpenClaim::DelegateCurrent(delegation) => {
-            let file = named_file(files, delegation.name);
-            by_delegation(core, state, client, &delegation.stateid, file)
-        }
-        OpenClaim::DelegatePrevious(_) => Err(NfsStatus::NotSupp),
+        OpenClaim::Null(name) => named_file(files, name),
+        OpenClaim::Previous(_) => Some(at),
+        OpenClaim::DelegateCurrent(delegation) => named_file(files, delegation.name),
+        OpenClaim::DelegatePrevious(_) => None,
     }
 }
 
-/// The file that this client opens, or the first check that fails.
+/// Whether a file is claimed by a stateid that isn't that of the client's delegation on it.
+fn is_astray(core: &Core, state: &NfsState, client: u32, file: u32, claim: &OpenClaim) -> bool
+    ensures { result ≡ is_astray core.now state.now client file (shown_open_claim claim.now) }
+{
+    match claim {
+        OpenClaim::DelegateCurrent(delegation) => {
+            !is_delegation(core, state, client, file, &delegation.stateid)
+        }
+        _ => false,
+    }
+}
+
+/// The status of the first check of what is asked that fails.
+#[tactic(auto, unfolding(crate::specs::Opens::asked_fault))]
+fn asked_fault(at: u32, args: &OpenArgs) -> Option<NfsStatus>
+    ensures value { result ≡ asked_fault at (shown_open_args args.now) }
+    ensures fails { IfSome result (λ status. is_ok status ≡ false) }
+{
+    let claim = &args.claim;
+    if is_by_name(claim) && at != ROOT {
+        Some(NfsStatus::NotDir)
+    } else if reclaims(claim) && at == ROOT {
+        Some(NfsStatus::IsDir)
+    } else if is_from_before(claim) {
+        Some(NfsStatus::NotSupp)
+    } else if !are_bits(args.access, args.deny) {
+        Some(NfsStatus::Inval)
+    } else if makes(&args.how) {
+        Some(NfsStatus::NotSupp)
+    } else {
+        None
+    }
+}
+
+/// The file that this client opens, or the status of the first check that fails.
 #[tactic(auto, unfolding(crate::specs::Opens::opened_file))]
 pub(crate) fn opened_file(
     files: &[Sequence<u8>],
@@ -137,14 +135,14 @@ pub(crate) fn opened_file(
     ensures value { result ≡ opened_file files.now core.now state.now client at (shown_open_args args.now) }
     ensures fails { IfErr result (λ status. is_ok status ≡ false) }
 {
-    if let Some(status) = check_claim(at, &args.claim) {
+    if let Some(status) = asked_fault(at, args) {
         return Err(status);
     }
-    if let Some(status) = check_bits(args) {
-        return Err(status);
+    let Some(file) = file_claimed(files, at, &args.claim) else {
+        return Err(NfsStatus::NoEnt);
+    };
+    if is_astray(core, state, client, file, &args.claim) {
+        return Err(NfsStatus::BadStateid);
     }
-    if let Some(status) = check_how(&args.how) {
-        return Err(status);
-    }
-    file_of_claim(files, core, state, client, at, &args.claim)
+    Ok(file)
 }

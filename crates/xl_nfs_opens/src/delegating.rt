@@ -13,8 +13,8 @@ ghost use Rattle.xl_nfs_opens.specs.Short.{Leaves};
 
 use crate::leases::drawn;
 use crate::opener::Opener;
-use crate::renewing::stateid_of;
-use crate::shares::rights_of;
+use crate::renewing::{FIRST_SEQID, stateid_of};
+use crate::shares::{SHARE_NONE, rights_of};
 use std::alloc::{AllocError, Global};
 use xl_base::{Party, Protocol, Sequence};
 use xl_core::Core;
@@ -207,9 +207,9 @@ fn delegation_row(number: u64, opener: &Opener, file: u32, write: bool) -> State
         file,
         holder: Holder::Delegation { write },
         standing: Standing {
-            seqid: 1,
-            access: 0,
-            deny: 0,
+            seqid: FIRST_SEQID,
+            access: SHARE_NONE,
+            deny: SHARE_NONE,
             closed: false,
         },
     }
@@ -273,5 +273,5 @@ pub(crate) fn delegate(
     let number = u64::from(drawn(core));
     let row = delegation_row(number, opener, file, write);
     enter_delegation(alloc, state, row, write)?;
-    Ok(Some((stateid_of(core, number, 1), write)))
+    Ok(Some((stateid_of(core, number, FIRST_SEQID), write)))
 }

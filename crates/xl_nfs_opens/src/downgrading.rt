@@ -15,7 +15,7 @@ use crate::done::{Done, ended_as};
 use crate::opener::{Checked, Found};
 use crate::renewing::{renew_for, state_client};
 use crate::repeats::repeat;
-use crate::shares::{rights_of, weaken};
+use crate::shares::{SHARE_BOTH, SHARE_READ, rights_of, weaken};
 use std::alloc::{AllocError, Global};
 use xl_base::Sequence;
 use xl_core::Core;
@@ -28,9 +28,9 @@ use xl_nfs_state::{NfsState, OwnerKind, SeqidState, StateidRow};
 fn can_weaken(row: &StateidRow, access: u32, deny: u32) -> bool
     ensures { result ≡ can_weaken row.now access deny }
 {
-    1 <= access
-        && access <= 3
-        && deny <= 3
+    SHARE_READ <= access
+        && access <= SHARE_BOTH
+        && deny <= SHARE_BOTH
         && rights_within(rights_of(access), rights_of(row.standing.access))
         && rights_within(rights_of(deny), rights_of(row.standing.deny))
 }

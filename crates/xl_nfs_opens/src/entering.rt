@@ -6,20 +6,22 @@ ghost use Rattle.xl_nfs_state.specs.State.{is_stateid, owned_on};
 ghost use Rattle.xl_nfs_opens.specs.Opens.{can_enter, either_bits, entered, flags_of, has_room, open_held, open_row, open_seqids, stood, bits_of, live};
 
 use crate::opener::Opener;
+use crate::renewing::FIRST_SEQID;
 use crate::seqids::{find_opener, is_room_for};
-use crate::shares::rights_of;
+use crate::shares::{SHARE_BOTH, SHARE_NONE, SHARE_READ, SHARE_WRITE, rights_of};
 use std::alloc::{AllocError, Global};
 use xl_nfs::{OpenArgs, operation};
 use xl_nfs_state::{Holder, MOST_OPENS, NfsState, SeqidState, Standing, StateidRow, Whose};
 
+/// The access or deny that has these rights.
 fn bits_of(read: bool, write: bool) -> u32
     ensures { result ≡ bits_of read write }
 {
     match (read, write) {
-        (true, true) => 3,
-        (false, true) => 2,
-        (true, false) => 1,
-        (false, false) => 0,
+        (true, true) => SHARE_BOTH,
+        (false, true) => SHARE_WRITE,
+        (true, false) => SHARE_READ,
+        (false, false) => SHARE_NONE,
     }
 }
 
@@ -45,11 +47,21 @@ pub(crate) fn open_seqids(args: &OpenArgs, confirmed: bool) -> SeqidState
     }
 }
 
+/// OPEN4_RESULT_CONFIRM: the owner has to confirm the open (RFC 7531).
+const OPEN_RESULT_CONFIRM: u32 = 2;
+
+/// No flags of an OPEN's result.
+const NO_FLAGS: u32 = 0;
+
 /// The flags of an OPEN's result.
 pub(crate) fn flags_of(confirmed: bool) -> u32
     ensures { result ≡ flags_of confirmed }
 {
-    if confirmed { 0 } else { 2 }
+    if confirmed {
+        NO_FLAGS
+    } else {
+        OPEN_RESULT_CONFIRM
+    }
 }
 
 /// What the owner of this number has on the file, unless it is an open that was closed: an open owner its open, and a lock
@@ -100,7 +112,7 @@ pub(crate) fn open_row(
         file,
         holder: Holder::Open(owner),
         standing: Standing {
-            seqid: 1,
+            seqid: FIRST_SEQID,
             access: args.access,
             deny: args.deny,
             closed: false,

@@ -4,6 +4,9 @@ ghost use Rattle.xl_nfs_opens.specs.Files.{file_number, file_named};
 
 use xl_base::Sequence;
 
+/// The root as the current handle.
+pub const ROOT: u32 = 0;
+
 /// The place of the first file of this name.
 fn place_of(files: &[Sequence<u8>], name: &[u8]) -> Option<usize>
     ensures { result ≡ position (bytes_eq name.now) files.now }

@@ -19,7 +19,7 @@ use crate::entering::{
 };
 use crate::leases::drawn;
 use crate::opener::{Judged, Opener};
-use crate::renewing::{renew_for, state_client, stateid_of};
+use crate::renewing::{FIRST_SEQID, renew_for, state_client, stateid_of};
 use crate::repeats::{keep_told, repeat};
 use crate::results::result_bytes;
 use crate::seqids::{advances, find_opener, opener_number, remember, seat};
@@ -158,7 +158,7 @@ fn grant_new(
     enter(alloc, state, owner, row)?;
     let delegation = delegate(alloc, state, core, opener, file, opened.write)?;
     let flags = flags_of(opened.confirmed);
-    let told = Told::Opened(stateid_of(core, number, 1), flags, delegation);
+    let told = Told::Opened(stateid_of(core, number, FIRST_SEQID), flags, delegation);
     keep_told(alloc, state, owner, operation::OPEN, &told)?;
     Ok((told, Some(file)))
 }

@@ -11,6 +11,9 @@ use xl_core::Core;
 use xl_nfs::Stateid;
 use xl_nfs_state::NfsState;
 
+/// The seqid of a stateid that is new.
+pub const FIRST_SEQID: u32 = 1;
+
 /// The stateid of this number and seqid.
 #[tactic(auto, unfolding(crate::specs::Renewing::stateid_of))]
 pub fn stateid_of(core: &Core, number: u64, seqid: u32) -> Stateid

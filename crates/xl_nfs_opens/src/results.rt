@@ -7,7 +7,7 @@ ghost use Rattle.xl_nfs.specs.Results.{shown_result, GetFhAnswer, SetClientIdAns
 ghost use Rattle.xl_base.specs.Handles.{handle};
 ghost use Rattle.xl_nfs_state.specs.Bytes.{most_result_bytes};
 ghost use Rattle.xl_nfs_opens.specs.Plans.{status_of};
-ghost use Rattle.xl_nfs_opens.specs.Seqids.{most_told};
+ghost use Rattle.xl_nfs_opens.specs.Seqids.{most_short, most_told};
 ghost use Rattle.xl_nfs_opens.specs.Results.{delegation_item, denied_as, ended_as, open_result_of, spelled, state_as, ToldFits};
 
 use crate::told::{HeldLock, Told};
@@ -130,7 +130,7 @@ fn put_bytes(out: &mut XdrOut, bytes: &[u8]) -> Result<(), AllocError>
 fn put_ended(out: &mut XdrOut, number: u32, status: NfsStatus) -> Result<(), AllocError>
     requires { ResultFits (ended_as number status) }
     ensures ok { OnOk result (out.new ≡ out.old ++ nfs_result.spell (ended_as number status)) }
-    ensures little { OnOk result (length out.new ≤ length out.old + 104) }
+    ensures little { OnOk result (length out.new ≤ length out.old + most_short) }
 {
     write_result(out, &ended_as(number, status))?;
     Ok(())
@@ -140,7 +140,7 @@ fn put_ended(out: &mut XdrOut, number: u32, status: NfsStatus) -> Result<(), All
 #[tactic(auto, using(crate::proofs::ResultLaws::handle_fits))]
 fn put_handle(out: &mut XdrOut, file: u32) -> Result<(), AllocError>
     ensures ok { OnOk result (out.new ≡ out.old ++ nfs_result.spell (GetFhAnswer (Ok (handle file)))) }
-    ensures little { OnOk result (length out.new ≤ length out.old + 104) }
+    ensures little { OnOk result (length out.new ≤ length out.old + most_short) }
 {
     write_result(out, &NfsResult::GetFh(Ok(&handle_of(file))))?;
     Ok(())
@@ -150,7 +150,7 @@ fn put_handle(out: &mut XdrOut, file: u32) -> Result<(), AllocError>
 #[tactic(auto, using(crate::proofs::ResultLaws::client_fits))]
 fn put_client(out: &mut XdrOut, confirm: ClientConfirm) -> Result<(), AllocError>
     ensures ok { OnOk result (out.new ≡ out.old ++ nfs_result.spell (SetClientIdAnswer (Ok confirm))) }
-    ensures little { OnOk result (length out.new ≤ length out.old + 104) }
+    ensures little { OnOk result (length out.new ≤ length out.old + most_short) }
 {
     write_result(out, &NfsResult::SetClientId(Ok(confirm)))?;
     Ok(())
@@ -165,7 +165,7 @@ fn put_opened(
     delegation: Option<(Stateid, bool)>,
 ) -> Result<(), AllocError>
     ensures ok { OnOk result (out.new ≡ out.old ++ nfs_result.spell (OpenAnswer (Ok (open_result_of stateid flags delegation)))) }
-    ensures little { OnOk result (length out.new ≤ length out.old + 104) }
+    ensures little { OnOk result (length out.new ≤ length out.old + most_short) }
 {
     write_result(out, &opened_as(stateid, flags, delegation))?;
     Ok(())
@@ -175,7 +175,7 @@ fn put_opened(
 #[tactic(auto, using(crate::proofs::ResultLaws::state_fits))]
 fn put_state(out: &mut XdrOut, number: u32, stateid: Stateid) -> Result<(), AllocError>
     ensures ok { OnOk result (out.new ≡ out.old ++ nfs_result.spell (state_as number stateid)) }
-    ensures little { OnOk result (length out.new ≤ length out.old + 104) }
+    ensures little { OnOk result (length out.new ≤ length out.old + most_short) }
 {
     write_result(out, &state_as(number, stateid))?;
     Ok(())
@@ -205,7 +205,7 @@ fn denied_as<'a>(number: u32, held: &'a HeldLock) -> NfsResult<'a>
 #[tactic(auto, using(crate::proofs::HeldLaws::free_fits, crate::proofs::HeldLaws::free_grown))]
 fn put_free(out: &mut XdrOut) -> Result<(), AllocError>
     ensures ok { OnOk result (out.new ≡ out.old ++ nfs_result.spell (LockTAnswer (Ok tt))) }
-    ensures little { OnOk result (length out.new ≤ length out.old + 104) }
+    ensures little { OnOk result (length out.new ≤ length out.old + most_short) }
 {
     write_result(out, &NfsResult::LockT(Ok(())))?;
     Ok(())

@@ -33,13 +33,25 @@ const ALL_ROOMS: Rooms = Rooms {
     opens: MOST_OPENS,
 };
 
-/// Access or deny: 1 is reading, 2 writing, 3 both.
+/// Nothing is denied (OPEN4_SHARE_DENY_NONE).
+pub const SHARE_NONE: u32 = 0;
+
+/// Reading (OPEN4_SHARE_ACCESS_READ, OPEN4_SHARE_DENY_READ).
+pub const SHARE_READ: u32 = 1;
+
+/// Writing (OPEN4_SHARE_ACCESS_WRITE, OPEN4_SHARE_DENY_WRITE).
+pub const SHARE_WRITE: u32 = 2;
+
+/// Both (OPEN4_SHARE_ACCESS_BOTH, OPEN4_SHARE_DENY_BOTH).
+pub const SHARE_BOTH: u32 = 3;
+
+/// What access or deny is of.
 pub(crate) fn rights_of(bits: u32) -> Rwd
     ensures { result ≡ rights_of bits }
 {
     Rwd {
-        r: bits == 1 || bits == 3,
-        w: bits == 2 || bits == 3,
+        r: bits == SHARE_READ || bits == SHARE_BOTH,
+        w: bits == SHARE_WRITE || bits == SHARE_BOTH,
         d: false,
     }
 }
