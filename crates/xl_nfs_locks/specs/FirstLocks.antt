@@ -1,5 +1,5 @@
 -- LOCK under an open, by a lock owner that has no stateid there yet, or has one (RFC 7530 16.10, open_to_lock_owner4).
-use Rattle.std.specs.Prelude.{◌≡◌, ℕ, ◌+◌, Bool, true, false, not, ◌&&◌, ◌==◌, if◌then◌else◌, List, [], ◌∷◌, ◌++◌, Option, Some, None, is_some, IfSome, Result, Ok, Err}
+use Rattle.std.specs.Prelude.{◌≡◌, ℕ, ◌+◌, Bool, true, false, not, ◌&&◌, ◌==◌, if◌then◌else◌, List, [], ◌∷◌, ◌++◌, Option, Some, None, is_some, IfSome, Result}
 use Rattle.std.specs.List.{find}
 use Rattle.xl_nfs.specs.Locks.{LockArgsItem, NewLockerItem, LockerItem, New, Known}
 use Rattle.xl_nfs.specs.declared.status.NfsStatus.{NfsStatus}
@@ -28,11 +28,12 @@ use Rattle.xl_nfs_locks.specs.declared.joining.Joined.{Joined}
 use Rattle.xl_nfs_locks.specs.declared.joining.Joined.TheVariants.{Bad, Again, Joins}
 use Rattle.xl_nfs_opens.specs.Closing.{checked, counts, standing_fault, failed, next_seqids, state_told}
 use Rattle.xl_core.specs.Ids.{number_in}
-use Rattle.xl_nfs_opens.specs.Opens.{all_rooms, client_in, is_granted, live, stood}
+use Rattle.xl_nfs_opens.specs.Checks.{found, passed, unless, refused_by}
+use Rattle.xl_nfs_opens.specs.Opens.{share_none, all_rooms, client_in, is_granted, live, stood}
 use Rattle.xl_plan.specs.Plans.{Does, Asking}
 use Rattle.xl_nfs_opens.specs.Operations.{op_lock}
 use Rattle.xl_nfs_opens.specs.Plans.{Plan, status_of}
-use Rattle.xl_nfs_opens.specs.Renewing.{stateid_of, state_client, renewing}
+use Rattle.xl_nfs_opens.specs.Renewing.{first_seqid, stateid_of, state_client, renewing}
 use Rattle.xl_nfs_opens.specs.Results.{spelled}
 use Rattle.xl_nfs_opens.specs.Seqids.{advances, counted, is_opener, is_room_for, opener_number, remembered}
 use Rattle.xl_nfs_opens.specs.declared.opener.Checked.{Checked}
@@ -54,6 +55,13 @@ counted_both b o bytes l = remembered o (next_seqids op_lock b.lock_seqid true N
 abbrev pub both_refused : NfsLists → Option ℕ → BothOwners → Opener → Told → Plan
 both_refused l current b o told = Does [] (if advances (status_of told) then counted_both b o (spelled op_lock told) l else l) (told, current)
 
+abbrev pub both_ended : NfsLists → Option ℕ → BothOwners → Opener → NfsStatus → Plan
+both_ended l current b o status = both_refused l current b o (Ended status)
+
+-- it was refused before the lock owner was known, and counts with the open's owner if its status does
+abbrev pub open_failed : NfsLists → Option ℕ → BothOwners → NfsStatus → Plan
+open_failed l current b status = failed l current b.number b.seqids op_lock b.open_seqid status
+
 -- ---- the stateid
 
 -- the lock owner's stateid under the open, new
@@ -63,7 +71,7 @@ lock_row number r opener owner = record {
   client = r.client;
   file = r.file;
   holder = holders.Lock owner r.number opener;
-  standing = record { seqid = 1; access = 0; deny = 0; closed = false };
+  standing = record { seqid = first_seqid; access = share_none; deny = share_none; closed = false };
 }
 
 -- what the locks hang on is there, and nothing else stands in their place
@@ -82,13 +90,13 @@ entered r l = entered_in r (with_stateids l (without (is_whose (whose.Stateid r.
 -- it takes the next number
 abbrev pub joined_new : CoreState → NfsLists → Option ℕ → BothOwners → Opener → StateidRow → Plan
 joined_new s l current b o r =
-    let told = State (stateid_of (drawn s) (s.counter + 1) 1) in
+    let told = State (stateid_of (drawn s) (s.counter + 1) first_seqid) in
     let m = counted_both b o (spelled op_lock told) l in
     Does (Draws ∷ []) (entered (lock_row (s.counter + 1) r b.number (opener_number o m)) m) (told, current)
 
 -- the owner has one under the open: its seqid is the next (NFS-26)
 abbrev pub joined_more : CoreState → NfsLists → Option ℕ → BothOwners → Opener → StateidRow → Plan
-joined_more s l current b o q = Does [] (counted_both b o (spelled op_lock (state_told s q)) (stood q.number q 0 0 false l)) (state_told s q, current)
+joined_more s l current b o q = Does [] (counted_both b o (spelled op_lock (state_told s q)) (stood q.number q share_none share_none false l)) (state_told s q, current)
 
 abbrev pub joined_by : CoreState → NfsLists → Option ℕ → BothOwners → Opener → StateidRow → Option StateidRow → Plan
 joined_by s l current b o r None = joined_new s l current b o r
@@ -101,10 +109,10 @@ join_answered l current b o r q reclaim answer s =
 -- ---- the range, the open's access, and room for the lock owner
 
 abbrev pub join_to : NfsLists → Option ℕ → LockArgsItem → BothOwners → Opener → StateidRow → Option StateidRow → Result ℕ NfsStatus → Plan
-join_to l current a b o r q (Err status) = both_refused l current b o (Ended status)
-join_to l current a b o r q (Ok last) =
-    if is_room_for o l then Asking all_rooms (lock_ask o r.file a.kind a.reclaim a.offset last) (join_answered l current b o r q a.reclaim)
-    else Does [] l (Ended statuses.Resource, current)
+join_to l current a b o r q end =
+    passed end (both_ended l current b o) (λ last.
+    refused_by (both_ended l current b o) ((not (is_room_for o l), statuses.Resource) ∷ [])
+    (Asking all_rooms (lock_ask o r.file a.kind a.reclaim a.offset last) (join_answered l current b o r q a.reclaim)))
 
 abbrev pub join_in : NfsLists → Option ℕ → LockArgsItem → BothOwners → Opener → StateidRow → Option StateidRow → Plan
 join_in l current a b o r q = join_to l current a b o r q (lock_end a.kind r.standing.access (last_byte a.offset a.len))
@@ -150,12 +158,10 @@ locker_under r owner None = None
 locker_under r owner (Some c) = if c.number == r.client then Some (locker_of c owner) else None
 
 abbrev pub join_of : NfsLists → Option ℕ → LockArgsItem → NewLockerItem → BothOwners → StateidRow → Option Opener → Plan
-join_of l current a x b r None = failed l current b.number b.seqids op_lock b.open_seqid statuses.Inval
-join_of l current a x b r (Some o) = join_as l current a b o r (found_joined l r o x.lock_seqid)
+join_of l current a x b r locker = found locker (open_failed l current b statuses.Inval) (λ o. join_as l current a b o r (found_joined l r o x.lock_seqid))
 
 abbrev pub join_standing : CoreState → NfsLists → Option ℕ → LockArgsItem → NewLockerItem → BothOwners → StateidRow → Option NfsStatus → Plan
-join_standing s l current a x b r (Some status) = failed l current b.number b.seqids op_lock b.open_seqid status
-join_standing s l current a x b r None = join_of l current a x b r (locker_under r x.owner.owner (client_in s l x.owner.clientid))
+join_standing s l current a x b r fault = unless fault (open_failed l current b) (join_of l current a x b r (locker_under r x.owner.owner (client_in s l x.owner.clientid)))
 
 abbrev pub both_of : NewLockerItem → ℕ → SeqidState → BothOwners
 both_of x owner seqids = record { number = owner; seqids = seqids; open_seqid = x.open_seqid; lock_seqid = x.lock_seqid }

@@ -10,6 +10,7 @@ use Rattle.xl_core.specs.declared.ask.Answer.{Answer}
 use Rattle.xl_nfs_locks.specs.Denials.{lock_told}
 use Rattle.xl_nfs_locks.specs.Ranges.{last_byte, test_ask}
 use Rattle.xl_core.specs.Ids.{number_in}
+use Rattle.xl_nfs_opens.specs.Files.{root}
 use Rattle.xl_nfs_opens.specs.Opens.{all_rooms, client_in, is_granted}
 use Rattle.xl_plan.specs.Plans.{Does, Asking}
 use Rattle.xl_nfs_opens.specs.Plans.{Plan}
@@ -36,7 +37,7 @@ test_of l current a file (Some c) = test_to l current a file (locker_of c a.owne
 -- locks are on files, not on the root (NFS-10)
 abbrev pub test_at : CoreState → NfsLists → LockTestArgsItem → Option ℕ → Plan
 test_at s l a None = Does [] l (Ended statuses.NoFileHandle, None)
-test_at s l a (Some at) = if at == 0 then Does [] l (Ended statuses.IsDir, Some at) else test_of l (Some at) a at (client_in s l a.owner.clientid)
+test_at s l a (Some at) = if at == root then Does [] l (Ended statuses.IsDir, Some at) else test_of l (Some at) a at (client_in s l a.owner.clientid)
 
 -- the client is renewed before
 unfoldable pub lock_test : CoreState → NfsLists → Option ℕ → LockTestArgsItem → Plan

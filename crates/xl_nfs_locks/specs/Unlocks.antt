@@ -14,7 +14,7 @@ use Rattle.xl_nfs_locks.specs.Checks.{locks_found}
 use Rattle.xl_nfs_locks.specs.Ranges.{last_byte}
 use Rattle.xl_nfs_opens.specs.Asks.{unlock_ask}
 use Rattle.xl_nfs_opens.specs.Closing.{counts, standing_fault, failed, done_lists, state_told, opener_by}
-use Rattle.xl_nfs_opens.specs.Opens.{all_rooms, answer_status}
+use Rattle.xl_nfs_opens.specs.Opens.{share_none, all_rooms, answer_status}
 use Rattle.xl_plan.specs.Plans.{Does, Asking}
 use Rattle.xl_nfs_opens.specs.Operations.{op_unlock}
 use Rattle.xl_nfs_opens.specs.Plans.{Plan}
@@ -31,7 +31,7 @@ unlock_status answer = answer_status false answer
 
 abbrev pub unlocked_as : CoreState → NfsLists → Option ℕ → UnlockArgs → StateidRow → ℕ → SeqidState → NfsStatus → Plan
 unlocked_as s l current a r owner seqids status =
-    if is_ok status then Does [] (done_lists s l r owner seqids op_unlock a.seqid seqids.confirmed None 0 0 false) (state_told s r, current)
+    if is_ok status then Does [] (done_lists s l r owner seqids op_unlock a.seqid seqids.confirmed None share_none share_none false) (state_told s r, current)
     else failed l current owner seqids op_unlock a.seqid status
 
 abbrev pub unlock_by_owner : NfsLists → Option ℕ → UnlockArgs → StateidRow → ℕ → SeqidState → ℕ → Option Opener → Plan

@@ -5,10 +5,11 @@ ghost use Rattle.xl_base.specs.Outside.{HandedOn};
 ghost use Rattle.xl_core.specs.State.{CoreState, MayBe};
 ghost use Rattle.xl_nfs.specs.Locks.{shown_lock_args, shown_new_locker};
 ghost use Rattle.xl_nfs_state.specs.State.{NfsLists, is_client, is_owner, is_stateid, is_kept};
-ghost use Rattle.xl_nfs_locks.specs.FirstLocks.{both_refused, by_owner, can_enter, counted_both, counted_open, entered, fits_under, found_joined, join_again, join_answered, join_as, join_checked, join_in, join_of, join_standing, join_to, joined_by, joined_more, joined_new, lock_named, lock_new, lock_row, locker_under, IsJoined};
+ghost use Rattle.xl_nfs_locks.specs.FirstLocks.{both_refused, by_owner, can_enter, counted_both, counted_open, entered, fits_under, found_joined, join_again, join_answered, join_as, join_checked, join_in, join_of, join_standing, join_to, open_failed, joined_by, joined_more, joined_new, lock_named, lock_new, lock_row, locker_under, IsJoined};
 ghost use Rattle.xl_nfs_locks.specs.Locks.{lock_end};
-ghost use Rattle.xl_nfs_opens.specs.Closing.{failed, standing_fault, IsChecked};
+ghost use Rattle.xl_nfs_opens.specs.Closing.{standing_fault, IsChecked};
 ghost use Rattle.xl_nfs_opens.specs.Opens.{client_in, is_granted};
+ghost use Rattle.xl_nfs_opens.specs.Operations.{op_lock};
 ghost use Rattle.xl_nfs_opens.specs.Plans.{carried};
 ghost use Rattle.xl_nfs_opens.specs.Results.{spelled, ToldFits};
 ghost use Rattle.xl_nfs_opens.specs.Seqids.{is_room_for};
@@ -24,9 +25,10 @@ use xl_base::{Keeper, Sequence};
 use xl_core::{Answer, Core, number_in};
 use xl_nfs::{LockArgs, NewLocker, NfsStatus, operation};
 use xl_nfs_opens::{
-    Checked, Done, Found, Opener, Told, advances, asked, beside, check, client_in, count, drawn,
-    ended_as, fail, find_opener, held_on, is_room_for, next_seqids, opener_number, remember,
-    renew_for, repeat, result_bytes, stand, standing_fault, state_client, state_told, stateid_of,
+    Checked, Done, FIRST_SEQID, Found, Opener, SHARE_NONE, Told, advances, asked, beside, check,
+    client_in, count, drawn, ended_as, fail, find_opener, held_on, is_room_for, next_seqids,
+    opener_number, remember, renew_for, repeat, result_bytes, stand, standing_fault, state_client,
+    state_told, stateid_of,
 };
 use xl_nfs_state::{
     ClientRow, Holder, NfsState, OwnerKind, OwnerRow, ResultBytes, SeqidState, SeqidVerdict,
@@ -112,8 +114,8 @@ fn count_both(
 ) -> Result<(), AllocError>
     requires owner { IsSome (find (is_owner both.number) state.old.owners) }
     requires client { IsSome (find (is_client locker.now.client true) state.old.clients) }
-    requires fits { ToldFits 12 told.now }
-    ensures { OnOk result (state.new ≡ counted_both both locker.now (spelled 12 told.now) state.old) }
+    requires fits { ToldFits op_lock told.now }
+    ensures { OnOk result (state.new ≡ counted_both both locker.now (spelled op_lock told.now) state.old) }
 {
     let op = operation::LOCK;
     let bytes = result_bytes(alloc, op, told)?;
@@ -135,7 +137,7 @@ fn refuse_both(
 ) -> Result<(Told, Option<u32>), AllocError>
     requires owner { IsSome (find (is_owner both.number) state.old.owners) }
     requires client { IsSome (find (is_client locker.now.client true) state.old.clients) }
-    requires fits { ToldFits 12 told }
+    requires fits { ToldFits op_lock told }
     ensures { (n : ℕ) (s : CoreState) → IfOk result (λ r. carried n s state.old (both_refused state.old current both locker.now told) ≡ (r.0, r.1, [], state.new, s)) }
 {
     if advances(told.status()) {
@@ -158,9 +160,9 @@ fn lock_row(number: u64, above: &StateidRow, opener: u64, owner: u64) -> Stateid
             opener,
         },
         standing: Standing {
-            seqid: 1,
-            access: 0,
-            deny: 0,
+            seqid: FIRST_SEQID,
+            access: SHARE_NONE,
+            deny: SHARE_NONE,
             closed: false,
         },
     }
@@ -213,7 +215,7 @@ fn join_new(
     ensures leaves { OnOk result (Leaves 1 core.old core.new) }
 {
     let number = u64::from(drawn(core));
-    let told = Told::State(stateid_of(core, number, 1));
+    let told = Told::State(stateid_of(core, number, FIRST_SEQID));
     count_both(alloc, state, both, locker, &told)?;
     let owner = opener_number(state, locker);
     enter(alloc, state, number, above, both.number, owner)?;
@@ -236,7 +238,7 @@ fn join_more(
     ensures done { (n : ℕ) (current : Option ℕ) → IfOk result (λ told. carried n core.now state.old (joined_more core.now state.old current both locker.now lock.now) ≡ (told, current, [], state.new, core.now)) }
 {
     let told = state_told(core, lock);
-    stand(state, lock, 0, 0, false);
+    stand(state, lock, SHARE_NONE, SHARE_NONE, false);
     count_both(alloc, state, both, locker, &told)?;
     Ok(told)
 }
@@ -488,8 +490,8 @@ fn fail_open(
     status: NfsStatus,
 ) -> Result<Done, AllocError>
     requires owner { IsSome (find (is_owner turn.now.both.number) state.old.owners) }
-    requires fits { ToldFits 12 (Told.Ended status) }
-    ensures done { (n : ℕ) (s : CoreState) → IfOk result (λ r. carried n s state.old (failed state.old turn.now.asked.current turn.now.both.number turn.now.both.seqids 12 turn.now.both.open_seqid status) ≡ (r.0, r.1, r.2, state.new, s)) }
+    requires fits { ToldFits op_lock (Told.Ended status) }
+    ensures done { (n : ℕ) (s : CoreState) → IfOk result (λ r. carried n s state.old (open_failed state.old turn.now.asked.current turn.now.both status) ≡ (r.0, r.1, r.2, state.new, s)) }
 {
     let both = turn.both;
     let found = Found {

@@ -9,6 +9,7 @@ ghost use Rattle.xl_nfs_locks.specs.Locks.{access_above, lock_answered, lock_by_
 ghost use Rattle.xl_nfs_locks.specs.Ranges.{last_byte};
 ghost use Rattle.xl_nfs_opens.specs.Closing.{standing_fault, IsChecked};
 ghost use Rattle.xl_nfs_opens.specs.Opens.{is_granted};
+ghost use Rattle.xl_nfs_opens.specs.Operations.{op_lock};
 ghost use Rattle.xl_nfs_opens.specs.Plans.{carried};
 ghost use Rattle.xl_nfs_opens.specs.Results.{ToldFits};
 ghost use Rattle.xl_plan.specs.Budgets.{IsReady};
@@ -22,8 +23,8 @@ use xl_base::Keeper;
 use xl_core::{Answer, Core};
 use xl_nfs::{KnownLocker, LockArgs, LockType, NfsStatus, operation};
 use xl_nfs_opens::{
-    Checked, Done, Found, Opener, Told, asked, check, count_told, ended_as, fail, finish,
-    next_seqids, opener_by, renew_for, repeat, standing_fault, state_client,
+    Checked, Done, Found, Opener, SHARE_NONE, Told, asked, check, count_told, ended_as, fail,
+    finish, next_seqids, opener_by, renew_for, repeat, standing_fault, state_client,
 };
 use xl_nfs_state::{Holder, NfsState, OwnerKind};
 
@@ -55,7 +56,7 @@ fn refuse(
     told: Told,
 ) -> Result<(Told, Option<u32>), AllocError>
     requires there { IsSome (find (is_owner turn.now.found.owner) state.old.owners) }
-    requires fits { ToldFits 12 told }
+    requires fits { ToldFits op_lock told }
     ensures { (n : ℕ) (s : CoreState) → IfOk result (λ r. carried n s state.old (lock_refused state.old turn.now.asked.current turn.now.found.owner turn.now.found.seqids turn.now.asked.known.now.seqid told) ≡ (r.0, r.1, [], state.new, s)) }
 {
     let seqid = turn.asked.known.seqid;
@@ -92,7 +93,8 @@ fn lock_answered(
     let found = &turn.found;
     let confirmed = found.seqids.confirmed;
     let next = next_seqids(operation::LOCK, turn.asked.known.seqid, confirmed, None);
-    let told = finish(alloc, state, core, found, next, (0, 0, false))?;
+    let rights = (SHARE_NONE, SHARE_NONE, false);
+    let told = finish(alloc, state, core, found, next, rights)?;
     Ok((told, turn.asked.current))
 }
 
@@ -127,15 +129,15 @@ fn access_above(state: &NfsState, holder: Holder) -> u32
     ensures { result ≡ access_above state.now holder }
 {
     let Holder::Lock { under, .. } = holder else {
-        return 0;
+        return SHARE_NONE;
     };
     match state.find_stateid(under) {
         Some(open) => open.standing.access,
-        None => 0,
+        None => SHARE_NONE,
     }
 }
 
-/// The last byte, or the first check that fails: the range, and the open's access.
+/// The last byte of the range, if it has one and the open's access allows the lock; else the first check that fails.
 pub(crate) fn lock_end(kind: LockType, access: u32, offset: u64, len: u64) -> Result<u64, NfsStatus>
     ensures value { result ≡ lock_end kind access (last_byte offset len) }
     ensures ends { IfOk result (λ last. offset ≤ last) }
@@ -143,11 +145,10 @@ pub(crate) fn lock_end(kind: LockType, access: u32, offset: u64, len: u64) -> Re
     let Some(last) = last_byte(offset, len) else {
         return Err(NfsStatus::Inval);
     };
-    if may_lock(kind, access) {
-        Ok(last)
-    } else {
-        Err(NfsStatus::OpenMode)
+    if !may_lock(kind, access) {
+        return Err(NfsStatus::OpenMode);
     }
+    Ok(last)
 }
 
 /// LOCK, once its range and the open's access are checked.

@@ -3,6 +3,7 @@ ghost use Rattle.std.specs.Prelude.{◌≡◌, ◌≤◌, IfSome};
 ghost use Rattle.xl_nfs_locks.specs.Ranges.{is_exclusive, last_byte, length_of, may_lock};
 
 use xl_nfs::LockType;
+use xl_nfs_opens::{SHARE_BOTH, SHARE_READ, SHARE_WRITE};
 
 /// The last byte of a range, if the length names one: all ones reaches the last byte that there is.
 #[tactic(auto, unfolding(crate::specs::Ranges::last_byte))]
@@ -43,8 +44,8 @@ pub(crate) fn may_lock(kind: LockType, access: u32) -> bool
     ensures { result ≡ may_lock kind access }
 {
     if is_exclusive(kind) {
-        access == 2 || access == 3
+        access == SHARE_WRITE || access == SHARE_BOTH
     } else {
-        access == 1 || access == 3
+        access == SHARE_READ || access == SHARE_BOTH
     }
 }

@@ -16,7 +16,7 @@ use std::alloc::{AllocError, Global};
 use xl_base::{Keeper, Sequence};
 use xl_core::{Answer, Core, number_in};
 use xl_nfs::{LockTestArgs, NfsStatus};
-use xl_nfs_opens::{Done, Opener, Told, asked, client_in, ended_as, renew_for};
+use xl_nfs_opens::{Done, Opener, ROOT, Told, asked, client_in, ended_as, renew_for};
 use xl_nfs_state::{ClientRow, NfsState, OwnerKind};
 
 /// A lock owner of this client.
@@ -89,7 +89,7 @@ fn test_at<K: Keeper>(
     let Some(at) = current else {
         return Ok(ended_as(alloc, NfsStatus::NoFileHandle, current));
     };
-    if at == 0 {
+    if at == ROOT {
         return Ok(ended_as(alloc, NfsStatus::IsDir, current));
     }
     let Some(row) = client_in(state, core, args.owner.clientid) else {

@@ -18,8 +18,8 @@ use xl_base::Keeper;
 use xl_core::{Answer, Core};
 use xl_nfs::{NfsStatus, UnlockArgs, operation};
 use xl_nfs_opens::{
-    Checked, Done, Found, Opener, Told, answer_status, asked, check, ended_as, fail, finish,
-    next_seqids, opener_by, renew_for, repeat, standing_fault, state_client, unlock_ask,
+    Checked, Done, Found, Opener, SHARE_NONE, Told, answer_status, asked, check, ended_as, fail,
+    finish, next_seqids, opener_by, renew_for, repeat, standing_fault, state_client, unlock_ask,
 };
 use xl_nfs_state::{NfsState, OwnerKind};
 
@@ -71,7 +71,14 @@ fn unlocked_as(
         return Ok((done.0, done.1));
     }
     let next = next_seqids(op, seqid, found.seqids.confirmed, None);
-    let told = finish(alloc, state, core, found, next, (0, 0, false))?;
+    let told = finish(
+        alloc,
+        state,
+        core,
+        found,
+        next,
+        (SHARE_NONE, SHARE_NONE, false),
+    )?;
     Ok((told, turn.current))
 }
 
