@@ -8,6 +8,7 @@ use Rattle.std.specs.Prelude.{IsSome, bytes_eq, if◌then◌else◌}
 use Rattle.xl_nfs.specs.declared.status.NfsStatus.{NfsStatus}
 use Rattle.xl_base.specs.Stable.{Stable}
 use Rattle.xl_nfs.specs.Clients.{SetClientIdArgsItem}
+use Rattle.xl_nfs.specs.declared.clients.ClientConfirm.{ClientConfirm}
 use Rattle.xl_nfs.specs.declared.status.NfsStatus.TheVariants as statuses
 use Rattle.xl_nfs_state.specs.State.{NfsLists, is_client, is_client_named, without_client}
 use Rattle.xl_names.specs.declared.name.Name.TheVariants.{NfsParty}
@@ -16,9 +17,9 @@ use Rattle.xl_nfs_state.specs.declared.client.ClientRow.{ClientRow}
 use Rattle.xl_core.specs.Deeds.{Deed, Renews, all_done, all_told_of}
 use Rattle.xl_core.specs.State.{CoreState}
 use Rattle.xl_core.specs.declared.ask.Effect.{Effect}
-use Rattle.xl_front_nfs.specs.Clients.{renew_found, renew_number, renew, number_kept, numbers, draws, has_room, record_end, set_under, set_by, set_beside, confirm_of, ends, come, come_again, confirm_over, confirm_beside, confirm_held, confirmed_by}
+use Rattle.xl_front_nfs.specs.Clients.{renew_found, renew_number, renew, number_kept, numbers, draws, has_room, record_end, set_under, set_by, set_beside, confirm_of, ends, come, come_again, confirm_over, confirm_beside, confirm_held, confirmed_by, confirm_found, confirm_number, set_client_id_confirm}
 use Rattle.xl_core.specs.Ids.{number_in}
-use Rattle.xl_nfs_opens.specs.Plans.{carried}
+use Rattle.xl_nfs_opens.specs.Plans.{Outcome, carried}
 use Rattle.xl_nfs_opens.specs.declared.told.Told.TheVariants.{Ended, Client}
 
 pub renew_done : (n : ℕ) (s new : CoreState) (l : NfsLists) (current : Option ℕ) (clientid number : ℕ) (row : ClientRow) (id : List ℕ) → Some number ≡ number_in s clientid → Some row ≡ find (is_client number true) l.clients
@@ -126,3 +127,11 @@ held_done n s new l current number verifier row id status found ends same done t
 pub confirmed_there : (verifier : List ℕ) (o : Option ClientRow) (row : ClientRow) → Some row ≡ confirmed_by verifier o → IsSome o
 confirmed_there verifier None row e = absurd (true≢false (ap is_some e))
 confirmed_there verifier (Some r) row e = refl
+
+-- a clientid of this start, by the record that the verifier confirms
+pub confirm_done : (n : ℕ) (s : CoreState) (l : NfsLists) (current : Option ℕ) (a : ClientConfirm) (number : ℕ) (row : Option ClientRow) (r : Outcome) → Some number ≡ number_in s a.clientid → row ≡ confirmed_by a.verifier (find (is_client number false) l.clients)
+    → carried n s l (confirm_found s l current number a.verifier row) ≡ r → carried n s l (set_client_id_confirm s l current a) ≡ r
+unfolding set_client_id_confirm
+confirm_done n s l current a number row r named is e =
+    ap (λ (o : Option ℕ). carried n s l (confirm_number s l current a.verifier o)) (sym named)
+    ∙ ap (λ (o : Option ClientRow). carried n s l (confirm_found s l current number a.verifier o)) (sym is) ∙ e

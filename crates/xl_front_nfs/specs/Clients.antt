@@ -19,18 +19,21 @@ use Rattle.xl_core.specs.Leases.{moment_after}
 use Rattle.xl_core.specs.State.{CoreState}
 use Rattle.xl_core.specs.Ids.{id_of, number_in}
 use Rattle.xl_plan.specs.Plans.{Tells, Does}
+use Rattle.xl_nfs_opens.specs.Checks.{found}
 use Rattle.xl_nfs_opens.specs.Plans.{Plan}
 use Rattle.xl_nfs_opens.specs.declared.told.Told.TheVariants.{Ended, Client}
+
+-- there is no such client
+abbrev pub stale : Option ℕ → Plan
+stale current = Tells (Ended StaleClientId, current)
 
 -- ---- RENEW (16.28)
 
 abbrev pub renew_found : NfsLists → Option ℕ → Option ClientRow → Plan
-renew_found l current None = Tells (Ended StaleClientId, current)
-renew_found l current (Some r) = Does (Renews r.id ∷ []) l (Ended Ok, current)
+renew_found l current client = found client (stale current) (λ r. Does (Renews r.id ∷ []) l (Ended Ok, current))
 
 abbrev pub renew_number : NfsLists → Option ℕ → Option ℕ → Plan
-renew_number l current None = Tells (Ended StaleClientId, current)
-renew_number l current (Some number) = renew_found l current (find (is_client number true) l.clients)
+renew_number l current number = found number (stale current) (λ number. renew_found l current (find (is_client number true) l.clients))
 
 unfoldable pub renew : CoreState → NfsLists → Option ℕ → ℕ → Plan
 renew s l current clientid = renew_number l current (number_in s clientid)
@@ -128,7 +131,8 @@ come l number r = with_row (without_client number l) (confirmed_row number r)
 abbrev pub come_again : NfsLists → ℕ → ClientRow → NfsLists
 come_again l number r = with_clients l (changed (is_client number true) (with_details r.details) l.clients)
 
--- of another client of the same id string all goes (NFS-12)
+-- By the confirmed record of the same id string: there is none, it is of this clientid, or it is of another client, of
+-- which all goes (NFS-12).
 abbrev pub confirm_over : CoreState → NfsLists → Option ℕ → ℕ → ClientRow → Option ClientRow → Plan
 confirm_over s l current number r None = Does (Renews r.id ∷ []) (come l number r) (Ended Ok, current)
 confirm_over s l current number r (Some o) =
@@ -140,8 +144,8 @@ confirm_beside s l current number r = confirm_over s l current number r (find (i
 
 -- a confirmed client is named, and its lease runs, whether this verifier is the one that confirmed it or not (NFS-13)
 abbrev pub confirm_held : NfsLists → Option ℕ → List ℕ → Option ClientRow → Plan
-confirm_held l current verifier None = Tells (Ended StaleClientId, current)
-confirm_held l current verifier (Some r) = Does (Renews r.id ∷ []) l (Ended (if bytes_eq r.details.confirm verifier then Ok else StaleClientId), current)
+confirm_held l current verifier client =
+    found client (stale current) (λ r. Does (Renews r.id ∷ []) l (Ended (if bytes_eq r.details.confirm verifier then Ok else StaleClientId), current))
 
 -- the record, if this verifier confirms it
 abbrev pub confirmed_by : List ℕ → Option ClientRow → Option ClientRow
@@ -150,12 +154,10 @@ confirmed_by verifier (Some r) = if bytes_eq r.details.confirm verifier then Som
 
 -- an unconfirmed record that is confirmed becomes the confirmed one (NFS-12)
 abbrev pub confirm_found : CoreState → NfsLists → Option ℕ → ℕ → List ℕ → Option ClientRow → Plan
-confirm_found s l current number verifier None = confirm_held l current verifier (find (is_client number true) l.clients)
-confirm_found s l current number verifier (Some r) = confirm_beside s (without_number number l) current number r
+confirm_found s l current number verifier unconfirmed = found unconfirmed (confirm_held l current verifier (find (is_client number true) l.clients)) (confirm_beside s (without_number number l) current number)
 
 abbrev pub confirm_number : CoreState → NfsLists → Option ℕ → List ℕ → Option ℕ → Plan
-confirm_number s l current verifier None = Tells (Ended StaleClientId, current)
-confirm_number s l current verifier (Some number) = confirm_found s l current number verifier (confirmed_by verifier (find (is_client number false) l.clients))
+confirm_number s l current verifier number = found number (stale current) (λ number. confirm_found s l current number verifier (confirmed_by verifier (find (is_client number false) l.clients)))
 
 unfoldable pub set_client_id_confirm : CoreState → NfsLists → Option ℕ → ClientConfirm → Plan
 set_client_id_confirm s l current a = confirm_number s l current a.verifier (number_in s a.clientid)
