@@ -14,3 +14,4 @@ pub mod OwnLaws
 pub mod PlanLaws
 pub mod StatusLaws
 pub mod LeftLaws
+pub mod AsToldLaws

@@ -13,3 +13,5 @@ pub mod Answers
 pub mod FrontNlm
 pub mod Statuses
 pub mod Left
+pub mod Asking
+pub mod AsTold

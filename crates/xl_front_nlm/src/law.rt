@@ -7,7 +7,7 @@ ghost use Rattle.xl_matrix.specs.declared.claim.Claim.{Claim};
 ghost use Rattle.xl_matrix.specs.declared.claim.Extent.TheVariants.{Bytes};
 ghost use Rattle.xl_matrix.specs.declared.claim.What.TheVariants.{Range};
 ghost use Rattle.xl_names.specs.declared.name.Name.{Name};
-ghost use Rattle.xl_nlm.specs.Items.{CallItem, ResItem};
+ghost use Rattle.xl_nlm.specs.Items.{CallItem, ResItem, ShareArgsItem};
 ghost use Rattle.xl_nlm.specs.declared.item.NlmStatus.{NlmStatus};
 ghost use Rattle.xl_nlm.specs.Replies.{res, ResFits};
 ghost use Rattle.xl_programs.specs.Programs.{RequestItem};
@@ -24,15 +24,19 @@ ghost use Rattle.xl_core.specs.declared.ask.Effect.{Effect};
 ghost use Rattle.xl_core.specs.declared.ask.Effect.TheVariants.{Served};
 ghost use Rattle.xl_plan.specs.Plans.{AllAt};
 ghost use Rattle.xl_front_nlm.specs.Answers.{is_granted, refuses, called_deeds, nlm_called};
+ghost use Rattle.xl_front_nlm.specs.Aims.{exported};
+ghost use Rattle.xl_front_nlm.specs.AsTold.{AreAsTold, IsAsTold};
 ghost use Rattle.xl_front_nlm.specs.Asks.{refusal_ask};
 ghost use Rattle.xl_front_nlm.specs.FrontNlm.{nlm_client, nlm_deeds, nlm_reply, nlm_step};
 ghost use Rattle.xl_front_nlm.specs.Grants.{grant_of, address_of, call_of, shown, shown_deeds};
 ghost use Rattle.xl_front_nlm.specs.Hosts.{rooms};
+ghost use Rattle.xl_front_nlm.specs.Results.{status_of};
 ghost use Rattle.xl_front_nlm.specs.Serving.{served};
 ghost use Rattle.xl_front_nlm.specs.State.{FrontState, awaited};
 ghost use Rattle.xl_front_nlm.specs.Statuses.{status_told, IsStatusDue};
 ghost use Rattle.xl_front_nlm.specs.declared.call.GrantedCall.{GrantedCall};
 ghost use Rattle.xl_front_nlm.specs.declared.grant.Grant.{Grant};
+ghost use Rattle.xl_front_nlm.specs.declared.outcome.Outcome.{Outcome};
 
 /// A request leaves the core as its deeds do, and tells of what they tell of; so does the end of a call of the server's,
 /// and what telling of an effect leaves is what its deeds leave.
@@ -97,4 +101,14 @@ pub fn refused_locks_are_unlocked()
     ensures lost { (f : FrontState) (s : CoreState) (number : ℕ) (bytes : Option (List ℕ)) → refuses bytes ≡ false → called_deeds f s number bytes ≡ [] }
     ensures unknown { (f : FrontState) (s : CoreState) (number : ℕ) (bytes : Option (List ℕ)) → find (λ c. c.number == number) f.calls ≡ None → called_deeds f s number bytes ≡ [] }
     ensures read { (xid : ℕ) (r : ResItem) (rest : List ℕ) → UnsignedFits xid → ResFits r → refuses (Some (reply xid Success ++ (res.spell r ++ rest))) ≡ not (is_granted r.stat) }
+{}
+
+/// The reply to a request tells what became of its call (XNFS C702, 14): a LOCK or NM_LOCK that is GRANTED holds its bytes, and after
+/// an UNLOCK that is its owner has none of them; a SHARE that is GRANTED is its owner's, and an UNSHARE leaves none; a CANCEL that is
+/// GRANTED takes out who waits for just that lock, and a FREE_ALL all of its caller's. A machine that answers a SHARE that it is GRANTED
+/// and keeps nothing tells it wrongly.
+#[tactic(auto, using(crate::proofs::AsToldLaws::request_told, crate::proofs::AsToldLaws::share_dropped_is))]
+pub fn replies_are_as_told()
+    ensures told { (n : ℕ) (exports : Exports) (f : FrontState) (s : CoreState) (conn : ℕ) (r : RequestItem) → IsGood s → AreAsTold exports f s conn r (sent_to conn (nlm_reply exports f s (all_done n s (nlm_deeds n exports f s r)).names r (answers_of n s (nlm_deeds n exports f s r)))) (all_done n s (nlm_deeds n exports f s r)) }
+    ensures dropped { (count : ℕ) (f : FrontState) (s t : CoreState) (a : ShareArgsItem) (outcome : Outcome) (file : ℕ) → exported count a.fh ≡ Some file → status_of outcome ≡ NlmStatus.Granted → t.claims ≡ [] → IsAsTold count f s (CallItem.Share a) outcome t → ⊥ }
 {}

@@ -1,4 +1,4 @@
--- Each ask of a request of NLM is the request's.
+-- Each ask of a message is the message's.
 use Rattle.std.proofs.Common.{◌≡◌, ℕ, Bool, true, false, List, length, Option, Some, None, Result, Ok, Err, refl, sym, ap, subst, ◌∙◌}
 use Rattle.std.specs.Prelude.{if◌then◌else◌}
 use Rattle.std.specs.List.{AllByRecursion}
@@ -28,10 +28,13 @@ use Rattle.xl_front_nlm.specs.State.{FrontState}
 use Rattle.xl_front_nlm.specs.declared.aim.Aim.{Aim}
 use Rattle.xl_front_nlm.specs.declared.outcome.Outcome.{Outcome}
 use Rattle.xl_front_nlm.specs.declared.outcome.Outcome.TheVariants.{Waits}
-use Rattle.xl_house.specs.Asking.{handle_of, reclaims, IsAskFor, IsAskingBy, IsAsking}
+use Rattle.xl_front_nlm.specs.Asking.{handle_of, reclaims, IsAskFor}
+use Rattle.xl_smb_laws.specs.AskedMessages.{AreMessageAsks}
+use Rattle.xl_smb_laws.proofs.AskedMessageLaws.{message_asks}
+use Rattle.xl_house.specs.Asking.{AreNlmAsks, AreSmbAsks, IsAskingBy, IsAsking}
 use Rattle.xl_house.specs.Lawful.{Always}
 use Rattle.xl_house.specs.Own.{program_own, record_own, message_own}
-use Rattle.xl_house.specs.State.{Whole, as_found, start_of}
+use Rattle.xl_house.specs.State.{Whole, as_found, nfs_opens, start_of}
 use Rattle.xl_house.specs.declared.layers.Fronts.{Fronts}
 use Rattle.xl_house.proofs.EachEntry.{always}
 
@@ -103,12 +106,22 @@ program_right : (n : ℕ) (exports : Exports) (f : Fronts) (s : CoreState) (conn
 program_right n exports f s conn r program call is e =
     subst (λ (p : Program). Rights exports f call (program_own n exports f s conn r p).deeds) (sym is) (call_right n (length exports.files) f.nlm s (call_in r) call e)
 
-asking_by : (n : ℕ) (s : Whole) (event : Event) → IsAskingBy n s event
-asking_by n s (Message number bytes) = λ rpc r asked nlm call e.
+nlm_asking : (n : ℕ) (s : Whole) (number : ℕ) (bytes : List ℕ) → AreNlmAsks n s number bytes
+nlm_asking n s number bytes = λ rpc r asked nlm call e.
     let found = as_found s in
     subst (λ (kind : Option Kind). Rights s.exports s.front call (message_own n s.exports s.front found.core kind number bytes).deeds) (sym rpc)
     (subst (λ (incoming : IncomingItem). Rights s.exports s.front call (record_own n s.exports s.front found.core number incoming).deeds) (sym asked)
     (program_right n s.exports s.front found.core number r r.program call nlm e))
+
+-- of SMB
+smb_asking : (n : ℕ) (s : Whole) (number : ℕ) (bytes : List ℕ) → AreSmbAsks n s number bytes
+smb_asking n s number bytes = λ packet.
+    let core = (as_found s).core in
+    subst (λ (kind : Option Kind). AreMessageAsks s.exports.files s.front.smb.state core number bytes (message_own n s.exports s.front core kind number bytes).deeds) (sym packet)
+    (message_asks n s.exports (nfs_opens s.front) s.front.smb core number bytes)
+
+asking_by : (n : ℕ) (s : Whole) (event : Event) → IsAskingBy n s event
+asking_by n s (Message number bytes) = (nlm_asking n s number bytes, smb_asking n s number bytes)
 asking_by n s event = tt
 
 pub always_asking : (head : Head) (es : List Entry) → Always IsAsking (start_of head) es

@@ -53,6 +53,7 @@ use Rattle.xl_core.proofs.WayAsks.{ask_recalls}
 use Rattle.xl_core.proofs.WayDeeds.{next_is}
 use Rattle.xl_core.proofs.WayLaws.{NoWay, Begins, AsksNoCache, known_no_cache, unbroken, way_is, way_runs_at_once}
 use Rattle.xl_house.specs.Breaking.{kept_by, IsInTheWay, Blocks, Covers, IsBroken, AreBroken, IsFirstOf, HasBegun, IsBrokenBy}
+use Rattle.xl_house.proofs.InTheWayLaws.{first_in_way}
 use Rattle.xl_house.proofs.WishedLaws.{found_alone, same_found}
 
 abbrev Break : Type 0
@@ -214,8 +215,10 @@ plea_parts : (left : Rooms) (s : CoreState) (a : Ask) → ((plea_of left s a).re
 unfolding plea_of
 plea_parts left s a = (refl, refl)
 
-has_begun : (left : Rooms) (s : CoreState) (a : Ask) → HasBegun left s a
-has_begun left s a c cache first fresh hasty clear here way = by (asked_claims a (asked_whats a.act) s.names) refl first where
+-- what is in the way of the first of the ask's claims
+first_begun : (left : Rooms) (s : CoreState) (a : Ask) (c cache : Claim) → IsFirstOf (asked_claims a (asked_whats a.act) s.names) c → a.reclaim ≡ false → a.awaits ≡ false → is_stopped s.waiters s c ≡ false
+    → IsIn cache (way left s a).1.claims → is_obstacle c (way left s a).1.claims cache ≡ true → is_running cache.what ≡ true
+first_begun left s a c cache first fresh hasty clear here way = by (asked_claims a (asked_whats a.act) s.names) refl first where
   by : (asked : List Claim) → asked_claims a (asked_whats a.act) s.names ≡ asked → slice_get asked 0 ≡ Some c → is_running cache.what ≡ true
   by [] e f = absurd cc
   by (d ∷ ds) e f =
@@ -226,6 +229,9 @@ has_begun left s a c cache first fresh hasty clear here way = by (asked_claims a
       let runs_there = subst (λ (xs : List Claim). all_run (made_way s.waiters p xs s).1.claims c ≡ true) (sym asks) runs in
       none_begins c cache (made_way s.waiters p (asked_claims a (asked_whats a.act) s.names) s).1.claims (unbroken (made_way s.waiters p (asked_claims a (asked_whats a.act) s.names) s).1.claims c runs_there) here way
 
+has_begun : (left : Rooms) (s : CoreState) (a : Ask) → HasBegun left s a
+has_begun left s a first c cache is fresh hasty clear among here stands = first_begun left s a first cache is fresh hasty clear here (first_in_way a s.names a.act first c is among (way left s a).1.claims cache stands)
+
 ask_is_broken : (n : ℕ) (left : Rooms) (s : CoreState) (a : Ask) → IsGood s → IsFit a → AreBroken s (way left s a).1 (IsFirstOf (asked_claims a (asked_whats a.act) s.names)) (ask n left s a).1
 ask_is_broken n left s a good fit cache to call here =
     way_is_broken (asked_claims a (asked_whats a.act) s.names) s (way left s a) good (asks_no_cache a s.names a.act) (ask_way left s a) cache to call
@@ -233,7 +239,7 @@ ask_is_broken n left s a good fit cache to call here =
 
 -- ---- a turn
 
-begun_before : (way : List Effect) (party : Party) (id : ℕ) (answer : Answer) (cache : Claim) (to : Option CacheKind) (call : Option ℕ) → IsIn (Begun cache to call) (way ++ Served party id answer ∷ []) → IsIn (Begun cache to call) way
+pub begun_before : (way : List Effect) (party : Party) (id : ℕ) (answer : Answer) (cache : Claim) (to : Option CacheKind) (call : Option ℕ) → IsIn (Begun cache to call) (way ++ Served party id answer ∷ []) → IsIn (Begun cache to call) way
 begun_before [] party id answer cache to call (inl e) = absurd cc
 begun_before [] party id answer cache to call (inr never) = never
 begun_before (effect ∷ way) party id answer cache to call (inl e) = inl e
@@ -358,6 +364,6 @@ uncaused_is s t asked cache to alone free broken = by broken.cause where
   ]
 
 -- one turns an ask away for a cache of which no break runs
-pub unbroken_is : (left : Rooms) (s : CoreState) (a : Ask) (c cache : Claim) → IsFirstOf (asked_claims a (asked_whats a.act) s.names) c → a.reclaim ≡ false → a.awaits ≡ false → is_stopped s.waiters s c ≡ false
-    → IsIn cache (way left s a).1.claims → is_obstacle c (way left s a).1.claims cache ≡ true → is_running cache.what ≡ false → HasBegun left s a → ⊥
-unbroken_is left s a c cache first fresh hasty clear here way idle begun = both_ways (is_running cache.what) idle (begun c cache first fresh hasty clear here way)
+pub unbroken_is : (left : Rooms) (s : CoreState) (a : Ask) (first c cache : Claim) → IsFirstOf (asked_claims a (asked_whats a.act) s.names) first → a.reclaim ≡ false → a.awaits ≡ false → is_stopped s.waiters s first ≡ false
+    → IsIn c (asked_claims a (asked_whats a.act) s.names) → IsIn cache (way left s a).1.claims → is_obstacle c (way left s a).1.claims cache ≡ true → is_running cache.what ≡ false → HasBegun left s a → ⊥
+unbroken_is left s a first c cache is fresh hasty clear among here way idle begun = both_ways (is_running cache.what) idle (begun first c cache is fresh hasty clear among here way)

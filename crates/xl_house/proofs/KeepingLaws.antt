@@ -83,7 +83,7 @@ same_held {kind} e held = subst (λ (x : List What). IsHeldOf kind x) (sym e) he
 
 -- ---- a break
 
-told_from : (b : Claim × Option CacheKind) (told : List Effect) → IsIn b (breaks_told told) → (call : Option ℕ) × IsIn (Begun b.0 b.1 call) told
+pub told_from : (b : Claim × Option CacheKind) (told : List Effect) → IsIn b (breaks_told told) → (call : Option ℕ) × IsIn (Begun b.0 b.1 call) told
 told_from b [] never = absurd never
 told_from b (Begun c to call ∷ told) (inl e) = (call, inl (λ i. Begun (e i).0 (e i).1 call))
 told_from b (Begun c to call ∷ told) (inr later) = let rest = told_from b told later in (rest.0, inr rest.1)
@@ -183,7 +183,7 @@ for_keeps_cache kinds answers.StoreFailed s file party kind good held = held
 
 -- ---- an ask, and a turn
 
-before_same : (n : ℕ) (left : Rooms) (s : CoreState) (a : Ask) → IsGood s → IsFit a → caches_of (before_wish n left s a).2.claims ≡ caches_of (way left s a).1.claims
+pub before_same : (n : ℕ) (left : Rooms) (s : CoreState) (a : Ask) → IsGood s → IsFit a → caches_of (before_wish n left s a).2.claims ≡ caches_of (way left s a).1.claims
 unfolding before_wish
 before_same n left s a good fit = decided_caches n left (way left s a).1 a (asked_way_good left s a good) fit.party
 

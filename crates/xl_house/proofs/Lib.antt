@@ -16,12 +16,17 @@ pub mod LawfulLaws
 pub mod SteadyLaws
 pub mod OwedLaws
 pub mod AskingLaws
+pub mod MeantLaws
 pub mod ReplyingLaws
 pub mod WishedLaws
+pub mod InTheWayLaws
 pub mod BreakingLaws
 pub mod KeepingLaws
 pub mod PartiesLaws
 pub mod EntryLaws
+pub mod NoticesLaws
+pub mod AnnouncedLaws
+pub mod NotifiedLaws
 pub mod ApartLaws
 pub mod PairedWaiterLaws
 pub mod OthersLaws

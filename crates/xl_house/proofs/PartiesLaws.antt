@@ -1,9 +1,9 @@
 -- What is held after a deed is held for a party that had, asked for or waited for something of its owner's there.
-use Rattle.std.proofs.Common.{◌≡◌, ℕ, Bool, true, false, inl, inr, Option, Some, None, List, [], ◌∷◌, map, refl, sym, ap, subst, ◌∙◌}
+use Rattle.std.proofs.Common.{◌≡◌, ℕ, Bool, true, false, inl, inr, Option, Some, None, List, [], ◌∷◌, ◌++◌, map, refl, sym, ap, subst, ◌∙◌}
 use Rattle.std.specs.Prelude.{not, if◌then◌else◌, IfSome, filter, find}
 use Rattle.std.specs.List.{AllByRecursion, filter_map}
 use Rattle.std.proofs.lemmas.Bool.{cases_Bool}
-use Rattle.xl_base.proofs.Members.{all_in, all_from}
+use Rattle.xl_base.proofs.Members.{all_in, all_from, in_append_right}
 use Rattle.xl_base.proofs.Searches.{in_filter_map_from}
 use Rattle.xl_base.specs.Lists.{IsIn}
 use Rattle.xl_base.specs.declared.event.Moment.{Moment}
@@ -34,7 +34,7 @@ use Rattle.xl_core.specs.Askers.{asked_whats, asked_claims, party_named, IsFit}
 use Rattle.xl_core.specs.BreakAnswers.{ack, client_of, with_rest}
 use Rattle.xl_core.specs.BreaksBegun.{breaks_begun, once_begun, once_broken, with_break}
 use Rattle.xl_core.specs.Decide.{way, before_wish, decided, does_wish, ask}
-use Rattle.xl_core.specs.Deeds.{Deed, Asks, GivesBack, Weakens, Acks, Cancels, Ends, Closes, Serves, Draws, Advances, Lapses, Renews, Expires, done, turned, IsFitDeed}
+use Rattle.xl_core.specs.Deeds.{Deed, Asks, GivesBack, Weakens, Acks, Cancels, Ends, Closes, Serves, Draws, Advances, Lapses, Renews, Expires, given, done, turned, IsFitDeed}
 use Rattle.xl_core.specs.Good.{IsGood}
 use Rattle.xl_core.specs.Judge.{all_granted, held_with}
 use Rattle.xl_core.specs.Leases.{moment_after}
@@ -45,6 +45,7 @@ use Rattle.xl_core.specs.declared.ask.Answer.{Answer}
 use Rattle.xl_core.specs.declared.ask.Answer.TheVariants as answers
 use Rattle.xl_core.specs.declared.ask.Ask.{Ask}
 use Rattle.xl_core.specs.declared.ask.Effect.{Effect}
+use Rattle.xl_core.specs.declared.ask.Effect.TheVariants.{Served}
 use Rattle.xl_core.proofs.ChangeLaws.{AskWay, Stays, Tests, Holds, Waits, Frees, Gives, decided_way}
 use Rattle.xl_core.proofs.GoodLaws.{Turned, IsMoved, Answers, Rests, IsFirst, asked_way_good, each_turn, once_answered}
 use Rattle.xl_core.proofs.SettleLaws.{once_cases}
@@ -206,8 +207,12 @@ ask_all P by n left s a good fit granted asked all = go (does_wish a.act) where
   go true = wished_all P by a.wish r.0 r.2 granted settled_so
   go false = settled_so
 
-turn_all : (P : Claim → Type 0) → GoesBy P → (left : Rooms) (s : CoreState) (turn : Turned) → IsFirst left s [] s.waiters turn → ((w : Waiter) (b : Claim) → IsIn w s.waiters → IsIn b w.asked → P b) → All P s.claims → All P turn.1.claims
-turn_all P by left s turn first waits all = go first.moved where
+-- what holds of the claims of whom the turn serves holds of all
+abbrev TurnAll : (Claim → Type 0) → CoreState → Turned → Type 0
+TurnAll P s turn = ((w : Waiter) (answer : Answer) (b : Claim) → IsIn w s.waiters → IsIn (Served w.party w.id answer) turn.0 → IsIn b w.asked → P b) → All P turn.1.claims
+
+turn_all : (P : Claim → Type 0) → GoesBy P → (left : Rooms) (s : CoreState) (turn : Turned) → IsFirst left s [] s.waiters turn → All P s.claims → TurnAll P s turn
+turn_all P by left s turn first all waits = go first.moved where
   w : Waiter
   w = first.waiter
 
@@ -220,8 +225,10 @@ turn_all P by left s turn first waits all = go first.moved where
   here : IsIn w s.waiters
   here = subst (λ (ws : List Waiter). IsIn w ws) (sym first.stood) (among_all first.before w first.behind)
 
-  its : All P asked
-  its = subst (λ (cs : List Claim). All P cs) first.asked (all_from P w.asked (λ b h. waits w b here h))
+  its : (answer : Answer) → turn.0 ≡ way.0 ++ Served w.party w.id answer ∷ [] → All P asked
+  its answer told =
+      let served = subst (λ (effects : List Effect). IsIn (Served w.party w.id answer) effects) (sym told) (in_append_right (Served w.party w.id answer) way.0 (Served w.party w.id answer ∷ []) (inl refl)) in
+      subst (λ (cs : List Claim). All P cs) first.asked (all_from P w.asked (λ b h. waits w answer b here served h))
 
   made_so : All P way.1.claims
   made_so = way_all P by w.asked s way (turn_way first.before s w) all
@@ -230,11 +237,11 @@ turn_all P by left s turn first waits all = go first.moved where
   go (Answers answer told new due pass clear) =
       let u = once_answered way.1 w asked answer in
       subst (λ (x : CoreState). All P x.claims) (sym new)
-      (wished_all P by w.wish answer u (λ c e. subst P (sym (pass c e).0) its.0) (once_cases (λ cs. All P cs) asked way.1.claims answer made_so (each_granted P by asked way.1.claims its made_so)))
+      (wished_all P by w.wish answer u (λ c e. subst P (sym (pass c e).0) (its answer told).0) (once_cases (λ cs. All P cs) asked way.1.claims answer made_so (each_granted P by asked way.1.claims (its answer told) made_so)))
   go (Rests e up) = subst (λ (x : Turned). All P x.1.claims) (sym e) made_so
 
-turned_all : (P : Claim → Type 0) (s : CoreState) (o : Option Turned) → All P s.claims → IfSome o (λ r. All P r.1.claims) → All P (turned s o).2.claims
-turned_all P s None all each = all
+turned_all : (P : Claim → Type 0) (s : CoreState) (o : Option Turned) → All P s.claims → IfSome o (TurnAll P s) → TurnAll P s ((turned s o).1, (turned s o).2)
+turned_all P s None all each = λ waits. all
 turned_all P s (Some r) all each = each
 
 -- ---- the others
@@ -259,7 +266,7 @@ lapsed_all P s cache (Some client) all = expired_all P s client all
 deed_all : (P : Claim → Type 0) → GoesBy P → (n : ℕ) (s : CoreState) (d : Deed) → IsGood s → IsFitDeed s d → ((b : Claim) → IsAskedBy n s d b → P b) → All P s.claims → All P (done n s d).claims
 unfolding give_back weaken ack cancel end_party close_open drawn advanced renew lapse
 deed_all P by n s (Asks left a) good fit asked all = ask_all P by n left s a good fit (λ c e. asked c (inr e)) (all_from P (asked_claims a (asked_whats a.act) s.names) (λ b h. asked b (inl h))) all
-deed_all P by n s (Serves left) good fit asked all = turned_all P s (settle n left s) all (each_turn n left s (λ r. All P r.1.claims) good (λ turn first. turn_all P by left s turn first (λ w b here h. asked b (w, here, h)) all))
+deed_all P by n s (Serves left) good fit asked all = turned_all P s (settle n left s) all (each_turn n left s (TurnAll P s) good (λ turn first. turn_all P by left s turn first all)) (λ w answer b here served h. asked b (w, answer, here, served, h))
 deed_all P by n s (GivesBack claim) good fit asked all = removed_all P claim s.claims all
 deed_all P by n s (Weakens share access deny) good fit asked all = changed_all P by share (Share access deny) s.claims (all_in P share s.claims all fit.0) all
 deed_all P by n s (Acks cache to) good fit asked all = rest_all P by cache to s.claims (all_in P cache s.claims all fit.0) all
@@ -292,3 +299,8 @@ deed_parties n s d good fit c here =
 pub for_nobody_is : (n : ℕ) (s : CoreState) (c : Claim) → s.claims ≡ [] → IsHeldFor n s Draws c → ⊥
 for_nobody_is n s c none (inl had) = subst (λ (cs : List Claim). IsIn had.0 cs) none had.1
 for_nobody_is n s c none (inr asked) = asked.1
+
+-- one serves nobody, and comes to hold a claim at a turn
+pub unserved_is : (n : ℕ) (left : Rooms) (s : CoreState) (c : Claim) → s.claims ≡ [] → (given n s (Serves left)).1 ≡ [] → IsHeldFor n s (Serves left) c → ⊥
+unserved_is n left s c none quiet (inl had) = subst (λ (cs : List Claim). IsIn had.0 cs) none had.1
+unserved_is n left s c none quiet (inr asked) = subst (λ (effects : List Effect). IsIn (Served asked.1.0.party asked.1.0.id asked.1.1) effects) quiet asked.1.3

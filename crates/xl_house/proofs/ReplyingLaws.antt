@@ -60,7 +60,7 @@ program_replied : (n : ℕ) (exports : Exports) (f : Fronts) (s : CoreState) (co
 program_replied n exports f s conn r Nlm = one_reply conn r.xid _ (nlm_begins _ f.nlm s _ r.xid (nlm.call_in r) _)
 program_replied n exports f s conn r Nfs = one_reply conn r.xid _ (nfs_begins n exports.files _ f.nfs s r.xid (nfs.call_in r))
 
-record_replied : (n : ℕ) (exports : Exports) (f : Fronts) (s : CoreState) (conn : ℕ) (incoming : IncomingItem) → IsRecordReplied conn incoming (record_own n exports f s conn incoming).replies
+pub record_replied : (n : ℕ) (exports : Exports) (f : Fronts) (s : CoreState) (conn : ℕ) (incoming : IncomingItem) → IsRecordReplied conn incoming (record_own n exports f s conn incoming).replies
 record_replied n exports f s conn Unanswered = refl
 record_replied n exports f s conn (Refused xid verdict) = one_reply conn xid (refusal_of xid verdict) (reply_begins xid verdict)
 record_replied n exports f s conn (Asked r) = program_replied n exports f s conn r r.program

@@ -70,11 +70,11 @@ AreBroken s t IsAsked told = (cache : Claim) (to : Option CacheKind) (call : Opt
 abbrev pub IsFirstOf : List Claim → Claim → Type 0
 IsFirstOf asked c = slice_get asked 0 ≡ Some c
 
--- Of the ask's claims: no cache in the way of the first is left without a break that runs, if nothing stops it for good, it is no
--- reclaim and it doesn't wait for the answers.
+-- No cache in the way of any of the ask's claims is left without a break that runs, if nothing stops the first of these for good,
+-- the ask is no reclaim, and it doesn't wait for the answers.
 abbrev pub HasBegun : Rooms → CoreState → Ask → Type 0
-HasBegun left s a = (c cache : Claim) → IsFirstOf (asked_claims a (asked_whats a.act) s.names) c → a.reclaim ≡ false → a.awaits ≡ false → is_stopped s.waiters s c ≡ false
-    → IsIn cache (way left s a).1.claims → is_obstacle c (way left s a).1.claims cache ≡ true → is_running cache.what ≡ true
+HasBegun left s a = (first c cache : Claim) → IsFirstOf (asked_claims a (asked_whats a.act) s.names) first → a.reclaim ≡ false → a.awaits ≡ false → is_stopped s.waiters s first ≡ false
+    → IsIn c (asked_claims a (asked_whats a.act) s.names) → IsIn cache (way left s a).1.claims → is_obstacle c (way left s a).1.claims cache ≡ true → is_running cache.what ≡ true
 
 -- an ask for one share or one range that is answered with a cache is so while the break of that runs
 abbrev pub IsRecalled : ℕ → Rooms → CoreState → Ask → Type 0

@@ -9,7 +9,10 @@ pub mod Timed
 pub mod Lawful
 pub mod Owed
 pub mod Asking
+pub mod Meant
 pub mod Replying
+pub mod Notices
+pub mod Notified
 pub mod Entries
 pub mod Fitting
 pub mod Steady

@@ -13,7 +13,9 @@ ghost use Rattle.xl_house.specs.Steady.{IsSteady};
 ghost use Rattle.xl_house.specs.Entries.{IsWishing, IsBreaking, IsKeeping, IsPartied};
 ghost use Rattle.xl_house.specs.Owed.{IsOwed};
 ghost use Rattle.xl_house.specs.Replying.{IsReplied};
+ghost use Rattle.xl_house.specs.Notified.{IsNotified};
 ghost use Rattle.xl_house.specs.Asking.{IsAsking};
+ghost use Rattle.xl_house.specs.Meant.{IsMeant};
 ghost use Rattle.xl_house.specs.Free.{IsFree, AlwaysFree};
 ghost use Rattle.xl_house.specs.Housed.{Housed, is_spoiled, Holds, Stands};
 ghost use Rattle.xl_house.specs.Journals.{replay, IsLegal, IsOrderly, entry, is_restart, most_entries};
@@ -273,11 +275,15 @@ impl<K: Keeper> House<K> {
     /// - complete: what nothing held stands against was granted, and what was due by a reading of the clock was done;
     /// - fit: each deed is one that may be done where it is done;
     /// - wished: a wish got one of its choices, the least kind with one of them and what its party had, or nothing;
-    /// - asking: an ask of a request of NLM is on the file that it names, a reclaim if it says so, and within the room for hosts;
+    /// - asking: an ask of a request of NLM is on the file that it names, a reclaim if it says so, and within the room for hosts; those
+    ///   of a LOCK and a CREATE of SMB are of the open and on the file that they name;
     /// - owed: a grant that its client refuses is given up;
+    /// - meant: what the reply to a request of NLM, or to a LOCK, CREATE or CLOSE of SMB, says is done is done;
     /// - caused: the deeds are those that the event may cause;
     /// - replied: each call of ONC RPC has one reply, on its own connection and with its own xid;
     /// - told: what is sent follows from the deeds and their answers;
+    /// - notified: each effect of an entry is told by one message to whom it is due, each break that begins has its effect, and besides
+    ///   only the message is replied to;
     /// - served: each request of SMB that waits has its waiter and each waiter its request, and a granted one has its open;
     /// - orderly: nothing is sent to a connection before its opening or after its end;
     /// - most: it has at most 1,048,576 entries.
@@ -300,9 +306,11 @@ impl<K: Keeper> House<K> {
         ensures wished { Always IsWishing (start_of result.0.head) result.0.entries }
         ensures asking { Always IsAsking (start_of result.0.head) result.0.entries }
         ensures owed { Always IsOwed (start_of result.0.head) result.0.entries }
+        ensures meant { Always IsMeant (start_of result.0.head) result.0.entries }
         ensures caused { Always IsCaused (start_of result.0.head) result.0.entries }
         ensures replied { Always IsReplied (start_of result.0.head) result.0.entries }
         ensures told { Always IsTold (start_of result.0.head) result.0.entries }
+        ensures notified { Always IsNotified (start_of result.0.head) result.0.entries }
         ensures served { Always IsServed (start_of result.0.head) result.0.entries }
         ensures orderly { IsOrderly [] 0 result.0.entries }
         ensures most { length result.0.entries ≤ most_entries }

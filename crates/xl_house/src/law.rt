@@ -6,9 +6,11 @@ ghost use Rattle.xl_base.specs.declared.event.Event.TheVariants.{Message, Tick, 
 ghost use Rattle.xl_base.specs.declared.event.Moment.{Moment};
 ghost use Rattle.xl_base.specs.declared.event.Out.{Out};
 ghost use Rattle.xl_base.specs.declared.journal.Entry.{Entry};
+ghost use Rattle.xl_base.specs.declared.journal.Exports.{Exports};
 ghost use Rattle.xl_base.specs.declared.name.Owner.{Owner};
 ghost use Rattle.xl_base.specs.declared.name.Party.{Party};
 ghost use Rattle.xl_cache.specs.BreakPlans.{is_running, is_obstacle};
+ghost use Rattle.xl_matrix.specs.declared.claim.Break.{Break};
 ghost use Rattle.xl_matrix.specs.declared.claim.CacheKind.{CacheKind};
 ghost use Rattle.xl_matrix.specs.declared.claim.Claim.{Claim};
 ghost use Rattle.xl_matrix.specs.declared.claim.Extent.{Extent};
@@ -16,7 +18,7 @@ ghost use Rattle.xl_matrix.specs.declared.claim.Rwd.{Rwd};
 ghost use Rattle.xl_wait.specs.declared.waiter.Rooms.{Rooms};
 ghost use Rattle.xl_wait.specs.declared.waiter.Waiter.{Waiter};
 ghost use Rattle.xl_core.specs.BreakAnswers.{may_be_left};
-ghost use Rattle.xl_core.specs.Deeds.{Asks, Weakens, Acks, Draws};
+ghost use Rattle.xl_core.specs.Deeds.{Asks, Weakens, Acks, Serves, Draws, given};
 ghost use Rattle.xl_core.specs.Leases.{Lease, ended};
 ghost use Rattle.xl_core.specs.Settle.{settle, share_has, waits_as};
 ghost use Rattle.xl_core.specs.Smallest.{all_room, smallest_lock};
@@ -26,7 +28,11 @@ ghost use Rattle.xl_core.specs.declared.ask.Answer.{Answer};
 ghost use Rattle.xl_core.specs.declared.ask.Ask.{Ask};
 ghost use Rattle.xl_core.specs.declared.ask.Effect.{Effect};
 ghost use Rattle.xl_core.specs.declared.lease.Times.{Times};
-ghost use Rattle.xl_smb_state.specs.State.{open_of, Lists};
+ghost use Rattle.xl_smb_state.specs.State.{open_of, waiting_of, Lists};
+ghost use Rattle.xl_smb_state.specs.declared.row.Holder.{Holder};
+ghost use Rattle.xl_smb_state.specs.declared.row.Open.{Open};
+ghost use Rattle.xl_smb_state.specs.declared.row.Place.{Place};
+ghost use Rattle.xl_smb_state.specs.declared.row.Waiting.{Waiting};
 ghost use Rattle.xl_house.specs.Steady.{IsSteady};
 ghost use Rattle.xl_matrix.specs.declared.claim.What.{What};
 ghost use Rattle.xl_wait.specs.Waiting.{waits_on};
@@ -51,8 +57,10 @@ ghost use Rattle.xl_base.specs.declared.event.Dest.TheVariants.{Conn};
 ghost use Rattle.xl_programs.specs.Sent.{sent_to};
 ghost use Rattle.xl_house.specs.Replying.{IsOneReply};
 ghost use Rattle.xl_house.specs.Parties.{IsHeldFor};
+ghost use Rattle.xl_house.specs.Notices.{IsNlmNews, IsSmbNews};
+ghost use Rattle.xl_house.specs.Notified.{AreAnnounced};
 ghost use Rattle.xl_nlm.specs.Items.{CallItem};
-ghost use Rattle.xl_house.specs.Asking.{reclaims, IsAskFor};
+ghost use Rattle.xl_front_nlm.specs.Asking.{reclaims, IsAskFor};
 ghost use Rattle.xl_house.specs.Awaited.{IsServed};
 ghost use Rattle.xl_house.specs.Done.{deeds};
 ghost use Rattle.xl_house.specs.Fitting.{IsFitting};
@@ -78,9 +86,9 @@ ghost use Rattle.xl_house.specs.State.{Whole, as_found, rooms_of};
 /// One that does nothing for a grant that its client refuses has no entry that is owed; and one that leaves a share or a range of an
 /// open that went with its connection ends no connection rightly.
 /// One that replies on another connection replies to no call of ONC RPC rightly.
-/// One that comes to hold a claim as it draws a number holds it for nobody.
+/// One that comes to hold a claim as it draws a number holds it for nobody, and so does one that does at a turn that serves none.
 /// One that makes a reclaim of an ask of NLM which says that it is none doesn't ask rightly.
-#[tactic(auto, using(crate::proofs::HollowLaws::waiter_dropped_in, crate::proofs::HollowLaws::cache_let_go_in, crate::proofs::HollowLaws::leases_dropped_in, crate::proofs::HollowLaws::clock_stands_in, crate::proofs::HollowLaws::lease_runs_on_in, crate::proofs::FittingLaws::share_widened_in, crate::proofs::FittingLaws::more_left_in, crate::proofs::SteadyLaws::numbers_stand_in, crate::proofs::WishedLaws::unchosen_is, crate::proofs::WishedLaws::beside_waiter_is, crate::proofs::BreakingLaws::gone_at_once_is, crate::proofs::BreakingLaws::raised_is, crate::proofs::BreakingLaws::uncaused_is, crate::proofs::BreakingLaws::unbroken_is, crate::proofs::EntryLaws::cache_dropped_in, crate::proofs::OwedLaws::refusal_dropped_in, crate::proofs::OwedLaws::left_behind_is, crate::proofs::ReplyingLaws::reply_astray_is, crate::proofs::PartiesLaws::for_nobody_is, crate::proofs::AskingLaws::always_reclaims_is))]
+#[tactic(auto, using(crate::proofs::HollowLaws::waiter_dropped_in, crate::proofs::HollowLaws::cache_let_go_in, crate::proofs::HollowLaws::leases_dropped_in, crate::proofs::HollowLaws::clock_stands_in, crate::proofs::HollowLaws::lease_runs_on_in, crate::proofs::FittingLaws::share_widened_in, crate::proofs::FittingLaws::more_left_in, crate::proofs::SteadyLaws::numbers_stand_in, crate::proofs::WishedLaws::unchosen_is, crate::proofs::WishedLaws::beside_waiter_is, crate::proofs::BreakingLaws::gone_at_once_is, crate::proofs::BreakingLaws::raised_is, crate::proofs::BreakingLaws::uncaused_is, crate::proofs::BreakingLaws::unbroken_is, crate::proofs::EntryLaws::cache_dropped_in, crate::proofs::OwedLaws::refusal_dropped_in, crate::proofs::OwedLaws::left_behind_is, crate::proofs::ReplyingLaws::reply_astray_is, crate::proofs::PartiesLaws::for_nobody_is, crate::proofs::PartiesLaws::unserved_is, crate::proofs::AskingLaws::always_reclaims_is))]
 pub fn hollow_machines_are_refused()
     ensures kept { (n stores number : ℕ) (bytes : List ℕ) (outs : List Out) (s t : Whole) (stable : Stable) (clock : Moment) (times : Times) → found s ≡ started stable clock times → deeds n s (Message number bytes) ≡ Asks all_room smallest_lock ∷ []
         → t.core.claims ≡ [] → IsLawful n s (record { event = Message number bytes; stores = stores; outs = outs }) t → ⊥ }
@@ -105,8 +113,8 @@ pub fn hollow_machines_are_refused()
     ensures gone_at_once { (s t : CoreState) (asked cache : Claim) (to : Option CacheKind) → cache.what ≡ What.Cache CacheKind.RWH None → held_at t (CacheOf cache.file cache.party) ≡ [] → IsBroken s t asked cache to → ⊥ }
     ensures raised { (s t : CoreState) (asked cache : Claim) → cache.what ≡ What.Cache CacheKind.R None → IsBroken s t asked cache (Some CacheKind.RWH) → ⊥ }
     ensures uncaused { (s t : CoreState) (asked cache : Claim) (to : Option CacheKind) → s.claims ≡ cache ∷ [] → blocks asked cache ≡ false → IsBroken s t asked cache to → ⊥ }
-    ensures unbroken { (left : Rooms) (s : CoreState) (a : Ask) (c cache : Claim) → IsFirstOf (asked_claims a (asked_whats a.act) s.names) c → a.reclaim ≡ false → a.awaits ≡ false → is_stopped s.waiters s c ≡ false
-        → IsIn cache (way left s a).1.claims → is_obstacle c (way left s a).1.claims cache ≡ true → is_running cache.what ≡ false → HasBegun left s a → ⊥ }
+    ensures unbroken { (left : Rooms) (s : CoreState) (a : Ask) (first c cache : Claim) → IsFirstOf (asked_claims a (asked_whats a.act) s.names) first → a.reclaim ≡ false → a.awaits ≡ false → is_stopped s.waiters s first ≡ false
+        → IsIn c (asked_claims a (asked_whats a.act) s.names) → IsIn cache (way left s a).1.claims → is_obstacle c (way left s a).1.claims cache ≡ true → is_running cache.what ≡ false → HasBegun left s a → ⊥ }
     ensures cache_dropped { (n stores number : ℕ) (bytes : List ℕ) (outs : List Out) (s t : Whole) (left : Rooms) (a : Ask) (file : ℕ) (party : Party) → deeds n s (Message number bytes) ≡ Asks left a ∷ [] → (ask n left (found s) a).1 ≡ []
         → held_at s.core (CacheOf file party) ≡ What.Cache CacheKind.RWH None ∷ [] → t.core.claims ≡ [] → IsKeeping n s (record { event = Message number bytes; stores = stores; outs = outs }) t → ⊥ }
     ensures refusal_dropped { (n stores number : ℕ) (reply : Option (List ℕ)) (outs : List Out) (s t : Whole) (call : GrantedCall) (g : Grant) → find (λ c. c.number == number) s.front.nlm.calls ≡ Some call → refuses reply ≡ true → grant_of (found s).names call.claim ≡ Some g
@@ -114,5 +122,17 @@ pub fn hollow_machines_are_refused()
     ensures left_behind { (names : List Name) (conn number : ℕ) (l : Lists) (left : CoreState) (c : Claim) → is_held_under (Scope.Connection conn) (open_of number l) ≡ true → IsIn c left.claims → c.owner ≡ Owner.Open number → is_cache c.what ≡ false → AreGone names conn l left → ⊥ }
     ensures reply_astray { (conn other xid : ℕ) (bytes : List ℕ) → (Conn other ≡ Conn conn → ⊥) → IsOneReply conn xid (sent_to other bytes) → ⊥ }
     ensures for_nobody { (n : ℕ) (s : CoreState) (c : Claim) → s.claims ≡ [] → IsHeldFor n s Draws c → ⊥ }
+    ensures unserved { (n : ℕ) (left : Rooms) (s : CoreState) (c : Claim) → s.claims ≡ [] → (given n s (Serves left)).1 ≡ [] → IsHeldFor n s (Serves left) c → ⊥ }
     ensures always_reclaims { (count hosts : ℕ) (call : CallItem) (left : Rooms) (a : Ask) → reclaims call ≡ false → a.reclaim ≡ true → IsAskFor count hosts call (Asks left a) → ⊥ }
+{}
+
+/// An entry tells nobody rightly by a machine that begins the break of an open's oplock and sends no notice to the connection that
+/// the open is held on, that sends the call of a grant twice, or that sends a final reply by another connection than the request's;
+/// nor by one that has a break begin and tells of none.
+#[tactic(auto, using(crate::proofs::NoticesLaws::unnoticed_is, crate::proofs::NoticesLaws::granted_twice_is, crate::proofs::NoticesLaws::final_astray_is, crate::proofs::AnnouncedLaws::untold_is))]
+pub fn machines_that_tell_wrongly_are_refused()
+    ensures unnoticed { (l : Lists) (s : CoreState) (cache : Claim) (to : Option CacheKind) (call : Option ℕ) (number : ℕ) (row : Open) (place : Place) → cache.party ≡ Party.Open number → open_of number l ≡ Some row → row.holder ≡ Holder.Tree place → IsSmbNews l s (Effect.Begun cache to call) [] → ⊥ }
+    ensures granted_twice { (exports : Exports) (s : CoreState) (party : Party) (id : ℕ) (claim : Claim) (call : Out) → IsNlmNews exports s (Effect.Served party id (Answer.Granted claim)) (call ∷ call ∷ []) → ⊥ }
+    ensures final_astray { (l : Lists) (s : CoreState) (party : Party) (id : ℕ) (answer : Answer) (row : Waiting) (other : ℕ) (bytes : List ℕ) → waiting_of id l ≡ Some row → (Conn other ≡ Conn row.place.connection → ⊥) → IsSmbNews l s (Effect.Served party id answer) (record { dest = Conn other; to = []; bytes = bytes } ∷ []) → ⊥ }
+    ensures untold { (s t : CoreState) (file : ℕ) (party : Party) (kind : CacheKind) (running : Break) → held_at s (CacheOf file party) ≡ What.Cache kind None ∷ [] → held_at t (CacheOf file party) ≡ What.Cache kind (Some running) ∷ [] → AreAnnounced s t [] → ⊥ }
 {}

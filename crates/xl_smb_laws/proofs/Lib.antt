@@ -22,6 +22,9 @@ pub mod NothingHeldLaws
 pub mod ReplyHeadLaws
 pub mod PlanWalks
 pub mod AskedRowLaws
+pub mod AskedMessageLaws
+pub mod HeardLaws
+pub mod AsToldLaws
 pub mod WaitRowLaws
 pub mod LockCauseLaws
 pub mod OnceAnsweredLaws

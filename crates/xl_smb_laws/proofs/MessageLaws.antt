@@ -19,7 +19,7 @@ passed_all : (alone beyond served : Bool) (plan : Plan) → alone ≡ true → b
     → (if not alone then Fails InvalidParameter else if beyond then Fails InvalidParameter else if not served then Fails NotSupported else plan) ≡ plan
 passed_all alone beyond served plan first second third = rw (first, second, third) refl
 
-requested_is : (s : CoreState) (files : List (List ℕ)) (others : ℕ) (l : Lists) (conn : ℕ) (bytes : List ℕ) (h : SmbHead) (call : CallItem) → IsRequest bytes h call → requested s files others l conn bytes h ≡ planned s files others l conn h call
+pub requested_is : (s : CoreState) (files : List (List ℕ)) (others : ℕ) (l : Lists) (conn : ℕ) (bytes : List ℕ) (h : SmbHead) (call : CallItem) → IsRequest bytes h call → requested s files others l conn bytes h ≡ planned s files others l conn h call
 unfolding requested
 requested_is s files others l conn bytes h call is =
     passed_all (h.next_command == 0) (nat_lt 18 h.command) (is_some (command_of h.command)) (read_as s files others l conn (message_at bytes)) is.alone is.numbered is.served

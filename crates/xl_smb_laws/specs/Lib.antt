@@ -1,6 +1,9 @@
 pub mod AskedRows
 pub mod LockCauses
 pub mod LockLaws
+pub mod AskedMessages
+pub mod AsTold
 pub mod OpenRights
 pub mod ReplyHeads
+pub mod Heard
 pub mod WaitingRequests

@@ -9,3 +9,4 @@ pub mod locking;
 pub mod opens;
 pub mod replying;
 pub mod requests;
+pub mod telling;

@@ -9,6 +9,8 @@ use Rattle.xl_house.proofs.AskingLaws.{always_asking}
 use Rattle.xl_house.proofs.JournalLaws.{holds_stands}
 use Rattle.xl_house.proofs.LawfulLaws.{always_lawful, always_waiting, always_kept, always_complete, always_caused, always_told}
 use Rattle.xl_house.proofs.MachineLaws.{begun_free}
+use Rattle.xl_house.proofs.MeantLaws.{always_meant}
+use Rattle.xl_house.proofs.NotifiedLaws.{always_notified}
 use Rattle.xl_house.proofs.OrderLaws.{legal_orderly}
 use Rattle.xl_house.proofs.house.House.end.Goals as goal
 
@@ -51,6 +53,9 @@ returns-clause-asking g c = always_asking _ _
 pub returns-clause-owed : goal.returns-clause-owed
 returns-clause-owed g c = always_owed _ _
 
+pub returns-clause-meant : goal.returns-clause-meant
+returns-clause-meant g c = always_meant _ _
+
 pub returns-clause-caused : goal.returns-clause-caused
 returns-clause-caused g c = always_caused _ _
 
@@ -59,6 +64,9 @@ returns-clause-replied g c = always_replied _ _
 
 pub returns-clause-told : goal.returns-clause-told
 returns-clause-told g c = always_told _ _ c.self.invariant.legal
+
+pub returns-clause-notified : goal.returns-clause-notified
+returns-clause-notified g c = always_notified _ _ c.self.invariant.legal
 
 pub returns-clause-orderly : goal.returns-clause-orderly
 returns-clause-orderly g c = legal_orderly _ _ c.self.invariant.legal
