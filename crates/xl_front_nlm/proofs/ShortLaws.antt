@@ -7,12 +7,11 @@ use Rattle.xl_names.specs.declared.name.Name.TheVariants.{NlmRange, NlmShare, Nl
 use Rattle.xl_format.specs.Formats.{chosen_part}
 use Rattle.xl_nlm.specs.Arguments.{TextFits}
 use Rattle.xl_nlm.specs.Replies.{holder, is_denied}
-use Rattle.xl_core.specs.declared.ask.Answer.{Answer}
 use Rattle.xl_core.specs.declared.ask.Answer.TheVariants as answers
-use Rattle.xl_front_nlm.specs.Results.{parts_by, owner_parts, test_status, test_holder}
+use Rattle.xl_front_nlm.specs.Results.{parts_by, owner_parts, status_of, test_holder, IsTestOutcome}
 use Rattle.xl_front_nlm.specs.Short.{IsShort, AreShort}
 use Rattle.xl_front_nlm.specs.declared.outcome.Outcome.{Outcome}
-use Rattle.xl_front_nlm.specs.declared.outcome.Outcome.TheVariants.{Answered}
+use Rattle.xl_front_nlm.specs.declared.outcome.Outcome.TheVariants.{NoFile, TooBig, Waits, NotWaiting, Answered, Ended, Nothing}
 
 parts_short : (name : Name) → IsShort name → TextFits (parts_by (Some name)).1
 parts_short (NlmRange caller svid oh) short = short.1
@@ -33,9 +32,20 @@ owner_short names (owners.Name protocol number) short = name_short names number 
 owner_short names (owners.Open number) short = omega arith
 
 -- a holder is told just where the status is Denied
-pub told_as_denied : (names : List Name) (outcome : Outcome) → (chosen_part holder (test_holder names outcome)).key ≡ is_denied (test_status outcome)
-told_as_denied names (Answered answer) = by answer where
-  by : (answer : Answer) → (chosen_part holder (test_holder names (Answered answer))).key ≡ is_denied (test_status (Answered answer))
-  by (answers.Granted c) = refl
-  by _ = refl
-told_as_denied names _ = refl
+pub told_as_denied : (names : List Name) (outcome : Outcome) → IsTestOutcome outcome → (chosen_part holder (test_holder names outcome)).key ≡ is_denied (status_of outcome)
+told_as_denied names NoFile of = refl
+told_as_denied names TooBig of = refl
+told_as_denied names (Answered (answers.Granted c)) of = refl
+told_as_denied names (Answered (answers.Conflict c)) of = refl
+told_as_denied names (Answered (answers.Grace until)) of = refl
+told_as_denied names (Answered (answers.NoGrace clock)) of = refl
+told_as_denied names (Answered (answers.Queued number)) of = absurd of
+told_as_denied names (Answered (answers.Full limit)) of = absurd of
+told_as_denied names (Answered (answers.Recall c)) of = absurd of
+told_as_denied names (Answered answers.NotRecorded) of = absurd of
+told_as_denied names (Answered answers.NotHeld) of = absurd of
+told_as_denied names (Answered answers.StoreFailed) of = absurd of
+told_as_denied names Waits of = absurd of
+told_as_denied names NotWaiting of = absurd of
+told_as_denied names Ended of = absurd of
+told_as_denied names Nothing of = absurd of

@@ -26,14 +26,14 @@ use Rattle.xl_front_nlm.proofs.AskLaws.{own_client}
 use Rattle.xl_front_nlm.specs.Aims.{exported, last_of, aimed, aimed_at, aimed_in}
 use Rattle.xl_front_nlm.specs.Asks.{test_ask, lock_ask, unlock_ask, rights_of, share_ask}
 use Rattle.xl_front_nlm.specs.Hosts.{rooms, host_rows}
-use Rattle.xl_front_nlm.specs.Results.{answer_status, status_of, test_answer_status, test_status}
+use Rattle.xl_front_nlm.specs.Results.{answer_status, status_of, IsTestAnswer, IsTestOutcome, IsOutcomeOf}
 use Rattle.xl_front_nlm.specs.Serving.{CallPlan, at_bytes, on_file, if_found, lock_plan, planned, served}
 use Rattle.xl_front_nlm.specs.Standing.{waiter_for, does_wait, share_held}
 use Rattle.xl_front_nlm.specs.State.{FrontState}
 use Rattle.xl_front_nlm.specs.Statuses.{status_told, IsClaimTold, IsAskTold, IsTestTold, IsUnlockTold, IsLastTold, IsRangeTold, IsFileTold, IsLockTold, IsCancelTold, lock_claim, IsStatusDue}
 use Rattle.xl_front_nlm.specs.declared.aim.Aim.{Aim}
 use Rattle.xl_front_nlm.specs.declared.outcome.Outcome.{Outcome}
-use Rattle.xl_front_nlm.specs.declared.outcome.Outcome.TheVariants.{NoFile, TooBig, NotWaiting, Ended}
+use Rattle.xl_front_nlm.specs.declared.outcome.Outcome.TheVariants.{NotWaiting, Ended}
 
 -- ---- a lock or a share
 
@@ -76,7 +76,7 @@ claim_exactly n left s a what act = λ status.
 
 -- ---- a test
 
-test_forth : (s : CoreState) (a : Ask) (claim : Claim) (answer : Answer) → a.reclaim ≡ false → IsTestDue s a claim answer → IsTestTold s a claim (test_answer_status answer)
+test_forth : (s : CoreState) (a : Ask) (claim : Claim) (answer : Answer) → a.reclaim ≡ false → IsTestDue s a claim answer → IsTestTold s a claim (answer_status answer)
 test_forth s a claim (answers.Granted c) timely due = (refl, due.1, due.2)
 test_forth s a claim (answers.Conflict c) timely due = (c, due)
 test_forth s a claim (answers.NoGrace clock) timely due = absurd (both_ways a.reclaim timely due.1)
@@ -88,9 +88,9 @@ test_forth s a claim answers.NotRecorded timely due = absurd due
 test_forth s a claim answers.NotHeld timely due = absurd due
 test_forth s a claim answers.StoreFailed timely due = absurd due
 
-test_back : (s : CoreState) (a : Ask) (claim : Claim) (r : Answer) → ((answer : Answer) → IsTestDue s a claim answer → r ≡ answer) → (status : NlmStatus) → IsTestTold s a claim status → test_answer_status r ≡ status
-test_back s a claim r exact stats.Granted told = ap test_answer_status (exact (answers.Granted claim) told)
-test_back s a claim r exact stats.Denied told = ap test_answer_status (exact (answers.Conflict told.0) told.1)
+test_back : (s : CoreState) (a : Ask) (claim : Claim) (r : Answer) → ((answer : Answer) → IsTestDue s a claim answer → r ≡ answer) → (status : NlmStatus) → IsTestTold s a claim status → answer_status r ≡ status
+test_back s a claim r exact stats.Granted told = ap answer_status (exact (answers.Granted claim) told)
+test_back s a claim r exact stats.Denied told = ap answer_status (exact (answers.Conflict told.0) told.1)
 test_back s a claim r exact stats.DeniedNolocks told = absurd told
 test_back s a claim r exact stats.Blocked told = absurd told
 test_back s a claim r exact stats.DeniedGracePeriod told = absurd told
@@ -100,7 +100,7 @@ test_back s a claim r exact stats.StaleFh told = absurd told
 test_back s a claim r exact stats.Fbig told = absurd told
 test_back s a claim r exact stats.Failed told = absurd told
 
-test_exactly : (n : ℕ) (left : Rooms) (s : CoreState) (a : TestArgsItem) (at : Aim) → Exactly (test_answer_status (ask n left s (test_ask a at)).0) (IsTestTold s (test_ask a at) (known_claim (test_ask a at) (Bytes at.first at.last) a.exclusive s.names))
+test_exactly : (n : ℕ) (left : Rooms) (s : CoreState) (a : TestArgsItem) (at : Aim) → Exactly (answer_status (ask n left s (test_ask a at)).0) (IsTestTold s (test_ask a at) (known_claim (test_ask a at) (Bytes at.first at.last) a.exclusive s.names))
 test_exactly n left s a at = λ status.
     let request = test_ask a at in
     let claim = known_claim request (Bytes at.first at.last) a.exclusive s.names in (
@@ -150,15 +150,15 @@ unlock_exactly n left s a at good ends = λ status.
 itself : (told : NlmStatus) → Exactly told (λ status. status ≡ told)
 itself told = λ status. (λ e. sym e, λ e. sym e)
 
-last_exactly : (tell : Outcome → NlmStatus) (n : ℕ) (f : FrontState) (s : CoreState) (l : LockItem) (plan : Aim → CallPlan) (due : Aim → NlmStatus → Type 0) (file : ℕ) (o : Option ℕ) → last_of l.l_offset l.l_len ≡ o → tell TooBig ≡ stats.Fbig
-    → ((at : Aim) → at.first ≤ at.last → Exactly (tell (carried n s f (plan at)).0) (due at)) → Exactly (tell (carried n s f (at_bytes plan (aimed_at l file o))).0) (IsLastTold l file due o)
-last_exactly tell n f s l plan due file None e big each = subst (λ (x : NlmStatus). Exactly (tell TooBig) (λ status. status ≡ x)) big (itself (tell TooBig))
-last_exactly tell n f s l plan due file (Some last) e big each = each (record { file = file; first = l.l_offset; last = last }) (last_real l.l_offset l.l_len last e)
+last_exactly : (n : ℕ) (f : FrontState) (s : CoreState) (l : LockItem) (plan : Aim → CallPlan) (due : Aim → NlmStatus → Type 0) (file : ℕ) (o : Option ℕ) → last_of l.l_offset l.l_len ≡ o
+    → ((at : Aim) → at.first ≤ at.last → Exactly (status_of (carried n s f (plan at)).0) (due at)) → Exactly (status_of (carried n s f (at_bytes plan (aimed_at l file o))).0) (IsLastTold l file due o)
+last_exactly n f s l plan due file None e each = itself stats.Fbig
+last_exactly n f s l plan due file (Some last) e each = each (record { file = file; first = l.l_offset; last = last }) (last_real l.l_offset l.l_len last e)
 
-range_exactly : (tell : Outcome → NlmStatus) (n : ℕ) (f : FrontState) (s : CoreState) (l : LockItem) (plan : Aim → CallPlan) (due : Aim → NlmStatus → Type 0) (o : Option ℕ) → tell NoFile ≡ stats.StaleFh → tell TooBig ≡ stats.Fbig
-    → ((at : Aim) → at.first ≤ at.last → Exactly (tell (carried n s f (plan at)).0) (due at)) → Exactly (tell (carried n s f (at_bytes plan (aimed_in l o))).0) (IsRangeTold l due o)
-range_exactly tell n f s l plan due None stale big each = subst (λ (x : NlmStatus). Exactly (tell NoFile) (λ status. status ≡ x)) stale (itself (tell NoFile))
-range_exactly tell n f s l plan due (Some file) stale big each = last_exactly tell n f s l plan due file (last_of l.l_offset l.l_len) refl big each
+range_exactly : (n : ℕ) (f : FrontState) (s : CoreState) (l : LockItem) (plan : Aim → CallPlan) (due : Aim → NlmStatus → Type 0) (o : Option ℕ)
+    → ((at : Aim) → at.first ≤ at.last → Exactly (status_of (carried n s f (plan at)).0) (due at)) → Exactly (status_of (carried n s f (at_bytes plan (aimed_in l o))).0) (IsRangeTold l due o)
+range_exactly n f s l plan due None each = itself stats.StaleFh
+range_exactly n f s l plan due (Some file) each = last_exactly n f s l plan due file (last_of l.l_offset l.l_len) refl each
 
 file_exactly : (n : ℕ) (f : FrontState) (s : CoreState) (plan : ℕ → CallPlan) (due : ℕ → NlmStatus → Type 0) (o : Option ℕ)
     → ((file : ℕ) → Exactly (status_of (carried n s f (plan file)).0) (due file)) → Exactly (status_of (carried n s f (on_file plan o)).0) (IsFileTold due o)
@@ -191,16 +191,55 @@ status_due n count f s Null status good = (λ e. absurd cc, λ due. absurd due)
 status_due n count f s (Granted a) status good = (λ e. absurd cc, λ due. absurd due)
 status_due n count f s (FreeAll a) status good = (λ e. absurd cc, λ due. absurd due)
 status_due n count f s (Test a) status good =
-    told_some _ _ (range_exactly test_status n f s a.lock _ _ (exported count a.lock.fh) refl refl (λ at ends. test_exactly n (rooms f.hosts) s a at)) status
+    told_some _ _ (range_exactly n f s a.lock _ _ (exported count a.lock.fh) (λ at ends. test_exactly n (rooms f.hosts) s a at)) status
 status_due n count f s (Lock a) status good =
-    told_some _ _ (range_exactly status_of n f s a.lock _ _ (exported count a.lock.fh) refl refl (λ at ends. lock_exactly n f s a at (does_wait s a at) refl)) status
+    told_some _ _ (range_exactly n f s a.lock _ _ (exported count a.lock.fh) (λ at ends. lock_exactly n f s a at (does_wait s a at) refl)) status
 status_due n count f s (NmLock a) status good =
-    told_some _ _ (range_exactly status_of n f s a.lock _ _ (exported count a.lock.fh) refl refl (λ at ends. lock_exactly n f s a at (does_wait s a at) refl)) status
+    told_some _ _ (range_exactly n f s a.lock _ _ (exported count a.lock.fh) (λ at ends. lock_exactly n f s a at (does_wait s a at) refl)) status
 status_due n count f s (Cancel a) status good =
-    told_some _ _ (range_exactly status_of n f s a.lock _ _ (exported count a.lock.fh) refl refl (λ at ends. cancel_exactly n f s (waiter_for s a.lock a.exclusive at))) status
+    told_some _ _ (range_exactly n f s a.lock _ _ (exported count a.lock.fh) (λ at ends. cancel_exactly n f s (waiter_for s a.lock a.exclusive at))) status
 status_due n count f s (Unlock a) status good =
-    told_some _ _ (range_exactly status_of n f s a.lock _ _ (exported count a.lock.fh) refl refl (λ at ends. unlock_exactly n (rooms f.hosts) s a at good ends)) status
+    told_some _ _ (range_exactly n f s a.lock _ _ (exported count a.lock.fh) (λ at ends. unlock_exactly n (rooms f.hosts) s a at good ends)) status
 status_due n count f s (Share a) status good =
     told_some _ _ (file_exactly n f s _ _ (exported count a.fh) (λ file. claim_exactly n (rooms f.hosts) s (share_ask (host_rows a.caller_name f.hosts) a file) (whats.Share (rights_of a.access) (rights_of a.mode)) refl)) status
 status_due n count f s (Unshare a) status good =
     told_some _ _ (file_exactly n f s _ _ (exported count a.fh) (λ file. unshare_exactly n f s (share_held s a file))) status
+
+-- ---- what becomes of a test
+
+tested_so : (s : CoreState) (a : Ask) (claim : Claim) (answer : Answer) → IsTestDue s a claim answer → IsTestAnswer answer
+tested_so s a claim (answers.Granted c) due = tt
+tested_so s a claim (answers.Conflict c) due = tt
+tested_so s a claim (answers.Grace until) due = tt
+tested_so s a claim (answers.NoGrace clock) due = tt
+tested_so s a claim (answers.Queued number) due = absurd due
+tested_so s a claim (answers.Full limit) due = absurd due
+tested_so s a claim (answers.Recall c) due = absurd due
+tested_so s a claim answers.NotRecorded due = absurd due
+tested_so s a claim answers.NotHeld due = absurd due
+tested_so s a claim answers.StoreFailed due = absurd due
+
+test_at : (n : ℕ) (f : FrontState) (s : CoreState) (l : LockItem) (plan : Aim → CallPlan) (file : ℕ) (o : Option ℕ) → ((at : Aim) → IsTestOutcome (carried n s f (plan at)).0) → IsTestOutcome (carried n s f (at_bytes plan (aimed_at l file o))).0
+test_at n f s l plan file None each = tt
+test_at n f s l plan file (Some last) each = each (record { file = file; first = l.l_offset; last = last })
+
+test_in : (n : ℕ) (f : FrontState) (s : CoreState) (l : LockItem) (plan : Aim → CallPlan) (o : Option ℕ) → ((at : Aim) → IsTestOutcome (carried n s f (plan at)).0) → IsTestOutcome (carried n s f (at_bytes plan (aimed_in l o))).0
+test_in n f s l plan None each = tt
+test_in n f s l plan (Some file) each = test_at n f s l plan file (last_of l.l_offset l.l_len) each
+
+-- the core never recalls for a test, nor does a test wait
+pub outcome_of : (n count : ℕ) (f : FrontState) (s : CoreState) (call : CallItem) → IsOutcomeOf call (served n count f s call).0
+unfolding served planned aimed
+outcome_of n count f s (Test a) =
+    test_in n f s a.lock _ (exported count a.lock.fh) (λ at.
+    let request = test_ask a at in
+    tested_so s request (known_claim request (Bytes at.first at.last) a.exclusive s.names) (ask n (rooms f.hosts) s request).0 ((ask_test n (rooms f.hosts) s request (Bytes at.first at.last) a.exclusive (ask n (rooms f.hosts) s request).0 refl).0 refl))
+outcome_of n count f s Null = tt
+outcome_of n count f s (Lock a) = tt
+outcome_of n count f s (Cancel a) = tt
+outcome_of n count f s (Unlock a) = tt
+outcome_of n count f s (Granted a) = tt
+outcome_of n count f s (Share a) = tt
+outcome_of n count f s (Unshare a) = tt
+outcome_of n count f s (NmLock a) = tt
+outcome_of n count f s (FreeAll a) = tt

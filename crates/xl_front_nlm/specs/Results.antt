@@ -17,7 +17,7 @@ use Rattle.xl_front_nlm.specs.Aims.{length_of}
 use Rattle.xl_front_nlm.specs.declared.outcome.Outcome.{Outcome}
 use Rattle.xl_front_nlm.specs.declared.outcome.Outcome.TheVariants.{NoFile, TooBig, Waits, NotWaiting, Answered, Ended, Nothing}
 
--- ---- all calls except TEST
+-- ---- the status, by one map for all calls
 
 -- the map of the core's answers (NLM-7, NLM-14)
 abbrev pub answer_status : Answer → NlmStatus
@@ -44,18 +44,24 @@ status_of Nothing = stats.Granted
 
 -- ---- TEST
 
--- denied if something held blocks the range; nothing is granted in grace (NLM-14)
-abbrev pub test_answer_status : Answer → NlmStatus
-test_answer_status (answers.Conflict c) = stats.Denied
-test_answer_status (answers.Grace until) = stats.DeniedGracePeriod
-test_answer_status _ = stats.Granted
+-- what a test may be answered: it asks for nothing that is entered, waits for or needs room, and no cache is in its way (CORE-4)
+abbrev pub IsTestAnswer : Answer → Type 0
+IsTestAnswer (answers.Granted c) = Unit {0}
+IsTestAnswer (answers.Conflict c) = Unit {0}
+IsTestAnswer (answers.Grace until) = Unit {0}
+IsTestAnswer (answers.NoGrace clock) = Unit {0}
+IsTestAnswer _ = ⊥
 
--- no other outcome comes of a test
-abbrev pub test_status : Outcome → NlmStatus
-test_status NoFile = stats.StaleFh
-test_status TooBig = stats.Fbig
-test_status (Answered answer) = test_answer_status answer
-test_status _ = stats.Granted
+abbrev pub IsTestOutcome : Outcome → Type 0
+IsTestOutcome NoFile = Unit {0}
+IsTestOutcome TooBig = Unit {0}
+IsTestOutcome (Answered answer) = IsTestAnswer answer
+IsTestOutcome _ = ⊥
+
+-- what may become of a call: of a test these outcomes, so that it is denied just if it gives a holder
+abbrev pub IsOutcomeOf : CallItem → Outcome → Type 0
+IsOutcomeOf (Test a) outcome = IsTestOutcome outcome
+IsOutcomeOf _ outcome = Unit {0}
 
 -- the svid and oh of an owner of NLM ranges; of another 0 and none
 abbrev pub parts_by : Option Name → ℤ × List ℕ
@@ -83,7 +89,7 @@ test_holder names _ = None
 
 -- the result of a test (nlm4_testres)
 abbrev pub test_result : List ℕ → List Name → Outcome → TestResItem
-test_result cookie names outcome = record { cookie = cookie; stat = test_status outcome; holder = test_holder names outcome }
+test_result cookie names outcome = record { cookie = cookie; stat = status_of outcome; holder = test_holder names outcome }
 
 -- ---- the results of a call
 

@@ -17,14 +17,14 @@ use Rattle.xl_core.specs.declared.ask.Ask.{Ask}
 use Rattle.xl_front_nlm.specs.Aims.{exported, last_of}
 use Rattle.xl_front_nlm.specs.Asks.{test_ask, lock_ask, unlock_ask, rights_of, share_ask}
 use Rattle.xl_front_nlm.specs.Hosts.{rooms, host_rows}
-use Rattle.xl_front_nlm.specs.Results.{status_of, test_status}
+use Rattle.xl_front_nlm.specs.Results.{status_of}
 use Rattle.xl_front_nlm.specs.Standing.{waiter_for, does_wait}
 use Rattle.xl_front_nlm.specs.declared.aim.Aim.{Aim}
 use Rattle.xl_front_nlm.specs.declared.outcome.Outcome.{Outcome}
 
 -- the status that a reply has, if the call's results have one
 abbrev pub status_told : CallItem → Outcome → Option NlmStatus
-status_told (Test a) outcome = Some (test_status outcome)
+status_told (Test a) outcome = Some (status_of outcome)
 status_told (Lock a) outcome = Some (status_of outcome)
 status_told (Cancel a) outcome = Some (status_of outcome)
 status_told (Unlock a) outcome = Some (status_of outcome)

@@ -8,6 +8,7 @@ ghost use Rattle.xl_nlm.specs.Arguments.{CallFits};
 ghost use Rattle.xl_core.specs.State.{MayBe};
 ghost use Rattle.xl_front_nlm.specs.Hosts.{HasHostRoom};
 ghost use Rattle.xl_front_nlm.specs.Plans.{shown_plan};
+ghost use Rattle.xl_front_nlm.specs.Results.{IsOutcomeOf};
 ghost use Rattle.xl_front_nlm.specs.Serving.{planned, host_of, hosted, served};
 ghost use Rattle.xl_front_nlm.specs.Layers.{core_of, front_of};
 ghost use Rattle.xl_front_nlm.specs.Short.{IsReady, Leaves};
@@ -101,6 +102,7 @@ pub(crate) fn serve<K: Keeper>(
     requires fits { CallFits (shown_call call.now) }
     requires ready { IsReady 0 layers.core.now }
     ensures done { (n : ℕ) → IfOk result (λ r. MayBe n (core_of layers.exit) → served n count layers.entry.front.now layers.entry.core.now (shown_call call.now) ≡ (r.0, r.1, front_of layers.exit, core_of layers.exit)) }
+    ensures outcome { IfOk result (λ r. IsOutcomeOf (shown_call call.now) r.0) }
     ensures leaves { OnOk result (Leaves 2 layers.entry.core.now (core_of layers.exit)) }
     ensures keeper { HandedOn keeper.old keeper.new }
 {

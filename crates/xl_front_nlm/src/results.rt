@@ -6,7 +6,7 @@ ghost use Rattle.xl_nlm.specs.Replies.{holder, test_res, ReplyFits};
 ghost use Rattle.xl_format.specs.Formats.{chosen_part};
 ghost use Rattle.xl_matrix.specs.declared.claim.What.TheVariants.{Range};
 ghost use Rattle.xl_matrix.specs.declared.claim.Extent.TheVariants.{Bytes};
-ghost use Rattle.xl_front_nlm.specs.Results.{answer_status, status_of, test_answer_status, test_status, owner_parts, holder_by, holder_of, test_holder, test_result, res_of, share_res_of, reply_of};
+ghost use Rattle.xl_front_nlm.specs.Results.{answer_status, status_of, IsTestOutcome, IsOutcomeOf, owner_parts, holder_by, holder_of, test_holder, test_result, res_of, share_res_of, reply_of};
 ghost use Rattle.xl_front_nlm.specs.Short.{AreShort};
 
 use crate::aim::length_of;
@@ -17,7 +17,7 @@ use xl_matrix::{Claim, Extent, What};
 use xl_names::{Name, Names};
 use xl_nlm::{Holder, NlmCall, NlmReply, NlmStatus, Res, ShareRes, TestRes};
 
-/// How the core's answer to a call other than TEST is sent.
+/// How the core's answer to a call is sent.
 fn answer_status(answer: Answer) -> NlmStatus
     ensures { result ≡ answer_status answer }
 {
@@ -31,7 +31,7 @@ fn answer_status(answer: Answer) -> NlmStatus
     }
 }
 
-/// How what became of a call other than TEST is sent.
+/// How what became of a call is sent.
 fn status_of(outcome: Outcome) -> NlmStatus
     ensures { result ≡ status_of outcome }
 {
@@ -42,29 +42,6 @@ fn status_of(outcome: Outcome) -> NlmStatus
         Outcome::NotWaiting => NlmStatus::Denied,
         Outcome::Answered(answer) => answer_status(answer),
         Outcome::Ended | Outcome::Nothing => NlmStatus::Granted,
-    }
-}
-
-/// How the core's answer to a test is sent.
-fn test_answer_status(answer: Answer) -> NlmStatus
-    ensures { result ≡ test_answer_status answer }
-{
-    match answer {
-        Answer::Conflict(_) => NlmStatus::Denied,
-        Answer::Grace(_) => NlmStatus::DeniedGracePeriod,
-        _ => NlmStatus::Granted,
-    }
-}
-
-/// How what became of a test is sent; no other outcome comes of one.
-fn test_status(outcome: Outcome) -> NlmStatus
-    ensures { result ≡ test_status outcome }
-{
-    match outcome {
-        Outcome::NoFile => NlmStatus::StaleFh,
-        Outcome::TooBig => NlmStatus::Fbig,
-        Outcome::Answered(answer) => test_answer_status(answer),
-        _ => NlmStatus::Granted,
     }
 }
 
@@ -132,12 +109,13 @@ fn test_holder(names: &Names, outcome: Outcome) -> Option<Holder<'_>>
 fn test_result<'a>(names: &'a Names, cookie: &'a [u8], outcome: Outcome) -> TestRes<'a>
     requires cookie { TextFits cookie.now }
     requires names { AreShort names.now }
+    requires outcome { IsTestOutcome outcome }
     ensures value { shown_test_res result ≡ test_result cookie.now names.now outcome }
     ensures fits { test_res.Fit (shown_test_res result) }
 {
     TestRes {
         cookie,
-        stat: test_status(outcome),
+        stat: status_of(outcome),
         holder: test_holder(names, outcome),
     }
 }
@@ -174,6 +152,7 @@ fn share_res_of(cookie: &[u8], outcome: Outcome) -> NlmReply<'_>
 pub(crate) fn reply_of<'a>(names: &'a Names, call: &NlmCall<'a>, outcome: Outcome) -> NlmReply<'a>
     requires fits { CallFits (shown_call call.now) }
     requires short { AreShort names.now }
+    requires outcome { IsOutcomeOf (shown_call call.now) outcome }
     ensures value { shown_reply result ≡ reply_of names.now (shown_call call.now) outcome }
     ensures fits { ReplyFits (shown_reply result) }
 {

@@ -22,7 +22,7 @@ use Rattle.xl_front_nlm.specs.Aims.{aimed, aimed_in, aimed_at, last_of}
 use Rattle.xl_front_nlm.specs.Asks.{owner_of, test_ask, unlock_ask}
 use Rattle.xl_names.specs.Names.{number_of}
 use Rattle.xl_front_nlm.specs.Hosts.{rooms, host_rows, host_entered, hosts_after, makes_host}
-use Rattle.xl_front_nlm.specs.Results.{reply_of, answer_status, test_answer_status, test_result}
+use Rattle.xl_front_nlm.specs.Results.{reply_of, answer_status, test_result}
 use Rattle.xl_front_nlm.specs.Serving.{asks, planned, at_bytes, lock_plan, hosted, served}
 use Rattle.xl_front_nlm.specs.Standing.{waiter_by, does_wait}
 use Rattle.xl_front_nlm.specs.State.{FrontState}
@@ -63,18 +63,6 @@ plain_told (answers.Recall c) plain = inr refl
 plain_told (answers.Grace until) plain = absurd plain
 plain_told answers.NotRecorded plain = absurd plain
 plain_told answers.StoreFailed plain = absurd plain
-
-tested_told : (answer : Answer) → IsPlain answer → IsTold (Some (test_answer_status answer))
-tested_told (answers.Granted c) plain = inl refl
-tested_told (answers.Conflict c) plain = inr refl
-tested_told answers.NotHeld plain = inl refl
-tested_told (answers.Queued id) plain = absurd plain
-tested_told (answers.NoGrace clock) plain = absurd plain
-tested_told (answers.Full limit) plain = absurd plain
-tested_told (answers.Recall c) plain = inl refl
-tested_told (answers.Grace until) plain = absurd plain
-tested_told answers.NotRecorded plain = absurd plain
-tested_told answers.StoreFailed plain = absurd plain
 
 res_status : (stat : NlmStatus) → results_status (results_at 2 (results (ResAnswer (record { cookie = []; stat = stat })))) ≡ Some stat
 res_status stat =
@@ -183,7 +171,7 @@ test_served n f s exclusive b c d core ours = record {
   front = f;
   core = (ask n (rooms f.hosts) s a).2;
   is = ap (carried n s f) plan ∙ quietly n f s None a (tells_nothing n (rooms f.hosts) s a core refl);
-  told = λ names. subst (λ (o : Option NlmStatus). IsTold o) (sym (test_status_is (test_result [] names (Answered (ask n (rooms f.hosts) s a).0)) refl)) (tested_told (ask n (rooms f.hosts) s a).0 well.plain);
+  told = λ names. subst (λ (o : Option NlmStatus). IsTold o) (sym (test_status_is (test_result [] names (Answered (ask n (rooms f.hosts) s a).0)) refl)) (plain_told (ask n (rooms f.hosts) s a).0 well.plain);
   hosts = ours;
   kept = well.core;
 } where
