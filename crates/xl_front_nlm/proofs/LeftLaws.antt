@@ -60,7 +60,7 @@ use Rattle.xl_front_nlm.specs.declared.outcome.Outcome.TheVariants.{NotWaiting, 
 -- ---- a lock
 
 -- the caller is a host once it came
-host_came : (caller : List ℕ) (hosts : List (List ℕ)) → is_host caller (host_entered caller hosts) ≡ true
+pub host_came : (caller : List ℕ) (hosts : List (List ℕ)) → is_host caller (host_entered caller hosts) ≡ true
 host_came caller hosts =
     elim (cases_Bool (is_host caller hosts)) [
       | inl e ↦ rw e e

@@ -15,3 +15,4 @@ pub mod PlanLaws
 pub mod StatusLaws
 pub mod LeftLaws
 pub mod AsToldLaws
+pub mod HostKeptLaws

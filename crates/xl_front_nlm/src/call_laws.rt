@@ -20,10 +20,14 @@ ghost use Rattle.xl_core.specs.Bytes.{AreBytes, byte_lock, no_lock};
 ghost use Rattle.xl_core.specs.Causes.{stands_against};
 ghost use Rattle.xl_core.specs.Good.{IsGood};
 ghost use Rattle.xl_core.specs.Settle.{waits_for};
+ghost use Rattle.xl_core.specs.declared.ask.Answer.{Answer as Answering};
+ghost use Rattle.xl_core.specs.declared.ask.Effect.{Effect};
+ghost use Rattle.xl_base.specs.declared.journal.Exports.{Exports};
+ghost use Rattle.xl_front_nlm.specs.Grants.{shown};
 ghost use Rattle.xl_core.specs.State.{CoreState};
 ghost use Rattle.xl_front_nlm.specs.Aims.{exported, last_of, length_of, aimed};
 ghost use Rattle.xl_front_nlm.specs.Asks.{rights_of, share_owner, share_ask};
-ghost use Rattle.xl_front_nlm.specs.Hosts.{host_rows, is_host};
+ghost use Rattle.xl_front_nlm.specs.Hosts.{host_rows, is_host, makes_host};
 ghost use Rattle.xl_front_nlm.specs.Left.{unlock_claim, test_claim, IsForThat, cookie_of, cookie_told, IsHolder};
 ghost use Rattle.xl_front_nlm.specs.Results.{status_of, test_holder, reply_of};
 ghost use Rattle.xl_front_nlm.specs.Serving.{served};
@@ -75,4 +79,15 @@ pub fn replies_name_what_they_answer()
     ensures cookies { (names : List Name) (call : CallItem) (outcome : Outcome) → cookie_told (reply_of names call outcome) ≡ cookie_of call }
     ensures lengths { (first last : ℕ) → first ≤ last → last < 2 ^ 64 → last_of first (length_of first last) ≡ Some last }
     ensures holders { (names : List Name) (n count : ℕ) (f : FrontState) (s : CoreState) (a : TestArgsItem) (at : Aim) (h : HolderItem) → aimed count a.lock ≡ Ok at → test_holder names (served n count f s (CallItem.Test a)).0 ≡ Some h → (c : Claim) × IsIn c s.claims × (stands_against (test_claim s a at) c ≡ true) × IsHolder names c h }
+{}
+
+/// The caller of a LOCK, a NM_LOCK or a SHARE that the core grants, or lets wait, is a host from then on; and each host stays one,
+/// whatever a call asks, and as clients are told of their grants (XNFS C702, NLM_FREE_ALL).
+#[tactic(auto, using(crate::proofs::HostKeptLaws::lockers_come, crate::proofs::HostKeptLaws::nm_lockers_come, crate::proofs::HostKeptLaws::sharers_come, crate::proofs::HostKeptLaws::hosts_stay, crate::proofs::HostKeptLaws::shown_hosts))]
+pub fn grants_make_hosts()
+    ensures locks { (n count : ℕ) (f : FrontState) (s : CoreState) (a : LockArgsItem) (at : Aim) (answer : Answering) → aimed count a.lock ≡ Ok at → let r = served n count f s (CallItem.Lock a) in r.0 ≡ Outcome.Answered answer → makes_host answer ≡ true → is_host a.lock.caller_name r.2.hosts ≡ true }
+    ensures nm_locks { (n count : ℕ) (f : FrontState) (s : CoreState) (a : LockArgsItem) (at : Aim) (answer : Answering) → aimed count a.lock ≡ Ok at → let r = served n count f s (CallItem.NmLock a) in r.0 ≡ Outcome.Answered answer → makes_host answer ≡ true → is_host a.lock.caller_name r.2.hosts ≡ true }
+    ensures shares { (n count : ℕ) (f : FrontState) (s : CoreState) (a : ShareArgsItem) (file : ℕ) (answer : Answering) → exported count a.fh ≡ Some file → let r = served n count f s (CallItem.Share a) in r.0 ≡ Outcome.Answered answer → makes_host answer ≡ true → is_host a.caller_name r.2.hosts ≡ true }
+    ensures calls { (n count : ℕ) (f : FrontState) (s : CoreState) (call : CallItem) (caller : List ℕ) → is_host caller f.hosts ≡ true → is_host caller (served n count f s call).2.hosts ≡ true }
+    ensures grants { (exports : Exports) (f : FrontState) (s : CoreState) (effect : Effect) → (shown exports f s effect).1.hosts ≡ f.hosts }
 {}

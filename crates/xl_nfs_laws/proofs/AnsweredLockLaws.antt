@@ -67,6 +67,20 @@ locks_stay s l current seqid stateid r w seqids orderly calm is m e =
     let none : is.row.seqids.closed ≡ None = all_in (λ (o : OwnerRow). o.name.kind ≡ kinds.Lock → o.seqids.closed ≡ None) is.row l.owners calm here.0 owned.1 in
     absurd (true≢false (ap is_some (sym e ∙ ap (λ (t : SeqidState). t.closed) is.seqids_is ∙ none)))
 
+-- a lock that isn't granted is told no stateid
+pub never_told : (t : CoreState) (l : NfsLists) (reclaim : Bool) (answer : Answer) (told : Stateid) → lock_told t l reclaim answer ≡ State told → ⊥
+never_told t l true (answers.Conflict c) told d = cc
+never_told t l false (answers.Conflict c) told d = cc
+never_told t l b (answers.Granted c) told d = cc
+never_told t l b (answers.Queued id) told d = cc
+never_told t l b (answers.Recall c) told d = cc
+never_told t l b (answers.Grace until) told d = cc
+never_told t l b (answers.NoGrace clock) told d = cc
+never_told t l b answers.NotRecorded told d = cc
+never_told t l b (answers.Full limit) told d = cc
+never_told t l b answers.NotHeld told d = cc
+never_told t l b answers.StoreFailed told d = cc
+
 -- ---- LOCK by a lock's stateid
 
 module _ (n : ℕ) (s : CoreState) (l : NfsLists) (current : Option ℕ) (a : LockArgsItem) (x : KnownLocker) (told : Stateid) (orderly : IsOrderly l) (calm : LockersCloseNothing l) where
@@ -87,21 +101,8 @@ module _ (n : ℕ) (s : CoreState) (l : NfsLists) (current : Option ℕ) (a : Lo
           file = refl;
           closed_is = refl;
         })
-        | inr e ↦ rw e (λ said. absurd (refused_no a.reclaim answer said))
+        | inr e ↦ rw e (λ said. absurd (never_told t l a.reclaim answer told said))
       ]
-    where
-      refused_no : (b : Bool) (y : Answer) → lock_told t l b y ≡ State told → ⊥
-      refused_no true (answers.Conflict c) d = cc
-      refused_no false (answers.Conflict c) d = cc
-      refused_no b (answers.Granted c) d = cc
-      refused_no b (answers.Queued id) d = cc
-      refused_no b (answers.Recall c) d = cc
-      refused_no b (answers.Grace until) d = cc
-      refused_no b (answers.NoGrace clock) d = cc
-      refused_no b answers.NotRecorded d = cc
-      refused_no b (answers.Full limit) d = cc
-      refused_no b answers.NotHeld d = cc
-      refused_no b answers.StoreFailed d = cc
 
   lock_owned : (r : StateidRow) (w last : ℕ) (seqids : SeqidState) (o : Option Opener) → x.stateid.seqid ≡ r.standing.seqid → IsNextOn s l current x.seqid x.stateid r w seqids → (carried n s l (lock_by_owner l current a r w seqids x.seqid last o)).0 ≡ State told → IsAnswered s l x.stateid told false (carried n s l (lock_by_owner l current a r w seqids x.seqid last o))
   lock_owned r w last seqids None own is said = absurd cc

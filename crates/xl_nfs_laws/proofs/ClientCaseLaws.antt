@@ -103,7 +103,7 @@ both_apart false y b e = absurd (true≢false (sym e))
 number_apart : (m k : ℕ) (r : ClientRow) → is_client m true r ≡ true → is_client k false r ≡ false
 number_apart m k r e = both_apart (m == r.number) (k == r.number) r.confirmed e
 
-named_apart : (id : List ℕ) (k : ℕ) (r : ClientRow) → is_client_named id true r ≡ true → is_client k false r ≡ false
+pub named_apart : (id : List ℕ) (k : ℕ) (r : ClientRow) → is_client_named id true r ≡ true → is_client k false r ≡ false
 named_apart id k r e = both_apart (bytes_eq id r.id) (k == r.number) r.confirmed e
 
 -- so nothing of the confirmed goes with an unconfirmed record

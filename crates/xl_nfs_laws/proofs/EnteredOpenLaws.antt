@@ -137,7 +137,7 @@ seated_by_there : (o : Opener) (seqids : SeqidState) (l : NfsLists) (r : Stateid
 seated_by_there o seqids l r by None found holds other = seated_new_there o seqids l r (next_owner l.owners) found
 seated_by_there o seqids l r by (Some y) found holds other = still_there y.seqids.closed (seqid_set y.number seqids l) r by found holds other
 
-seated_there : (o : Opener) (seqids : SeqidState) (l : NfsLists) (r : StateidRow) (by : ℕ) → find (is_stateid r.number) l.stateids ≡ Some r → r.holder ≡ holders.Open by → (option_and_then (λ (y : OwnerRow). y.seqids.closed) (find (is_opener o) l.owners) ≡ Some r.number → ⊥) → find (is_stateid r.number) (seated o seqids l).stateids ≡ Some r
+pub seated_there : (o : Opener) (seqids : SeqidState) (l : NfsLists) (r : StateidRow) (by : ℕ) → find (is_stateid r.number) l.stateids ≡ Some r → r.holder ≡ holders.Open by → (option_and_then (λ (y : OwnerRow). y.seqids.closed) (find (is_opener o) l.owners) ≡ Some r.number → ⊥) → find (is_stateid r.number) (seated o seqids l).stateids ≡ Some r
 unfolding seated
 seated_there o seqids l r by found holds other = seated_by_there o seqids l r by (find (is_opener o) l.owners) found holds other
 

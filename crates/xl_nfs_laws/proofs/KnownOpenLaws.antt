@@ -70,7 +70,7 @@ place_same a b e = subst (λ (c : Place). same_place a c ≡ true) e (itself a)
     itself (Delegated c f) = and_from (c == c) (f == f) (eq-eqb c c refl) (eq-eqb f f refl)
 
 -- what stands in a place stands there alone
-alone_there : (p : Place) (ss : List StateidRow) (r x : StateidRow) → Pairwise are_apart ss → find (λ s. same_place p (place_of s)) ss ≡ Some r → IsIn x ss → same_place p (place_of x) ≡ true → x ≡ r
+pub alone_there : (p : Place) (ss : List StateidRow) (r x : StateidRow) → Pairwise are_apart ss → find (λ s. same_place p (place_of s)) ss ≡ Some r → IsIn x ss → same_place p (place_of x) ≡ true → x ≡ r
 alone_there p [] r x apart found here at = absurd here
 alone_there p (y ∷ ss) r x apart found here at =
     elim (cases_Bool (same_place p (place_of y))) [
@@ -89,12 +89,12 @@ alone_there p (y ∷ ss) r x apart found here at =
     ]
 
 -- what an owner has on a file is held by it
-held_by : (w file client at : ℕ) (h : Holder) → same_place (Owned w file) (held_at h client at) ≡ true → owned_by h ≡ Some w
+pub held_by : (w file client at : ℕ) (h : Holder) → same_place (Owned w file) (held_at h client at) ≡ true → owned_by h ≡ Some w
 held_by w file client at (holders.Open by) e = ap (λ (m : ℕ). Some m) (sym (eqb-true w by (and_parts (w == by) (file == at) e).0))
 held_by w file client at (holders.Lock by under opener) e = ap (λ (m : ℕ). Some m) (sym (eqb-true w by (and_parts (w == by) (file == at) e).0))
 held_by w file client at (holders.Delegation write) e = absurd (true≢false (sym e))
 
-place_file : (w file : ℕ) (r : StateidRow) → owned_on w file r ≡ true → file ≡ r.file
+pub place_file : (w file : ℕ) (r : StateidRow) → owned_on w file r ≡ true → file ≡ r.file
 place_file w file r e = by r.holder e
   where
     by : (h : Holder) → same_place (Owned w file) (held_at h r.client r.file) ≡ true → file ≡ r.file
@@ -112,13 +112,13 @@ free_of {A = A} p xs each = by (find p xs) refl (find_in p xs)
 -- ---- a new open can come
 
 -- what is left once what an owner closed is gone
-gone_in : (closed : Option ℕ) (l : NfsLists) (x : StateidRow) → IsIn x (closed_gone closed l).stateids → IsIn x l.stateids × (closes closed x.number ≡ false)
+pub gone_in : (closed : Option ℕ) (l : NfsLists) (x : StateidRow) → IsIn x (closed_gone closed l).stateids → IsIn x l.stateids × (closes closed x.number ≡ false)
 gone_in None l x here = (here, refl)
 gone_in (Some number) l x here =
     let parts = in_filter_from (λ q. not (is_whose (whose.Stateid number) q)) x l.stateids here in
     (parts.0, false_from_ne_true (number == x.number) (λ e. true≢false (sym parts.1 ∙ ap (λ (b : Bool). not (b || is_under number x.holder)) e)))
 
-not_held : (r : StateidRow) (owner : ℕ) (os : List OwnerRow) (h : Holder) → owned_by h ≡ Some owner → find (is_owner owner) os ≡ None → IsHeldBy os r h → ⊥
+pub not_held : (r : StateidRow) (owner : ℕ) (os : List OwnerRow) (h : Holder) → owned_by h ≡ Some owner → find (is_owner owner) os ≡ None → IsHeldBy os r h → ⊥
 not_held r owner os (holders.Open w) is none held = subst (λ (x : Option OwnerRow). IsOwnedBy r kinds.Open x) (ap (λ (m : ℕ). find (is_owner m) os) (same_Some w owner is) ∙ none) held
 not_held r owner os (holders.Lock w under opener) is none held = subst (λ (x : Option OwnerRow). IsOwnedBy r kinds.Lock x) (ap (λ (m : ℕ). find (is_owner m) os) (same_Some w owner is) ∙ none) held
 not_held r owner os (holders.Delegation write) is none held = true≢false (sym (ap is_some is))

@@ -48,3 +48,6 @@ pub mod OpenFlagLaws
 pub mod AnsweredLockLaws
 pub mod RangeStatusLaws
 pub mod RangeToldLaws
+pub mod OwnerStayLaws
+pub mod FirstLockLaws
+pub mod ExactStatusLaws

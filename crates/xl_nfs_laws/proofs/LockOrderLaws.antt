@@ -94,7 +94,7 @@ open_counted : (l : NfsLists) (b : BothOwners) (o : OwnerRow) (bytes : List ℕ)
 open_counted l b o bytes found same orderly = counted_orderly l b.number o b.seqids.closed (next_seqids 12 b.open_seqid b.seqids.confirmed None) bytes found (ap (λ (t : SeqidState). t.closed) same) refl orderly
 
 -- and so does the lock owner
-both_counted : (l : NfsLists) (b : BothOwners) (x : OwnerRow) (o : Opener) (bytes : List ℕ) → find (is_owner b.number) l.owners ≡ Some x → b.seqids ≡ x.seqids → IsOrderly l → IsOrderly (first.counted_both b o bytes l)
+pub both_counted : (l : NfsLists) (b : BothOwners) (x : OwnerRow) (o : Opener) (bytes : List ℕ) → find (is_owner b.number) l.owners ≡ Some x → b.seqids ≡ x.seqids → IsOrderly l → IsOrderly (first.counted_both b o bytes l)
 both_counted l b x o bytes found same orderly = remembered_orderly o (next_seqids 12 b.lock_seqid true None) bytes (first.counted_open b bytes l) refl (open_counted l b x bytes found same orderly)
 
 both_refused_orderly : (l : NfsLists) (current : Option ℕ) (b : BothOwners) (x : OwnerRow) (o : Opener) (told : Told) → find (is_owner b.number) l.owners ≡ Some x → b.seqids ≡ x.seqids → IsOrderly l → Keeps (first.both_refused l current b o told)
@@ -190,7 +190,7 @@ locker_is o seqids bytes k none rising room =
       none = ap (λ (t : SeqidState). t.closed) is.seqids_is ∙ none;
     })
 
-both_locker : (l : NfsLists) (b : BothOwners) (x : OwnerRow) (o : Opener) (bytes : List ℕ) → find (is_owner b.number) l.owners ≡ Some x → b.seqids ≡ x.seqids → is_room_for o l ≡ true → IsOrderly l → IsLocker o (first.counted_both b o bytes l)
+pub both_locker : (l : NfsLists) (b : BothOwners) (x : OwnerRow) (o : Opener) (bytes : List ℕ) → find (is_owner b.number) l.owners ≡ Some x → b.seqids ≡ x.seqids → is_room_for o l ≡ true → IsOrderly l → IsLocker o (first.counted_both b o bytes l)
 both_locker l b x o bytes found same room orderly =
     locker_is o (next_seqids 12 b.lock_seqid true None) bytes (first.counted_open b bytes l) refl (open_counted l b x bytes found same orderly).rising (room_stays o b.number b.seqids.closed (next_seqids 12 b.open_seqid b.seqids.confirmed None) bytes l room)
 

@@ -51,7 +51,7 @@ renewed_in : (l : NfsLists) (who : Option ℕ) (id : List ℕ) (ds : List Deed) 
 renewed_in l who id ds is = in_append_left (Renews id) (renewals l who) ds (renewed_first l who id is)
 
 -- who is named before another's lease is renewed is named then
-number_then : (n : ℕ) (s : CoreState) (l : NfsLists) (who : Option ℕ) (clientid : ℕ) → number_in (all_done n s (renewals l who)) clientid ≡ number_in s clientid
+pub number_then : (n : ℕ) (s : CoreState) (l : NfsLists) (who : Option ℕ) (clientid : ℕ) → number_in (all_done n s (renewals l who)) clientid ≡ number_in s clientid
 unfolding renew_lease
 number_then n s l None clientid = refl
 number_then n s l (Some other) clientid = by (find (is_client other true) l.clients)

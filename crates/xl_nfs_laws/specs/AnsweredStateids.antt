@@ -22,7 +22,7 @@ use Rattle.xl_nfs_laws.specs.OpenLaws.{IsOpenOf}
 use Rattle.xl_nfs_opens.specs.Plans.{Outcome}
 use Rattle.xl_nfs_opens.specs.Renewing.{number_of as number_in_other, stateid_of}
 use Rattle.xl_nfs_opens.specs.Results.{spelled}
-use Rattle.xl_nfs_opens.specs.Seqids.{opener_number}
+use Rattle.xl_nfs_opens.specs.Seqids.{is_opener, opener_number}
 use Rattle.xl_nfs_opens.specs.declared.opener.Opener.{Opener}
 use Rattle.xl_nfs_opens.specs.declared.told.Told.TheVariants.{State}
 
@@ -122,3 +122,17 @@ new_locks s l b o r = record {
 -- it can come
 abbrev pub can_join : CoreState → NfsLists → BothOwners → Opener → StateidRow → Bool
 can_join s l b o r = can_enter (new_locks s l b o r) (with_stateids (counted_new s l b o) (without (is_whose (whose.Stateid (s.counter + 1))) (counted_new s l b o).stateids))
+
+-- What a LOCK under this open is answered is a new stateid, of the lock owner's locks on the open's file: it is there then, under
+-- the open, with its own seqid, isn't closed, and its owner is there.
+pub record AreNewLocks (r : StateidRow) (o : Opener) (told : Stateid) (done : Outcome) : Type 0 where
+  pub row : StateidRow
+  pub owner : OwnerRow
+  pub opener : ℕ
+  pub found : find (is_stateid row.number) done.3.stateids ≡ Some row
+  pub told_is : told ≡ stateid_of done.4 row.number row.standing.seqid
+  pub client : row.client ≡ r.client
+  pub file : row.file ≡ r.file
+  pub its : find (is_opener o) done.3.owners ≡ Some owner
+  pub holder : row.holder ≡ holders.Lock owner.number r.number opener
+  pub live : row.standing.closed ≡ false

@@ -14,3 +14,4 @@ pub mod ClientCases
 pub mod Statuses
 pub mod Denied
 pub mod OpenAnswers
+pub mod OwnersStay

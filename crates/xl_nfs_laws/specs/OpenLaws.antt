@@ -1,5 +1,5 @@
 -- What is said of opens.
-use Rattle.std.specs.Prelude.{◌≡◌, ◌+◌, Bool, true, false, List, [], ◌∷◌, ℕ, Option, Some, None, option_map}
+use Rattle.std.specs.Prelude.{◌≡◌, ◌≤◌, ◌⊎◌, ◌+◌, Bool, true, false, List, [], ◌∷◌, ℕ, Option, Some, None, option_map}
 use Rattle.std.specs.List.{find}
 use Rattle.xl_nfs.specs.Opens.{OpenArgsItem}
 use Rattle.xl_nfs.specs.declared.basics.Stateid.{Stateid}
@@ -80,3 +80,15 @@ goes_on (judgements.Anew number) = None
 abbrev pub IsShared : Rwd → Rwd → List (Rwd × Rwd) → Type 0
 IsShared access deny (share ∷ []) = (rights_lie_within access share.0 ≡ true) × (rights_lie_within deny share.1 ≡ true)
 IsShared access deny _ = ⊥
+
+-- each right that the first bits name is among those of the second: reading is 1 or 3, writing 2 or 3
+abbrev pub AreOf : ℕ → ℕ → Type 0
+AreOf asked had = ((asked ≡ 1) ⊎ (asked ≡ 3) → (had ≡ 1) ⊎ (had ≡ 3)) × ((asked ≡ 2) ⊎ (asked ≡ 3) → (had ≡ 2) ⊎ (had ≡ 3))
+
+-- something is left of the open's access, no bit is asked for that has no meaning, and each that is asked for is the open's
+pub record IsLess (r : StateidRow) (access deny : ℕ) : Type 0 where
+  pub least : 1 ≤ access
+  pub most : access ≤ 3
+  pub deny_most : deny ≤ 3
+  pub access_of : AreOf access r.standing.access
+  pub deny_of : AreOf deny r.standing.deny

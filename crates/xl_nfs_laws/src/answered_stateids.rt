@@ -1,29 +1,39 @@
 //! Laws of the stateids that operations are answered. The functions do nothing: each has laws as its clauses.
-ghost use Rattle.std.specs.Prelude.{◌≡◌, ◌+◌, ℕ, true, false, Option, Some};
+ghost use Rattle.std.specs.Prelude.{◌≡◌, ◌+◌, ℕ, true, false, Option, Some, None};
 ghost use Rattle.std.specs.List.{find};
-ghost use Rattle.xl_nfs.specs.Locks.{LockArgsItem};
+ghost use Rattle.xl_nfs.specs.Locks.{LockArgsItem, NewLockerItem};
 ghost use Rattle.xl_nfs.specs.declared.basics.Stateid.{Stateid};
 ghost use Rattle.xl_nfs.specs.declared.locks.KnownLocker.{KnownLocker as Locker};
 ghost use Rattle.xl_nfs.specs.declared.locks.UnlockArgs.{UnlockArgs as Unlocked};
 ghost use Rattle.xl_nfs.specs.declared.opens.CloseArgs.{CloseArgs};
 ghost use Rattle.xl_nfs.specs.declared.opens.OpenConfirmArgs.{OpenConfirmArgs};
 ghost use Rattle.xl_nfs.specs.declared.opens.OpenDowngradeArgs.{OpenDowngradeArgs};
-ghost use Rattle.xl_nfs_state.specs.State.{NfsLists, is_stateid};
+ghost use Rattle.xl_nfs_state.specs.State.{NfsLists, is_stateid, owned_on};
+ghost use Rattle.xl_nfs_state.specs.Verdict.{next_seqid};
+ghost use Rattle.xl_nfs_state.specs.declared.owner.OwnerKind.TheVariants.{Lock as OfLocks};
+ghost use Rattle.xl_nfs_state.specs.declared.owner.OwnerRow.{OwnerRow};
+ghost use Rattle.xl_nfs_state.specs.declared.owner.SeqidState.{SeqidState as OwnerSeqids};
 ghost use Rattle.xl_nfs_state.specs.declared.stateid.StateidRow.{StateidRow};
+ghost use Rattle.xl_core.specs.Good.{IsGood};
 ghost use Rattle.xl_core.specs.State.{CoreState};
 ghost use Rattle.xl_nfs_locks.specs.Checks.{locks_found};
-ghost use Rattle.xl_nfs_locks.specs.FirstLocks.{joined_new};
+ghost use Rattle.xl_nfs_locks.specs.FirstLocks.{found_joined, join_checked, joined_new, locker_under};
 ghost use Rattle.xl_nfs_locks.specs.Locks.{lock_found};
 ghost use Rattle.xl_nfs_locks.specs.Unlocks.{unlock_found};
 ghost use Rattle.xl_nfs_locks.specs.declared.joining.BothOwners.{BothOwners as Owners};
+ghost use Rattle.xl_nfs_locks.specs.declared.joining.Joined.TheVariants.{Joins};
 ghost use Rattle.xl_nfs_opens.specs.Closing.{checked, close_by, confirm_by};
 ghost use Rattle.xl_nfs_opens.specs.Downgrades.{downgrade_by};
+ghost use Rattle.xl_nfs_opens.specs.Opens.{client_in};
 ghost use Rattle.xl_nfs_opens.specs.Plans.{carried};
 ghost use Rattle.xl_nfs_opens.specs.Renewing.{stateid_of};
+ghost use Rattle.xl_nfs_opens.specs.Seqids.{is_opener};
+ghost use Rattle.xl_nfs_opens.specs.declared.opener.Checked.TheVariants.{Passed};
 ghost use Rattle.xl_nfs_opens.specs.declared.opener.Opener.{Opener as LockOwner};
 ghost use Rattle.xl_nfs_opens.specs.declared.told.Told.TheVariants.{State};
-ghost use Rattle.xl_nfs_laws.specs.AnsweredStateids.{IsAnswered, LockersCloseNothing, can_join, new_locks};
+ghost use Rattle.xl_nfs_laws.specs.AnsweredStateids.{AreNewLocks, IsAnswered, LockersCloseNothing, can_join, new_locks};
 ghost use Rattle.xl_nfs_laws.specs.Orderly.{IsOrderly};
+ghost use Rattle.xl_nfs_laws.specs.StateidNumbers.{AreGivenOut};
 
 /// What an OPEN_CONFIRM, an OPEN_DOWNGRADE or a CLOSE is answered, once it is OK and no repeat, is the stateid of the open
 /// that it named by its own seqid, as that stands then: with its number, and with the seqid that it has then, the one after.
@@ -44,4 +54,13 @@ pub fn answered_locks_stand()
     ensures unlocks { (n : ℕ) (s : CoreState) (l : NfsLists) (current : Option ℕ) (a : Unlocked) (told : Stateid) → IsOrderly l → LockersCloseNothing l → (carried n s l (unlock_found s l current a (locks_found s l current 14 a.seqid a.stateid))).0 ≡ State told → IsAnswered s l a.stateid told false (carried n s l (unlock_found s l current a (locks_found s l current 14 a.seqid a.stateid))) }
     ensures first { (n : ℕ) (s : CoreState) (l : NfsLists) (current : Option ℕ) (b : Owners) (o : LockOwner) (r : StateidRow) → can_join s l b o r ≡ true → find (is_stateid (s.counter + 1)) (carried n s l (joined_new s l current b o r)).3.stateids ≡ Some (new_locks s l b o r) }
     ensures told { (n : ℕ) (s : CoreState) (l : NfsLists) (current : Option ℕ) (b : Owners) (o : LockOwner) (r : StateidRow) → (carried n s l (joined_new s l current b o r)).0 ≡ State (stateid_of (carried n s l (joined_new s l current b o r)).4 (s.counter + 1) 1) }
+{}
+
+/// So it can come at all times: a LOCK under an open that is answered a stateid, by an owner without one there, is answered one that
+/// is there from then on, of its owner's locks on the file, under the open. An owner's stateid that stands on the file already is
+/// the one that is used again, by its next seqid (RFC 7530 9.1.4, 16.10).
+pub fn first_locks_stand()
+    ensures comes { (n : ℕ) (s : CoreState) (l : NfsLists) (current : Option ℕ) (a : LockArgsItem) (x : NewLockerItem) (r : StateidRow) (owner : ℕ) (seqids : OwnerSeqids) (o : LockOwner) (told : Stateid) → checked s l current 12 x.open_seqid x.open_stateid ≡ Passed r owner seqids → locker_under r x.owner.owner (client_in s l x.owner.clientid) ≡ Some o → IsGood s → IsOrderly l → LockersCloseNothing l → AreGivenOut s.counter l → found_joined l r o x.lock_seqid ≡ Joins None → (carried n s l (join_checked s l current a x (checked s l current 12 x.open_seqid x.open_stateid))).0 ≡ State told → AreNewLocks r o told (carried n s l (join_checked s l current a x (checked s l current 12 x.open_seqid x.open_stateid))) }
+    ensures again { (n : ℕ) (s : CoreState) (l : NfsLists) (current : Option ℕ) (a : LockArgsItem) (x : NewLockerItem) (r : StateidRow) (owner : ℕ) (seqids : OwnerSeqids) (o : LockOwner) (told : Stateid) → checked s l current 12 x.open_seqid x.open_stateid ≡ Passed r owner seqids → locker_under r x.owner.owner (client_in s l x.owner.clientid) ≡ Some o → (q : StateidRow) → found_joined l r o x.lock_seqid ≡ Joins (Some q) → (carried n s l (join_checked s l current a x (checked s l current 12 x.open_seqid x.open_stateid))).0 ≡ State told → told ≡ stateid_of (carried n s l (join_checked s l current a x (checked s l current 12 x.open_seqid x.open_stateid))).4 q.number (next_seqid q.standing.seqid) }
+    ensures stood { (l : NfsLists) (r : StateidRow) (o : LockOwner) (seqid : ℕ) (w : OwnerRow) (q : StateidRow) (j : Option StateidRow) → IsOrderly l → LockersCloseNothing l → o.kind ≡ OfLocks → find (is_opener o) l.owners ≡ Some w → find (owned_on w.number r.file) l.stateids ≡ Some q → found_joined l r o seqid ≡ Joins j → j ≡ Some q }
 {}

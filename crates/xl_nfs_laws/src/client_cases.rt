@@ -1,11 +1,11 @@
 //! Laws of clients: RENEW, SETCLIENTID and SETCLIENTID_CONFIRM, case by case. The functions do nothing: each has laws as its
 //! clauses.
-ghost use Rattle.std.specs.Prelude.{◌≡◌, ◌↔◌, ◌+◌, ℕ, true, false, [], Option, Some, None};
+ghost use Rattle.std.specs.Prelude.{◌≡◌, ◌↔◌, ◌+◌, ℕ, true, false, [], length, Option, Some, None};
 ghost use Rattle.std.specs.List.{find};
 ghost use Rattle.xl_nfs.specs.Clients.{SetClientIdArgsItem};
 ghost use Rattle.xl_nfs.specs.declared.clients.ClientConfirm.{ClientConfirm};
-ghost use Rattle.xl_nfs.specs.declared.status.NfsStatus.TheVariants.{Ok, StaleClientId};
-ghost use Rattle.xl_nfs_state.specs.State.{NfsLists, is_client, is_client_named};
+ghost use Rattle.xl_nfs.specs.declared.status.NfsStatus.TheVariants.{Ok, Resource, StaleClientId};
+ghost use Rattle.xl_nfs_state.specs.State.{IsSound, NfsLists, is_client, is_client_named};
 ghost use Rattle.xl_nfs_state.specs.declared.client.ClientRow.{ClientRow};
 ghost use Rattle.xl_core.specs.Ids.{number_in};
 ghost use Rattle.xl_core.specs.State.{CoreState};
@@ -32,6 +32,14 @@ pub fn confirmed_clients_renew()
 pub fn clients_are_set_unconfirmed()
     ensures same { (n : ℕ) (s : CoreState) (l : NfsLists) (current : Option ℕ) (a : SetClientIdArgsItem) (r : ClientRow) → has_room (without_named a.id l) ≡ true → find (is_client_named a.id true) l.clients ≡ Some r → r.details.verifier ≡ a.verifier → IsSet s l a r.number (carried n s l (set_client_id s l current a)) }
     ensures anew { (n : ℕ) (s : CoreState) (l : NfsLists) (current : Option ℕ) (a : SetClientIdArgsItem) → has_room (without_named a.id l) ≡ true → ((r : ClientRow) → find (is_client_named a.id true) l.clients ≡ Some r → r.details.verifier ≡ a.verifier → ⊥) → IsSet s l a (s.counter + 1) (carried n s l (set_client_id s l current a)) }
+{}
+
+/// A SETCLIENTID is RESOURCE exactly if 256 records are there and none of them is an unconfirmed one of its id string, which would
+/// make room; and then it changes nothing.
+#[tactic(auto, using(crate::proofs::ExactStatusLaws::full_exactly, crate::proofs::ExactStatusLaws::full_changes_nothing))]
+pub fn clients_find_room()
+    ensures exactly { (n : ℕ) (s : CoreState) (l : NfsLists) (current : Option ℕ) (a : SetClientIdArgsItem) → IsSound l → ((carried n s l (set_client_id s l current a)).0 ≡ Ended Resource) ↔ ((length l.clients ≡ 256) × (find (is_client_named a.id false) l.clients ≡ None)) }
+    ensures nothing { (n : ℕ) (s : CoreState) (l : NfsLists) (current : Option ℕ) (a : SetClientIdArgsItem) → IsSound l → (carried n s l (set_client_id s l current a)).0 ≡ Ended Resource → carried n s l (set_client_id s l current a) ≡ (Ended Resource, current, [], l, s) }
 {}
 
 /// A SETCLIENTID_CONFIRM is OK exactly if its clientid names a record that its verifier confirms, unconfirmed or confirmed;

@@ -16,6 +16,7 @@ pub mod open_numbers;
 pub mod open_order;
 pub mod open_seqids;
 pub mod opens;
+pub mod owners_stay;
 pub mod refusals;
 pub mod request_numbers;
 pub mod request_order;

@@ -29,3 +29,5 @@ pub mod WaitRowLaws
 pub mod LockCauseLaws
 pub mod OnceAnsweredLaws
 pub mod RowEndLaws
+pub mod BeginningLaws
+pub mod GivenNumberLaws

@@ -1,4 +1,5 @@
 pub mod AskedRows
+pub mod Beginnings
 pub mod LockCauses
 pub mod LockLaws
 pub mod AskedMessages

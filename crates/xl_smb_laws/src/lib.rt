@@ -3,6 +3,7 @@
 
 pub mod asking;
 pub mod awaiting;
+pub mod beginnings;
 pub mod cancelling;
 pub mod ending;
 pub mod locking;
