@@ -1,8 +1,10 @@
 pub mod Addresses
 pub mod Capture
+pub mod Headers
 pub mod Links
 pub mod Numbers
 pub mod Rows
 pub mod Show
 pub mod Summary
 pub mod Transcript
+pub mod Written

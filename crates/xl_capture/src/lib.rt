@@ -3,6 +3,7 @@
 
 mod addresses;
 mod capture;
+mod headers;
 mod law;
 mod links;
 mod numbers;
@@ -10,13 +11,16 @@ mod rows;
 mod show;
 mod summaries;
 mod transcripts;
+mod written;
 
 pub use addresses::Addresses;
 pub use capture::{
     Capture, CaptureError, DEFAULT_BREAK, DEFAULT_GRACE, DEFAULT_LEASE, MOST_BYTES, read_capture,
 };
+pub use headers::read_header;
 pub use law::streams_may_be_cut_anywhere;
 pub use numbers::number_of;
 pub use show::{show_line, show_text};
 pub use summaries::summary;
 pub use transcripts::transcript;
+pub use written::capture_of;

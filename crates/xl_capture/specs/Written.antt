@@ -1,0 +1,73 @@
+-- The capture that a journal is written as.
+use Rattle.std.specs.Prelude.{ℕ, nat_le, if◌then◌else◌, List, [], ◌∷◌, ◌++◌, codes, length, slice_get, Option, Some, None}
+use Rattle.std.specs.Fmt.{decimal}
+use Rattle.xl_base.specs.Limits.{most_message_bytes}
+use Rattle.xl_base.specs.declared.event.Event.{Event}
+use Rattle.xl_base.specs.declared.event.Event.TheVariants.{Open, Message, End, Called, Tick, Restart}
+use Rattle.xl_base.specs.declared.event.Kind.{Kind}
+use Rattle.xl_base.specs.declared.event.Kind.TheVariants.{Rpc, Smb}
+use Rattle.xl_base.specs.declared.journal.Entry.{Entry}
+use Rattle.xl_base.specs.declared.journal.Exports.{Exports}
+use Rattle.xl_base.specs.declared.journal.Journal.{Journal}
+use Rattle.xl_frame.specs.Frames.{wrapped}
+use Rattle.xl_names.specs.Texts.{hex_word}
+
+-- ---- header lines
+
+abbrev pub file_lines : List (List ℕ) → List ℕ
+file_lines [] = []
+file_lines (f ∷ fs) = (codes "F " ++ f ++ codes "\n") ++ file_lines fs
+
+abbrev pub address_lines : List (List ℕ × List ℕ) → List ℕ
+address_lines [] = []
+address_lines (a ∷ addresses) = (codes "H " ++ hex_word a.0 ++ codes " " ++ a.1 ++ codes "\n") ++ address_lines addresses
+
+unfoldable pub times_line : Exports → List ℕ
+times_line e = codes "L " ++ decimal e.lease ++ codes " " ++ decimal e.grace ++ codes " " ++ decimal e.break_time ++ codes "\n"
+
+abbrev pub header_lines : Exports → List ℕ
+header_lines e = file_lines e.files ++ (address_lines e.addresses ++ times_line e)
+
+-- ---- event lines
+
+abbrev pub kind_word : Kind → List ℕ
+kind_word Rpc = codes "rpc"
+kind_word Smb = codes "smb"
+
+-- what a connection speaks that this event opened; ONC RPC if it opened none
+abbrev pub opened_by : Event → Kind
+opened_by (Open kind) = kind
+opened_by _ = Rpc
+
+abbrev pub opened_in : Option Entry → Kind
+opened_in None = Rpc
+opened_in (Some e) = opened_by e.event
+
+-- what the connection of this number speaks, which is the place of its opening
+abbrev pub kind_at : List Entry → ℕ → Kind
+kind_at es number = opened_in (slice_get es number)
+
+abbrev pub answer_words : Option (List ℕ) → List ℕ
+answer_words None = []
+answer_words (Some bytes) = codes " " ++ hex_word bytes
+
+-- the line of a message as one whole frame; nothing of one that is too long for a frame, which no stream gives
+unfoldable pub message_line : Kind → ℕ → List ℕ → List ℕ
+message_line kind number bytes = if nat_le (length bytes) most_message_bytes then (codes "B " ++ decimal number ++ codes " ") ++ hex_word (wrapped kind bytes) ++ codes "\n" else []
+
+-- the line of an event
+unfoldable pub event_line : List Entry → Event → List ℕ
+event_line es (Open kind) = codes "O " ++ kind_word kind ++ codes "\n"
+event_line es (Message number bytes) = message_line (kind_at es number) number bytes
+event_line es (End number) = codes "E " ++ decimal number ++ codes "\n"
+event_line es (Called call answer) = (codes "C " ++ decimal call) ++ answer_words answer ++ codes "\n"
+event_line es (Tick moment) = codes "T " ++ decimal moment.0 ++ codes "\n"
+event_line es Restart = codes "R\n"
+
+abbrev pub event_lines : List Entry → List Entry → List ℕ
+event_lines all [] = []
+event_lines all (e ∷ es) = event_line all e.event ++ event_lines all es
+
+-- the capture of a journal: its exports, and then a line for each entry
+unfoldable pub capture_of : Journal → List ℕ
+capture_of j = header_lines j.head.exports ++ event_lines j.entries j.entries
