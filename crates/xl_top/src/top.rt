@@ -10,7 +10,9 @@ ghost use Rattle.xl_house.specs.Steady.{IsSteady};
 ghost use Rattle.xl_house.specs.Entries.{IsWishing, IsBreaking, IsKeeping, IsPartied};
 ghost use Rattle.xl_house.specs.Owed.{IsOwed};
 ghost use Rattle.xl_house.specs.Replying.{IsReplied};
+ghost use Rattle.xl_house.specs.Notified.{IsNotified};
 ghost use Rattle.xl_house.specs.Asking.{IsAsking};
+ghost use Rattle.xl_house.specs.Meant.{IsMeant};
 ghost use Rattle.xl_house.specs.Free.{AlwaysFree};
 ghost use Rattle.xl_house.specs.Housed.{Housed, is_spoiled};
 ghost use Rattle.xl_house.specs.Journals.{replay, IsLegal, IsOrderly, entries_of, most_entries};
@@ -477,7 +479,7 @@ fn make<O: Sink>(alloc: Global, seed: u32, count: u32, out: &mut O) -> Done
 ///
 /// The journal that comes back has each event that was stepped, with what was sent for it. The clauses from `legal` to
 /// `served` hold for it whatever the input is, and at every status.
-#[tactic(auto, using(xl_house::proofs::MachineLaws::begun_free, xl_house::proofs::LawfulLaws::always_lawful, xl_house::proofs::LawfulLaws::always_waiting, xl_house::proofs::LawfulLaws::always_kept, xl_house::proofs::LawfulLaws::always_complete, xl_house::proofs::FittingLaws::always_fitting, xl_house::proofs::LawfulLaws::always_caused, xl_house::proofs::LawfulLaws::always_told, xl_house::proofs::SteadyLaws::always_steady, xl_house::proofs::EntryLaws::always_wishing, xl_house::proofs::EntryLaws::always_breaking, xl_house::proofs::EntryLaws::always_keeping, xl_house::proofs::OwedLaws::always_owed, xl_house::proofs::ReplyingLaws::always_replied, xl_house::proofs::EntryLaws::always_partied, xl_house::proofs::AskingLaws::always_asking))]
+#[tactic(auto, using(xl_house::proofs::MachineLaws::begun_free, xl_house::proofs::LawfulLaws::always_lawful, xl_house::proofs::LawfulLaws::always_waiting, xl_house::proofs::LawfulLaws::always_kept, xl_house::proofs::LawfulLaws::always_complete, xl_house::proofs::FittingLaws::always_fitting, xl_house::proofs::LawfulLaws::always_caused, xl_house::proofs::LawfulLaws::always_told, xl_house::proofs::SteadyLaws::always_steady, xl_house::proofs::EntryLaws::always_wishing, xl_house::proofs::EntryLaws::always_breaking, xl_house::proofs::EntryLaws::always_keeping, xl_house::proofs::OwedLaws::always_owed, xl_house::proofs::ReplyingLaws::always_replied, xl_house::proofs::EntryLaws::always_partied, xl_house::proofs::AskingLaws::always_asking, xl_house::proofs::NotifiedLaws::always_notified, xl_house::proofs::MeantLaws::always_meant))]
 pub fn run<I: Source, O: Sink>(alloc: Global, words: &[String], input: &mut I, out: &mut O) -> Done
     ensures known { is_status result.status ≡ true }
 
@@ -552,11 +554,14 @@ pub fn run<I: Source, O: Sink>(alloc: Global, words: &[String], input: &mut I, o
     // wished: a wish gets one of its choices, or the least kind in which one of them and what its party had lie, and nothing if
     // someone waits on the file.
     // asking: an ask of a request of NLM is on the exported file that it names, a reclaim exactly if it says so, and with the room that
-    // is left for hosts.
+    // is left for hosts. One of a LOCK or a CREATE of SMB is of the open and on the file that it names.
     // owed: if a client refuses a lock whose grant it was sent, just that is unlocked.
+    // meant: what the reply to a request of NLM, or to a LOCK, CREATE or CLOSE of SMB, says is done is done.
     // caused: an event does only what such an event may do, and only for the clients that it names.
     // replied: each call of ONC RPC that a record is has one reply, on its own connection and with its own xid.
     // told: what is sent follows from what the event did and what it was answered.
+    // notified: each break that begins, each lock of NLM that waited and is granted, and each request of SMB that waited and is
+    // served or cancelled is told by one message, to whom it is due; and besides, only the event's message is replied to.
     ensures lawful { Always IsLawful (start_of result.journal.head) result.journal.entries }
     ensures steady { Always IsSteady (start_of result.journal.head) result.journal.entries }
     ensures parties { Always IsPartied (start_of result.journal.head) result.journal.entries }
@@ -569,9 +574,11 @@ pub fn run<I: Source, O: Sink>(alloc: Global, words: &[String], input: &mut I, o
     ensures wished { Always IsWishing (start_of result.journal.head) result.journal.entries }
     ensures asking { Always IsAsking (start_of result.journal.head) result.journal.entries }
     ensures owed { Always IsOwed (start_of result.journal.head) result.journal.entries }
+    ensures meant { Always IsMeant (start_of result.journal.head) result.journal.entries }
     ensures caused { Always IsCaused (start_of result.journal.head) result.journal.entries }
     ensures replied { Always IsReplied (start_of result.journal.head) result.journal.entries }
     ensures told { Always IsTold (start_of result.journal.head) result.journal.entries }
+    ensures notified { Always IsNotified (start_of result.journal.head) result.journal.entries }
 
     // Each request of SMB that waits has a waiter in the core, and each waiter of an SMB open has its request. If a CREATE or a
     // LOCK that waited is granted, its open is there, and its final reply says that it succeeded. The end of a connection of SMB leaves
