@@ -73,9 +73,9 @@ def stateid(number, seqid):
     return struct.pack(">2IQ", seqid, 1, number)
 
 
-def open_file(seqid, client, owner, name):
-    """OPEN for reading and writing, which denies nothing."""
-    arguments = struct.pack(">4I", 18, seqid, 3, 0) + clientid(client) + opaque(owner)
+def open_file(seqid, client, owner, name, access=3):
+    """OPEN for reading and writing, or with another access, which denies nothing."""
+    arguments = struct.pack(">4I", 18, seqid, access, 0) + clientid(client) + opaque(owner)
     return arguments + struct.pack(">2I", 0, 0) + opaque(name)
 
 
@@ -128,7 +128,7 @@ def create(name, access=3, share=7):
     return fixed + struct.pack("<HHII", 120, len(name), 0, 0) + name
 
 
-ALL_OF_A_LEASE, READS_AND_HANDLE = 7, 3
+ALL_OF_A_LEASE, READS_AND_HANDLE, READS = 7, 3, 1
 
 
 def create_leased(name, key, state=ALL_OF_A_LEASE):

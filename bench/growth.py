@@ -3,7 +3,7 @@
 
     python3 bench/growth.py BINARY [--instructions]
 
-replays captures with a built xlockd and prints four tables. A pair is a LOCK of one byte that nothing stands against and
+replays captures with a built xlockd and prints five tables. A pair is a LOCK of one byte that nothing stands against and
 its UNLOCK; its cost is the processor's time of a capture that prepares what is held and then makes many pairs, without
 that of one that prepares alone, over the number of pairs. The first column has microseconds, the others the ratio to it.
 
@@ -19,14 +19,17 @@ on to wait, and whose claims are all freed then; with so many who wait elsewhere
 The fourth has the cost of a reading of the clock with so many caches, as leases of SMB opens, none of which breaks; an SMB
 server has 4,096 opens at most.
 
+The fifth, which is printed with --instructions alone, has the instructions of one message beside so many things that it has to
+do with, and how often they are those at the number before.
+
 With --instructions a cost is a count of instructions, by valgrind: it is the same in each run, whatever else the machine does.
 """
 import argparse
 import os
 import tempfile
 
-from calls import FREE_ALL, LOCK, READS_AND_HANDLE, UNLOCK, create_leased, free_all, instructions, message, record, replay
-from calls import smb_number, write_capture
+from calls import FREE_ALL, LOCK, PUT_ROOT_FH, READS, READS_AND_HANDLE, TEST, UNLOCK, compound, confirm, create, create_leased
+from calls import free_all, instructions, message, open_file, record, replay, set_client_id, smb_number, write_capture
 from protocols import CONNECTED
 
 HELD = (1, 100, 1_000, 10_000)
@@ -162,6 +165,122 @@ def instructions_of_tick(binary, caches):
     return (of_ticks(instructions, binary, caches, COUNTED_TICKS) - of_ticks(instructions, binary, caches, 0)) / COUNTED_TICKS
 
 
+# ---- one message, and what it has to do with
+
+
+def by_rpc(calls):
+    """Lines of a capture in which a connection of ONC RPC is opened, before its calls."""
+    return "rpc", [made(xid, *call) for xid, call in enumerate(calls, 1)]
+
+
+def opened(count, body):
+    """Lines in which one of SMB is opened, a session and a tree connect are made, and so many opens of the first file."""
+    messages = [make(number) for number, make in enumerate(CONNECTED, 1)]
+    first = len(messages) + 1
+    return "smb", messages + [message(first + at, 5, body(at), 2, smb_number(1)) for at in range(count)]
+
+
+def leased_as(state):
+    """Opens for reading of the first file, each with a lease of its own, of this state."""
+    return lambda count: opened(count, lambda at: create_leased("f0", (1 + at).to_bytes(4, "little"), state))
+
+
+def plain(count):
+    return opened(count, lambda at: create("f0"))
+
+
+def next_of_smb(command, body):
+    """A message behind those of the connection of SMB."""
+    return lambda count, at: f"B 0 {message(len(CONNECTED) + 1 + count, command, body, 2, smb_number(1)).hex()}"
+
+
+def next_of_rpc(*call):
+    """A call on the first connection, of ONC RPC."""
+    return lambda count, at: f"B 0 {made(2**31, *call).hex()}"
+
+
+def on_another(*records):
+    """Records on a connection of ONC RPC that is opened for them; the last is the message that is measured."""
+    return lambda count, at: "\n".join(["O rpc"] + [f"B {at} {data.hex()}" for data in records])
+
+
+def waiting_for(exclusive, host, count):
+    """A byte is locked, and so many owners of this host wait for it."""
+    return [(LOCK, 1, 0, 0, 1, True, False)] + [(LOCK, 1, 2 + at, 0, 1, exclusive, True, host) for at in range(count)]
+
+
+def ranges_of(count):
+    return [(LOCK, 1, 2 + at, STEP * at, 1, False, False) for at in range(count)]
+
+
+DENIES_ALL, LOG_OFF = create("f0", 1, 0), b"\x04\0\0\0"
+READS_OF = create("f0", 1)
+
+
+def nfs_open(count, at):
+    """An OPEN for reading of the first file by a client of NFSv4 that came before; the session, the tree connect and the opens
+    have the numbers before its own."""
+    client = 3 + count
+    come = compound(1, set_client_id(b"c"), confirm(client, client + 1))
+    return on_another(come, compound(2, PUT_ROOT_FH, open_file(1, client, b"o", b"f0", 1)))(count, at)
+
+
+OF_LEASES, OF_WAITERS, OF_RANGES = (100, 1_000, 3_990), (10, 100, 1_000), (1, 1_000, 10_000)
+# A message, the numbers, what is prepared, and the lines whose last is the message.
+MESSAGES = [
+    ("CREATE that denies all, n leases RH of the file", OF_LEASES, leased_as(READS_AND_HANDLE), next_of_smb(5, DENIES_ALL)),
+    ("the same, n leases R (refused)", OF_LEASES, leased_as(READS), next_of_smb(5, DENIES_ALL)),
+    ("NLM LOCK that takes away n leases R", OF_LEASES, leased_as(READS), on_another(made(1, LOCK, 1, 1, 0, 1))),
+    ("LOGOFF with n leases RH of a file", (100, 1_000, 3_900), leased_as(READS_AND_HANDLE), next_of_smb(2, LOG_OFF)),
+    ("end of an SMB connection with n opens of a file", (100, 1_000, 4_000), plain, lambda count, at: "E 0"),
+    (
+        "UNLOCK that n shared locks wait for",
+        OF_WAITERS,
+        lambda count: by_rpc(waiting_for(False, HOST, count)),
+        next_of_rpc(UNLOCK, 1, 0, 0, 1),
+    ),
+    (
+        "FREE_ALL of a host with n who wait",
+        OF_WAITERS,
+        lambda count: by_rpc(waiting_for(True, HOST, count)),
+        next_of_rpc(FREE_ALL, HOST),
+    ),
+    ("TEST, by n ranges of n owners", OF_RANGES, lambda count: by_rpc(ranges_of(count)), next_of_rpc(TEST, 1, 1, 0, 0)),
+    ("a LOCK that is denied, by these", OF_RANGES, lambda count: by_rpc(ranges_of(count)), next_of_rpc(LOCK, 1, 1, 0, 0)),
+    ("SMB CREATE for reading that breaks none of n leases R", OF_LEASES, leased_as(READS), next_of_smb(5, READS_OF)),
+    ("NFSv4 OPEN for reading that breaks none of these", OF_LEASES, leased_as(READS), nfs_open),
+]
+
+
+def instructions_of_lines(binary, kind, records, lines):
+    """The instructions of a capture of these records, on one connection, and of these lines behind them."""
+    with tempfile.TemporaryDirectory() as folder:
+        path = os.path.join(folder, "capture")
+        write_capture(path, 1, records, kind)
+        with open(path, "a") as out:
+            out.writelines(f"{line}\n" for line in lines)
+        return instructions(binary, path)
+
+
+def instructions_of_message(binary, prepare, last, count):
+    """How many instructions one message is: those of a capture that ends with it, without those of one that ends before it."""
+    kind, records = prepare(count)
+    lines = last(count, 1 + len(records)).split("\n")
+    before, after = (instructions_of_lines(binary, kind, records, behind) for behind in (lines[:-1], lines))
+    return after - before
+
+
+def table_of_messages(binary):
+    print("| one message | n | instructions at each n, in millions | by those before |")
+    print("|---|---|---|---|")
+    for name, counts, prepare, last in MESSAGES:
+        costs = [instructions_of_message(binary, prepare, last, count) for count in counts]
+        ratios = [f"{after / before:.1f}" for before, after in zip(costs, costs[1:])]
+        ns, millions = (", ".join(words) for words in ([f"{n:,}" for n in counts], [f"{cost / 1e6:,.3f}" for cost in costs]))
+        print(f"| {name} | {ns} | {millions} | {', '.join(ratios)} |", flush=True)
+    print()
+
+
 def table(title, columns, places, unit, rows):
     print(f"| {title} | {' | '.join(f'{column:,}' for column in columns)} |")
     print("|---" * (1 + len(columns)) + "|")
@@ -193,6 +312,8 @@ def main():
     table("with so many who wait elsewhere, and", WAITERS, *unit, costs_of(cost, binary, waits))
     table("a host's locks freed, while so many wait elsewhere, on", WAITERS, *unit, costs_of(cost, binary, frees))
     table("a reading of the clock with so many caches", CACHES, *unit, [("none due", lambda caches: tick(binary, caches))])
+    if given.instructions:
+        table_of_messages(binary)
 
 
 if __name__ == "__main__":
