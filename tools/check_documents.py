@@ -5,8 +5,10 @@
 
 prints a line for each of these that doesn't hold, and nothing if all do; the exit status is 1 if one doesn't:
 
-- docs/PROVED.md: each row of a table under a crate's heading names functions that are public there, and clauses that each
-  of them ensures; a dash stands for a clause without a name;
+- docs/proved/CRATE.md, a page for each crate with public clauses, tests and the example aside: each row names functions that
+  are public there, and clauses that each of them ensures; a dash stands for clauses without a name. And each clause of each
+  public function of the crate is in one of the rows. A method of a trait is named by the trait, unless it ensures more;
+- docs/PROVED.md: each of these pages has a row with its link and its crate's name, and the page has at most 60 lines;
 - README.md: each clause that the section on the headline names is one of `run`'s, no cell of a table has more than 100
   characters, and the page has at most 150 lines;
 - docs/DEFINITIONS.md: each definition of a table with files stands in the file that its row names, each definition of this
@@ -26,31 +28,29 @@ import capture_from_words
 from xlock import nfs, smb
 from xlock.sources import Crates
 
-MOST_LINES = {"README.md": 150, "docs/DEFINITIONS.md": 160}
+MOST_LINES = {"README.md": 150, "docs/PROVED.md": 60, "docs/DEFINITIONS.md": 160}
 MOST_LETTERS_OF_A_CELL = 100
 EXAMPLE = "crates/xl_example"
 HEADLINE = "## What is proved"
 TOP = ("xl_top", "run")
 DASH = "—"
+TESTS = "xl_tests_"
 ID = r"[A-Z]+-\d+"
 CITED = re.compile(rf"\(({ID}(?:, {ID})*)\)")
 
 
 def rows_of(text, header):
     """The rows of a document's tables with such a header, of which the first cells are given: the number of the line, the
-    crate of the heading above, the cells."""
-    crate, is_meant = None, False
+    cells."""
+    is_meant = False
     for number, line in enumerate(text.splitlines(), 1):
-        heading = re.match(r"#+ .*`(xl\w+|xlockd)`", line)
-        if heading:
-            crate = heading[1]
         cells = [cell.strip() for cell in line.strip().strip("|").split("|")]
         if not line.startswith("|"):
             is_meant = False
         elif cells[: len(header)] == header:
             is_meant = True
         elif is_meant and not re.fullmatch(r"[|: -]+", line):
-            yield number, crate, cells
+            yield number, cells
 
 
 def names_of(cell):
@@ -62,26 +62,48 @@ def names_of(cell):
     return re.findall(r"`([^`]+)`", cell)
 
 
-def proved_faults(text, crates):
-    """What is wrong in the rows of docs/PROVED.md: what is proved, functions, clauses."""
-    rows = 0
-    for number, crate, cells in rows_of(text, ["what is proved", "function", "clause"]):
+def proved_faults(crate, text, crates):
+    """What is wrong in the rows of a crate's page: what is proved, functions, clauses."""
+    rows, named = 0, set()
+    if crate not in crates.all:
+        yield f"there is no crate {crate}"
+        return
+    if not re.match(rf"# .*`{crate}`\n", text):
+        yield f"the page's heading doesn't name `{crate}`"
+    for number, cells in rows_of(text, ["what is proved", "function", "clause"]):
         rows += 1
         names, clauses = (names_of(cell) for cell in cells[1:3]) if len(cells) == 3 else (None, None)
-        if crate not in crates.all or names is None or clauses is None:
-            yield f"line {number} is no row: what is proved, functions, clauses, under the heading of a crate"
+        if names is None or clauses is None:
+            yield f"line {number} is no row: what is proved, functions, clauses"
             continue
         for name in names:
             ensured = crates.ensures(crate, name)
             if ensured is None:
                 yield f"line {number}: {crate} has no public function {name}"
                 continue
+            named |= {(name, clause) for clause in clauses}
             for clause in clauses:
                 if clause not in ensured:
                     yield f"line {number}: {name} of {crate} ensures no clause {clause or 'without a name'}"
     lines, heads = text.splitlines(), "| what is proved | function | clause |"
-    if rows == 0 or sum(line.startswith("|") for line in lines) != rows + 2 * lines.count(heads):
-        yield f"each table begins with {heads}, and has rows"
+    if sum(line.startswith("|") for line in lines) != rows + 2 * lines.count(heads):
+        yield f"each table begins with {heads}"
+    for names, clauses in crates.promises(crate):
+        for clause in clauses:
+            if not any((name, clause) in named for name in names):
+                yield f"no row has the clause {clause or 'without a name'} of {names[0]}"
+
+
+def page_faults(text, crates):
+    """Which pages docs/PROVED.md has no row of, and which crates with public clauses have no page."""
+    pages = {path.stem for path in crates.root.glob("docs/proved/*.md")}
+    linked = {(cells[0], cells[1]) for _, cells in rows_of(text, ["crate", "page"]) if len(cells) > 1}
+    for crate in sorted(pages):
+        if not any(f"`{crate}`" == name and f"](proved/{crate}.md)" in link for name, link in linked):
+            yield f"no row leads to docs/proved/{crate}.md"
+    for crate in crates.all:
+        if not crate.startswith(TESTS) and "crates/" + crate != EXAMPLE and crates.promises(crate) and crate not in pages:
+            yield f"{crate} has no page"
 
 
 def headline_faults(text, crates):
@@ -97,7 +119,7 @@ def headline_faults(text, crates):
 def definition_faults(text, crates):
     """What is wrong in the rows of docs/DEFINITIONS.md: names, their file, the standard, what they say."""
     rows = 0
-    for number, _, cells in rows_of(text, ["name", "file"]):
+    for number, cells in rows_of(text, ["name", "file"]):
         rows += 1
         names, places = (names_of(cell) for cell in cells[:2]) if len(cells) == 4 else (None, None)
         if names is None or places is None or len(places) not in (1, len(names)):
@@ -121,7 +143,7 @@ def cell_faults(text):
 
 def headline_definition_faults(text, crates):
     """Which definitions the contract of `run` cites that docs/DEFINITIONS.md has in no row."""
-    named = {name for _, _, cells in rows_of(text, ["name", "file"]) for name in names_of(cells[0]) or []}
+    named = {name for _, cells in rows_of(text, ["name", "file"]) for name in names_of(cells[0]) or []}
     yield from (f"{TOP[1]} cites {name}, which is in no row" for name in sorted(crates.cites(*TOP) - named))
 
 
@@ -205,15 +227,17 @@ def faults(root):
     crates = Crates(root)
     checks = {
         "README.md": [headline_faults, lambda text, _: cell_faults(text)],
-        "docs/PROVED.md": [proved_faults],
+        "docs/PROVED.md": [page_faults],
         "docs/DEFINITIONS.md": [definition_faults, headline_definition_faults],
         "docs/DECISIONS.md": [decision_faults],
         "docs/EMBEDDING.md": [embedding_faults],
         "docs/CAPTURE.md": [first_example_faults, word_faults],
     }
-    for path in sorted([Path(root) / "README.md", *Path(root).glob("docs/*.md"), *Path(root).glob("*/README.md")]):
+    for path in sorted([Path(root) / "README.md", *Path(root).glob("docs/**/*.md"), *Path(root).glob("*/README.md")]):
         name, text = path.relative_to(root).as_posix(), path.read_text()
         found = [fault for check in checks.get(name, []) for fault in check(text, crates)]
+        if path.parent.name == "proved":
+            found += proved_faults(path.stem, text, crates)
         found += link_faults(text, path.parent)
         count = len(text.splitlines())
         if count > MOST_LINES.get(name, count):

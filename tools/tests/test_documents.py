@@ -41,7 +41,11 @@ mod plain { pub fn same() ensures { tt } { } }
 README = "# A\n\n## What is proved\n\nEach table is free (`free`), and lawful (`lawful`) by [this](docs/PROVED.md).\n\n## Rest\n\n(`nothing`)\n"
 PROVED = """# Proved
 
-## The top: `xl_top`
+| crate | page | what its contracts say |
+|---|---|---|
+| `xl_top` | [xl_top](proved/xl_top.md) | all |
+"""
+PAGE = """# The top: `xl_top`
 
 | what is proved | function | clause |
 |---|---|---|
@@ -65,15 +69,20 @@ SPECS = "-- two claims fit (NLM-1, NLM-2)\nabbrev pub compat : Claim → Claim �
 
 # What is changed in which file, and the line that is found.
 WRONG = [
-    ("docs/PROVED.md", "`free`, `lawful`", "`free`, `awful`", "docs/PROVED.md: line 7: run of xl_top ensures no clause awful"),
-    ("docs/PROVED.md", "`run`", "`walk`", "docs/PROVED.md: line 7: xl_top has no public function walk"),
-    ("docs/PROVED.md", "`Kept::new`", "`hidden`", "docs/PROVED.md: line 9: xl_top has no public function hidden"),
-    ("docs/PROVED.md", "`Kept::new`", "`Kept::inner`", "docs/PROVED.md: line 9: xl_top has no public function Kept::inner"),
-    ("docs/PROVED.md", "`Kept::new`", "`new`", "docs/PROVED.md: line 9: xl_top has no public function new"),
-    ("docs/PROVED.md", "`plain::same` | —", "`run` | —", "docs/PROVED.md: line 9: run of xl_top ensures no clause without a name"),
-    ("docs/PROVED.md", "`held`, `later`", "its clauses", "docs/PROVED.md: line 8 is no row: what is proved, functions, clauses, under the heading of a crate"),
-    ("docs/PROVED.md", "|", "", "docs/PROVED.md: each table begins with | what is proved | function | clause |, and has rows"),
-    ("docs/PROVED.md", "what is proved |", "what |", "docs/PROVED.md: each table begins with | what is proved | function | clause |, and has rows"),
+    ("docs/proved/xl_top.md", "`free`, `lawful`", "`free`, `awful`", "docs/proved/xl_top.md: line 5: run of xl_top ensures no clause awful"),
+    ("docs/proved/xl_top.md", "`free`, `lawful`", "`free`", "docs/proved/xl_top.md: no row has the clause lawful of run"),
+    ("docs/proved/xl_top.md", ", `plain::same`", "", "docs/proved/xl_top.md: no row has the clause without a name of same"),
+    ("docs/proved/xl_top.md", "`Kept::load`, `Keeper::load`", "`Kept::load`", "docs/proved/xl_top.md: no row has the clause held of Keeper::load"),
+    ("docs/proved/xl_top.md", "`run`", "`walk`", "docs/proved/xl_top.md: line 5: xl_top has no public function walk"),
+    ("docs/proved/xl_top.md", "`Kept::new`", "`hidden`", "docs/proved/xl_top.md: line 7: xl_top has no public function hidden"),
+    ("docs/proved/xl_top.md", "`Kept::new`", "`Kept::inner`", "docs/proved/xl_top.md: line 7: xl_top has no public function Kept::inner"),
+    ("docs/proved/xl_top.md", "`Kept::new`", "`new`", "docs/proved/xl_top.md: line 7: xl_top has no public function new"),
+    ("docs/proved/xl_top.md", "`plain::same` | —", "`run` | —", "docs/proved/xl_top.md: line 7: run of xl_top ensures no clause without a name"),
+    ("docs/proved/xl_top.md", "`held`, `later`", "its clauses", "docs/proved/xl_top.md: line 6 is no row: what is proved, functions, clauses"),
+    ("docs/proved/xl_top.md", "what is proved |", "what |", "docs/proved/xl_top.md: each table begins with | what is proved | function | clause |"),
+    ("docs/proved/xl_top.md", "`xl_top`", "the top", "docs/proved/xl_top.md: the page's heading doesn't name `xl_top`"),
+    ("docs/PROVED.md", "`xl_top`", "`xl_tip`", "docs/PROVED.md: no row leads to docs/proved/xl_top.md"),
+    ("docs/PROVED.md", "# Proved", "# Proved" + "\n" * 60, "docs/PROVED.md: 65 lines are more than 60"),
     ("README.md", "(`lawful`)", "(`awful`)", "README.md: run ensures no clause awful"),
     ("README.md", "\n\n## Rest", "\n" * 150 + "## Rest", "README.md: 157 lines are more than 150"),
     ("README.md", "# A", "# A\n\n| a | " + "b" * 101 + " |", "README.md: line 3 has a cell of more than 100 characters"),
@@ -105,7 +114,7 @@ class Documents(unittest.TestCase):
         with tempfile.TemporaryDirectory() as root:
             for name, text in [
                 ("crates/xl_top/src/lib.rt", SOURCE), ("crates/xl_top/specs/Top.antt", SPECS), ("README.md", README),
-                ("docs/PROVED.md", PROVED), ("docs/DEFINITIONS.md", DEFINITIONS), ("docs/DECISIONS.md", DECISIONS),
+                ("docs/PROVED.md", PROVED), ("docs/proved/xl_top.md", PAGE), ("docs/DEFINITIONS.md", DEFINITIONS), ("docs/DECISIONS.md", DECISIONS),
                 ("docs/EMBEDDING.md", EMBEDDING), ("docs/CAPTURE.md", CAPTURE),
                 *((f"examples/first.{ending}", first) for ending, first in FIRST.items()),
                 ("crates/xl_example/src/main.rt", "fn main() {\n    let a = 1;\n}\n"), ("crates/xl_example/stdout", "one\n"),

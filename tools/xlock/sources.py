@@ -137,14 +137,25 @@ class Crates:
         return set()
 
     def ensures(self, crate, path):
-        """The names of what a public function ensures, by its name, or by `OWNER::NAME`; None where there is none. A
-        method of a trait without clauses of its own has the trait's."""
+        """The names of what a public function ensures, by its name, or by `OWNER::NAME`; of several functions that are called
+        so, of all; None where there is none. A method of a trait without clauses of its own has the trait's."""
         owner, _, name = path.rpartition("::")
+        found = None
         for function in self.all[crate].functions:
             is_meant = function.owner == owner if owner else not function.is_method
             if function.name == name and is_meant and function.is_public:
-                return function.ensures or self._of_trait(function)
-        return None
+                found = (found or []) + (function.ensures or self._of_trait(function))
+        return found
+
+    def promises(self, crate):
+        """Of each public function of a crate that ensures something itself: the names by which it may be called, the shortest
+        first, and the names of its clauses."""
+        promised = []
+        for function in self.all[crate].functions:
+            whole = f"{function.owner}::{function.name}"
+            if function.is_public and function.ensures:
+                promised.append(([whole] if function.is_method else [function.name, whole], function.ensures))
+        return promised
 
     def _of_trait(self, function):
         for crate in self.all.values():
