@@ -1,5 +1,5 @@
 -- What a caller is asked, as it is told.
-use Rattle.std.specs.Prelude.{◌≡◌, ℕ, Bool, true, false, List, [], ◌∷◌, ◌++◌, Option, Some, None}
+use Rattle.std.specs.Prelude.{◌≡◌, ℕ, Bool, true, false, List, [], ◌∷◌, ◌++◌, drop, Option, Some, None}
 use Rattle.xl_base.specs.declared.caller.Asked.{Asked}
 use Rattle.xl_base.specs.declared.caller.Asked.TheVariants.{Call, Idle}
 use Rattle.xl_base.specs.declared.caller.CallOutcome.{CallOutcome}
@@ -24,6 +24,11 @@ IsAnswer NoMemory answers = Unit {0}
 IsAnswer outcome [] = outcome ≡ Nobody
 IsAnswer outcome (None ∷ answers) = outcome ≡ Nobody
 IsAnswer outcome (Some bytes ∷ answers) = outcome ≡ Answer bytes
+
+-- the answers that are left after a call, which takes the first unless it is one that fails
+abbrev pub left_by : Bool → List (Option (List ℕ)) → List (Option (List ℕ))
+left_by true answers = answers
+left_by false answers = drop 1 answers
 
 -- a caller in memory: what its clients answer still, what it was asked, if it tells it still, and its counts
 pub record MemoryCalls : Type 0 where

@@ -2,7 +2,7 @@
 ghost use Rattle.std.specs.Prelude.{◌≡◌, ℕ, ◌≤◌, List, [], ◌∷◌, drop, Option, Some, option_map, IfOk, IsTrue, false};
 ghost use Rattle.xl_base.specs.Memory.{counted, is_failing};
 ghost use Rattle.xl_base.specs.Telling.{Follows, RoseIf};
-ghost use Rattle.xl_base.specs.Asking.{Calls, Idles, call_failed, IsAnswer};
+ghost use Rattle.xl_base.specs.Asking.{Calls, Idles, call_failed, IsAnswer, left_by};
 ghost use Rattle.xl_base.specs.declared.caller.Asked.{Asked as TheAsked};
 ghost use Rattle.xl_base.specs.declared.caller.Asked.TheVariants.{Call as TheCall};
 ghost use Rattle.xl_base.specs.declared.caller.CallOutcome.TheVariants.{Failed as TheFailed};
@@ -192,9 +192,11 @@ impl Caller for MemoryCaller {
         ensures later { self.old.faults ≤ self.new.faults }
         ensures counts { RoseIf (call_failed result) self.old.faults self.new.faults }
         ensures asked { self.new.asked ≡ counted self.old.asked }
-        // The calls of its list fail, and another is answered as its other list has it.
+        // The calls of its list fail, and another is answered as its other list has it, from which that answer is taken.
+        ensures calls { (self.new.calls ≡ counted self.old.calls) × (self.new.failing ≡ self.old.failing) }
         ensures fails { IsTrue (is_failing self.old.failing self.new.calls) → result ≡ TheFailed }
         ensures answers { is_failing self.old.failing self.new.calls ≡ false → IsAnswer result self.old.answers }
+        ensures rest { self.new.answers ≡ left_by (is_failing self.old.failing self.new.calls) self.old.answers }
     {
         self.asked = self.asked.saturating_add(1);
         self.calls = self.calls.saturating_add(1);
@@ -215,6 +217,7 @@ impl Caller for MemoryCaller {
         ensures told { Follows self.old.told self.new.told (Idles seen) }
         ensures faults { self.new.faults ≡ self.old.faults }
         ensures asked { self.new.asked ≡ counted self.old.asked }
+        ensures rest { (self.new.answers ≡ self.old.answers) × (self.new.calls ≡ self.old.calls) × (self.new.failing ≡ self.old.failing) }
     {
         self.asked = self.asked.saturating_add(1);
         self.told = told_with(self.told.take(), Asked::Idle(seen));

@@ -244,6 +244,7 @@ impl Lane for MemoryLane {
         ensures lost { self.new.lost ≡ counted_if (next_failed result) self.old.lost }
         ensures ended { self.new.ended ≡ (self.old.ended || next_ended result) }
         ensures asked { self.new.asked ≡ counted self.old.asked }
+        ensures calls { (self.new.calls ≡ counted self.old.calls) × (self.new.failing ≡ self.old.failing) }
         ensures fails { IsTrue (is_failing self.old.failing self.new.calls) → result ≡ next.Failed }
     {
         self.asked = self.asked.saturating_add(1);
@@ -279,6 +280,7 @@ impl Lane for MemoryLane {
         ensures lost { self.new.lost ≡ self.old.lost }
         ensures ended { self.new.ended ≡ self.old.ended }
         ensures asked { self.new.asked ≡ counted self.old.asked }
+        ensures calls { (self.new.calls ≡ counted self.old.calls) × (self.new.failing ≡ self.old.failing) }
         ensures fails { IsTrue (is_failing self.old.failing self.new.calls) → result ≡ receive.Failed }
     {
         self.asked = self.asked.saturating_add(1);
@@ -301,6 +303,7 @@ impl Lane for MemoryLane {
         ensures lost { self.new.lost ≡ self.old.lost }
         ensures ended { self.new.ended ≡ self.old.ended }
         ensures asked { self.new.asked ≡ self.old.asked }
+        ensures calls { (self.new.calls ≡ counted self.old.calls) × (self.new.failing ≡ self.old.failing) }
         ensures fails { IsTrue (is_failing self.old.failing self.new.calls) → result ≡ write.Failed }
     {
         self.calls = self.calls.saturating_add(1);
@@ -318,6 +321,7 @@ impl Lane for MemoryLane {
         ensures lost { self.new.lost ≡ self.old.lost }
         ensures ended { self.new.ended ≡ self.old.ended }
         ensures asked { self.new.asked ≡ self.old.asked }
+        ensures calls { (self.new.calls ≡ self.old.calls) × (self.new.failing ≡ self.old.failing) }
     {
         shut(&mut self.links);
     }
