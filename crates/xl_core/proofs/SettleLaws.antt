@@ -14,7 +14,7 @@ use Rattle.xl_cache.specs.BreakPlans.{is_running}
 use Rattle.xl_base.specs.declared.name.Owner.{Owner}
 use Rattle.xl_table.specs.Held.{spans_of, is_cache, is_share}
 use Rattle.xl_table.specs.Relock.{shares_of}
-use Rattle.xl_wait.specs.Waiting.{cancelled}
+use Rattle.xl_wait.specs.Waiting.{cancelled, is_first, without_all}
 use Rattle.xl_wait.specs.declared.waiter.Rooms.{Rooms}
 use Rattle.xl_wait.specs.declared.waiter.Waiter.{Waiter}
 use Rattle.xl_core.specs.declared.ask.Effect.{Effect}
@@ -256,6 +256,23 @@ out p (w ∷ ws) apart =
 pub all_out : (leaver : Leaver) (ws : List Waiter) → Pairwise are_apart ws → all_cancelled (numbers_with leaver ws) ws ≡ filter (λ w. not (waits_with leaver w)) ws
 unfolding numbers_with
 all_out leaver ws apart = out (waits_with leaver) ws apart
+
+-- and in one pass, as the numbers stand in the order of the waiters
+not_first : (w : Waiter) (ids : List ℕ) → AllByRecursion (λ id. (w.id == id) ≡ false) ids → is_first w.id ids ≡ false
+not_first w [] others = refl
+not_first w (id ∷ ids) others = others.0
+
+passed : (p : Waiter → Bool) (ws : List Waiter) → Pairwise are_apart ws → without_all (map (λ v. v.id) (filter p ws)) ws ≡ filter (λ v. not (p v)) ws
+passed p [] apart = refl
+passed p (w ∷ ws) apart =
+    elim (cases_Bool (p w)) [
+      | inl e ↦ rw (e, eq-eqb w.id w.id refl) (passed p ws apart.1)
+      | inr e ↦ rw (e, not_first w (map (λ v. v.id) (filter p ws)) (apart_ids p w ws apart.0)) (ap (λ (vs : List Waiter). w ∷ vs) (passed p ws apart.1))
+    ]
+
+pub passed_out : (leaver : Leaver) (ws : List Waiter) → Pairwise are_apart ws → without_all (numbers_with leaver ws) ws ≡ filter (λ w. not (waits_with leaver w)) ws
+unfolding numbers_with
+passed_out leaver ws apart = passed (waits_with leaver) ws apart
 
 -- ---- who leaves
 

@@ -6,7 +6,7 @@ ghost use Rattle.xl_wait.specs.Waiting.{cancelled};
 ghost use Rattle.xl_core.specs.Good.{IsGood};
 ghost use Rattle.xl_base.specs.Lists.{IsIn};
 ghost use Rattle.xl_core.specs.BreakAnswers.{ack};
-ghost use Rattle.xl_core.specs.Settle.{waits_for, waits_as, waits_with, numbers_with, gone, told_with, told_of_one, all_cancelled, cancel, give_back, weaken, departed};
+ghost use Rattle.xl_core.specs.Settle.{waits_for, waits_as, waits_with, numbers_with, gone, told_with, told_of_one, cancel, give_back, weaken, departed};
 ghost use Rattle.xl_core.specs.Whole.{state_of};
 
 use crate::ask::Effect;
@@ -15,7 +15,7 @@ use std::alloc::{AllocError, Global};
 use xl_base::{Owner, Party, Sequence};
 use xl_matrix::{CacheKind, Claim, Rwd, What, same_owner, same_party};
 use xl_table::Leaver;
-use xl_wait::{Queue, Waiter};
+use xl_wait::Waiter;
 
 fn gone(waiter: &Waiter) -> Effect
     ensures { result ≡ gone waiter.now }
@@ -167,16 +167,8 @@ fn told_with(
     Ok(effects)
 }
 
-fn cancel_all(queue: &mut Queue, numbers: &[u32])
-    ensures { queue.new ≡ all_cancelled numbers.now queue.old }
-{
-    for number in numbers {
-        queue.cancel(*number);
-    }
-}
-
-/// Takes out the claims and the waiters that go with who leaves.
-#[tactic(auto, using(crate::proofs::SettleLaws::all_out))]
+/// Takes out the claims and the waiters that go with who leaves, these in one pass.
+#[tactic(auto, using(crate::proofs::SettleLaws::passed_out))]
 pub(crate) fn leave(
     alloc: Global,
     parts: &mut Parts,
@@ -188,6 +180,6 @@ pub(crate) fn leave(
     let numbers = numbers_with(alloc, leaver, parts.queue.waiters())?;
     let effects = told_with(alloc, leaver, parts.queue.waiters())?;
     parts.table.remove_leaver(leaver);
-    cancel_all(&mut parts.queue, &numbers);
+    parts.queue.cancel_all(&numbers)?;
     Ok(effects)
 }

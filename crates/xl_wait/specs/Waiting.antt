@@ -22,6 +22,20 @@ abbrev pub cancelled : ℕ → List Waiter → List Waiter
 cancelled id [] = []
 cancelled id (w ∷ ws) = if w.id == id then ws else w ∷ cancelled id ws
 
+-- the number is the first of these; those behind the first
+abbrev pub is_first : ℕ → List ℕ → Bool
+is_first id [] = false
+is_first id (first ∷ rest) = id == first
+
+abbrev pub rest_of : List ℕ → List ℕ
+rest_of [] = []
+rest_of (first ∷ rest) = rest
+
+-- without the waiters of these numbers, which stand in this order: each is the first of its number behind the one before it
+abbrev pub without_all : List ℕ → List Waiter → List Waiter
+without_all ids [] = []
+without_all ids (w ∷ ws) = if is_first w.id ids then without_all (rest_of ids) ws else w ∷ without_all ids ws
+
 -- the waiter came by this connection
 abbrev pub came_by : Option ℕ → ℕ → Bool
 came_by None conn = false

@@ -3,7 +3,7 @@ ghost use Rattle.std.specs.Prelude.{◌≡◌, ℕ, ◌≤◌, ◌∷◌, ◌++�
 ghost use Rattle.xl_base.specs.Limits.{most_waiters};
 ghost use Rattle.xl_wait.specs.declared.queue.QueueErr.TheVariants.{NoMemory};
 
-use crate::changing::{enter, take_out};
+use crate::changing::{enter, take_all_out, take_out};
 use crate::files::{Queues, places_on};
 use crate::listing::list_numbers;
 use crate::waiter::Waiter;
@@ -62,7 +62,7 @@ impl Model for Queue {
 }
 
 impl Queue {
-    ghost use Rattle.xl_wait.specs.Waiting.{is_waiting, cancelled, numbers_of, waits_on, files_of, places_on};
+    ghost use Rattle.xl_wait.specs.Waiting.{is_waiting, cancelled, without_all, numbers_of, waits_on, files_of, places_on};
 
     /// The queue where nobody waits; it takes no memory.
     pub fn new(alloc: Global) -> Queue
@@ -116,6 +116,14 @@ impl Queue {
         ensures after { self.new ≡ cancelled id self.old }
     {
         take_out(&mut self.waiters, &mut self.queues, id)
+    }
+
+    /// Takes out the waiters of these numbers, which stand in the order of arrival, in one pass, and nobody else. If memory
+    /// runs out nothing is known of the queue.
+    pub fn cancel_all(&mut self, ids: &[u32]) -> Result<(), AllocError>
+        ensures { OnOk result (self.new ≡ without_all ids.now self.old) }
+    {
+        take_all_out(&mut self.waiters, &mut self.queues, ids)
     }
 
     /// Whether someone waits on this file: whether the first claim that it asks for is there. It takes no memory.

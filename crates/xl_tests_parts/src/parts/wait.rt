@@ -149,10 +149,41 @@ fn queues_keep(alloc: Global, queue: &mut Queue) -> bool {
     queues_grow(alloc, queue) && queues_shrink(alloc, queue)
 }
 
+fn are_left(queue: &Queue, ids: &[u32]) -> bool {
+    for (place, id) in ids.iter().enumerate() {
+        if !is_waiter(queue.at(place), *id) {
+            return false;
+        }
+    }
+    queue.len() == ids.len()
+}
+
+fn cancels_all(queue: &mut Queue, ids: &[u32]) -> bool {
+    queue.cancel_all(ids).is_ok()
+}
+
+/// Whether the queues are so while several leave at once: none, one, two that stand side by side, and all.
+fn queues_pass(alloc: Global, queue: &mut Queue) -> bool {
+    queues_grow(alloc, queue)
+        && cancels_all(queue, &[])
+        && are_left(queue, &[0, 1, 2, 3, 4, 5, 6, 7, 8])
+        && cancels_all(queue, &[6])
+        && are_left(queue, &[0, 1, 2, 3, 4, 5, 7, 8])
+        && are_queued(alloc, queue)
+        && cancels_all(queue, &[1, 3, 4, 8])
+        && are_left(queue, &[0, 2, 5, 7])
+        && are_queued(alloc, queue)
+        && !queue.waits_on(0)
+        && cancels_all(queue, &[0, 2, 5, 7])
+        && queue.is_empty()
+        && are_queued(alloc, queue)
+}
+
 #[test]
 fn waiters_come_and_go(rt: HostRuntime) {
     assert!(rt; come_and_go(rt.alloc(), &mut Queue::new(rt.alloc())));
     assert!(rt; queues_keep(rt.alloc(), &mut Queue::new(rt.alloc())));
+    assert!(rt; queues_pass(rt.alloc(), &mut Queue::new(rt.alloc())));
 }
 
 fn fills_up(alloc: Global, queue: &mut Queue) -> bool {
