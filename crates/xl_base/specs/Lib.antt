@@ -3,6 +3,7 @@ pub mod Codec
 pub mod Formats
 pub mod Gates
 pub mod Handles
+pub mod Leasts
 pub mod Limits
 pub mod Links
 pub mod Lists

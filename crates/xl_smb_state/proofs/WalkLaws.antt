@@ -1,12 +1,15 @@
 -- Taking out rows one after the other.
-use Rattle.std.proofs.Common.{◌≡◌, ℕ, ◌≤◌, min, Bool, true, false, eqb, leb, cond, List, [], ◌∷◌, Option, Some, None, refl, sym, ap, subst, ◌∙◌, ◌⊎◌, inl, inr, arith}
-use Rattle.std.specs.Prelude.{nat_eq, fold}
+use Rattle.std.proofs.Common.{◌≡◌, ℕ, ◌≤◌, Bool, true, false, eqb, cond, List, [], ◌∷◌, Option, Some, None, refl, sym, ap, subst, ◌∙◌, inl, inr, arith}
+use Rattle.std.specs.Prelude.{nat_eq, nat_lt}
 use Rattle.std.specs.List.{AllByRecursion, IsDistinct, list_any, filter}
 use Rattle.std.specs.Option.{IfSome}
 use Rattle.std.specs.Map.{keys_of, remove_entry}
 use Rattle.std.proofs.lemmas.Bool.{cases_Bool, true≢false}
 use Rattle.std.proofs.lemmas.Bool.Decides.{nat_tests}
 use Rattle.std.proofs.lemmas.Map.Keys.{IsDistinct-head, IsDistinct-tail}
+use Rattle.std.proofs.lemmas.List.MinMax.{IsStrictWeakOrder-by_number}
+use Rattle.xl_base.proofs.LeastLaws.{least_first, least_in}
+use Rattle.xl_base.proofs.Members.{all_in}
 use Rattle.xl_base.specs.Lists.{IsIn}
 use Rattle.xl_smb_state.specs.declared.row.Session.{Session}
 use Rattle.xl_smb_state.specs.declared.row.Tree.{Tree}
@@ -17,9 +20,9 @@ use Rattle.xl_smb_state.specs.declared.row.Open.{Open}
 use Rattle.xl_smb_state.specs.declared.row.Waiting.{Waiting}
 use Rattle.xl_smb_state.specs.declared.row.Scope.{Scope}
 use Rattle.xl_smb_state.specs.declared.row.Scope.TheVariants as scope
-use Rattle.xl_smb_state.specs.State.{Lists, keys_where, sessions_on, session_dropped, tree_of, trees_of, tree_dropped, covers, covers_holder, opens_under, closed, waiting_under, waiting_dropped, lower, lowest}
+use Rattle.xl_smb_state.specs.State.{Lists, keys_where, sessions_on, session_dropped, tree_of, trees_of, tree_dropped, covers, covers_holder, opens_under, closed, waiting_under, waiting_dropped, lowest}
 use Rattle.xl_smb_state.specs.Links.{IsHolderLinked, IsOpenLinked, IsSound, AreDistinct}
-use Rattle.xl_smb_state.proofs.RowLaws.{none_some, equal_from, all_both, none_where, same_Some, equal_self}
+use Rattle.xl_smb_state.proofs.RowLaws.{equal_from, all_both, none_where, same_Some, equal_self}
 
 cons_head : {n m : ℕ} {ns ms : List ℕ} → n ∷ ns ≡ m ∷ ms → n ≡ m
 cons_head h = cc
@@ -106,47 +109,19 @@ free_by_connection s number row ok at free = trees_free s number row (scope.Conn
 
 -- ---- the lowest
 
-some_weaker : (o : Option ℕ) (P Q : ℕ → Type 0) → ((m : ℕ) → P m → Q m) → IfSome o P → IfSome o Q
-some_weaker None P Q step h = tt
-some_weaker (Some m) P Q step h = step m h
-
-one_of : (o : Option ℕ) (n m : ℕ) → lower o n ≡ Some m → (o ≡ Some m) ⊎ (n ≡ m)
-one_of None n m h = inr (same_Some h)
-one_of (Some k) n m h =
-    elim (cases_Bool (leb k n)) [
-      | inl le ↦ let is : min k n ≡ k = grind (arith, nat_tests) in inl (ap Some (sym is ∙ same_Some h))
-      | inr gt ↦ let is : min k n ≡ n = grind (arith, nat_tests) in inr (sym is ∙ same_Some h)
-    ]
-
-in_from : (o : Option ℕ) (ns : List ℕ) → IfSome (fold lower o ns) (λ m. (o ≡ Some m) ⊎ IsIn m ns)
-in_from None [] = tt
-in_from (Some k) [] = inl refl
-in_from o (n ∷ ns) =
-    some_weaker (fold lower (lower o n) ns) (λ m. (lower o n ≡ Some m) ⊎ IsIn m ns) (λ m. (o ≡ Some m) ⊎ IsIn m (n ∷ ns))
-    (λ m h. elim h [
-      | inl e ↦ elim (one_of o n m e) [ inl f ↦ inl f | inr f ↦ inr (inl f) ]
-      | inr later ↦ inr (inr later)
-    ])
-    (in_from (lower o n) ns)
+lowest_is : (found : Option ℕ) (ns : List ℕ) → lowest ns ≡ found → IfSome found (λ m. IsIn m ns)
+lowest_is None ns e = tt
+lowest_is (Some m) ns e = least_in nat_lt ns m e
 
 pub lowest_in : (ns : List ℕ) → IfSome (lowest ns) (λ m. IsIn m ns)
-lowest_in ns = some_weaker (lowest ns) (λ m. (None ≡ Some m) ⊎ IsIn m ns) (λ m. IsIn m ns) (λ m h. elim h [ inl e ↦ absurd (none_some e) | inr k ↦ k ]) (in_from None ns)
+lowest_in ns = lowest_is (lowest ns) ns refl
 
-least_from : (o : Option ℕ) (ns : List ℕ) → IfSome (fold lower o ns) (λ m. ((k : ℕ) → o ≡ Some k → m ≤ k) × ((n : ℕ) → IsIn n ns → m ≤ n))
-least_from None [] = tt
-least_from (Some k) [] = (λ j e. let same : k ≡ j = same_Some e in omega (arith, same), λ n h. absurd h)
-least_from o (n ∷ ns) =
-    some_weaker (fold lower (lower o n) ns) (λ m. ((k : ℕ) → lower o n ≡ Some k → m ≤ k) × ((j : ℕ) → IsIn j ns → m ≤ j)) (λ m. ((k : ℕ) → o ≡ Some k → m ≤ k) × ((j : ℕ) → IsIn j (n ∷ ns) → m ≤ j))
-    (λ m h. (λ k e. old o m k h.0 e, λ j within. elim within [ inl e ↦ let low = new o m h.0 in let same : n ≡ j = e in omega (arith, low, same) | inr later ↦ h.1 j later ]))
-    (least_from (lower o n) ns)
-  where
-    old : (p : Option ℕ) (m k : ℕ) → ((i : ℕ) → lower p n ≡ Some i → m ≤ i) → p ≡ Some k → m ≤ k
-    old None m k below e = absurd (none_some e)
-    old (Some i) m k below e = let same : i ≡ k = same_Some e in let low = below (min i n) refl in omega (arith, low, same)
+not_lower : (m n : ℕ) → nat_lt n m ≡ false → m ≤ n
+not_lower m n h = grind (arith, nat_tests, h)
 
-    new : (p : Option ℕ) (m : ℕ) → ((i : ℕ) → lower p n ≡ Some i → m ≤ i) → m ≤ n
-    new None m below = below n refl
-    new (Some i) m below = let low = below (min i n) refl in omega (arith, low)
+none_lower : (found : Option ℕ) (ns : List ℕ) → lowest ns ≡ found → IfSome found (λ m. (n : ℕ) → IsIn n ns → m ≤ n)
+none_lower None ns e = tt
+none_lower (Some m) ns e = λ n here. not_lower m n (all_in (λ (k : ℕ). nat_lt k m ≡ false) n ns (least_first nat_lt (IsStrictWeakOrder-by_number (λ (k : ℕ). k)) ns m e) here)
 
 pub lowest_least : (ns : List ℕ) → IfSome (lowest ns) (λ m. (n : ℕ) → IsIn n ns → m ≤ n)
-lowest_least ns = some_weaker (lowest ns) (λ m. ((k : ℕ) → None ≡ Some k → m ≤ k) × ((n : ℕ) → IsIn n ns → m ≤ n)) (λ m. (n : ℕ) → IsIn n ns → m ≤ n) (λ m h. h.1) (least_from None ns)
+lowest_least ns = none_lower (lowest ns) ns refl

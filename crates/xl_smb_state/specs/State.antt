@@ -1,8 +1,9 @@
 -- The lists of an SMB server (MS-SMB2 3.3.1), each in the order in which its rows came, and what changes them.
-use Rattle.std.specs.Prelude.{ℕ, ◌==◌, nat_eq, min, Bool, true, false, not, ◌&&◌, bytes_eq, if◌then◌else◌, List, [], ◌∷◌, ◌++◌, filter, Option, Some, None, option_map, fold}
+use Rattle.std.specs.Prelude.{ℕ, ◌==◌, nat_eq, nat_lt, Bool, true, false, not, ◌&&◌, bytes_eq, if◌then◌else◌, List, [], ◌∷◌, ◌++◌, filter, Option, Some, None, option_map}
 use Rattle.std.specs.List.{list_all, list_any, filter_map, find}
 use Rattle.std.specs.Map.{keys_of, lookup, remove_entry, set_value}
 use Rattle.std.specs.Option.{option_and_then}
+use Rattle.xl_base.specs.Leasts.{least_by}
 use Rattle.xl_smb_state.specs.declared.row.Place.{Place}
 use Rattle.xl_smb_state.specs.declared.row.Connection.{Connection}
 use Rattle.xl_smb_state.specs.declared.row.Session.{Session}
@@ -187,14 +188,9 @@ abbrev pub is_held : Option Open → Bool
 is_held None = false
 is_held (Some row) = is_by_tree row.holder
 
--- the lower of a number and another, if there is one
-abbrev pub lower : Option ℕ → ℕ → Option ℕ
-lower None n = Some n
-lower (Some least) n = Some (min least n)
-
 -- the lowest number, if there is any
 abbrev pub lowest : List ℕ → Option ℕ
-lowest ns = fold lower None ns
+lowest ns = least_by nat_lt ns
 
 -- the key of the lease that an open is under, if it is under one
 abbrev pub key_of : Option Open → Option LeaseKey

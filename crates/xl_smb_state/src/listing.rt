@@ -1,11 +1,12 @@
 //! Walks over lists of rows.
-ghost use Rattle.std.specs.Prelude.{◌≡◌, ℕ, ◌==◌, nat_eq, IfOk, filter, map, Some, option_copied, option_map};
+ghost use Rattle.std.specs.Prelude.{◌≡◌, ℕ, ◌==◌, nat_eq, nat_lt, IfOk, filter, map, Some, option_copied, option_map};
 ghost use Rattle.std.specs.List.{find};
 ghost use Rattle.std.specs.Map.{keys_of, lookup};
+ghost use Rattle.xl_base.specs.Leasts.{lesser};
 ghost use Rattle.xl_smb_state.specs.declared.row.Session.{Session};
 ghost use Rattle.xl_smb_state.specs.declared.row.Tree.{Tree};
 ghost use Rattle.xl_smb_state.specs.declared.row.Waiting.{Waiting};
-ghost use Rattle.xl_smb_state.specs.State.{keys_where, covers, covers_holder, is_held, lower, lowest, key_of, makes_under, made_in, is_message, is_key, file_for, waiting_file};
+ghost use Rattle.xl_smb_state.specs.State.{keys_where, covers, covers_holder, is_held, lowest, key_of, makes_under, made_in, is_message, is_key, file_for, waiting_file};
 ghost use Rattle.xl_smb_state.specs.Links.{is_tree_at, is_client};
 ghost use Rattle.std.specs.Option.{option_and_then};
 
@@ -69,10 +70,10 @@ fn is_held(found: Option<&Open>) -> bool
 
 /// The lower of a number and another, if there is one.
 fn lower(least: Option<u32>, number: u32) -> u32
-    ensures { lower least number ≡ Some result }
+    ensures { lesser nat_lt least number ≡ Some result }
 {
     match least {
-        Some(least) => least.min(number),
+        Some(least) => { if number < least { number } else { least } }
         None => number,
     }
 }

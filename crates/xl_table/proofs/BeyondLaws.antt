@@ -16,7 +16,9 @@ use Rattle.xl_table.specs.Bounds.{is_past, IsWithin, AreWithin}
 use Rattle.xl_table.specs.Clear.{is_clear}
 use Rattle.xl_table.specs.Flat.{blocks}
 use Rattle.xl_table.specs.Held.{is_range}
-use Rattle.xl_table.specs.Least.{range_key, before_by, range_before, lesser, least_from, least, counts, is_beyond}
+use Rattle.xl_base.proofs.LeastLaws.{least_both}
+use Rattle.xl_base.specs.Leasts.{least_from}
+use Rattle.xl_table.specs.Least.{range_key, before_by, range_before, least, counts, is_beyond}
 use Rattle.xl_table.specs.Pages.{paged}
 use Rattle.xl_table.specs.declared.bounds.Bounds.{Bounds}
 use Rattle.xl_table.proofs.ClearLaws.{clear_none, past_all}
@@ -25,16 +27,12 @@ use Rattle.xl_table.proofs.SectionLaws.{same_filter, filter_within, blocks_there
 
 -- ---- page by page
 
-least_more : (names : List Name) (o : Option Claim) (xs ys : List Claim) → least_from names o (xs ++ ys) ≡ least_from names (least_from names o xs) ys
-least_more names o [] ys = refl
-least_more names o (x ∷ xs) ys = least_more names (lesser names o x) xs ys
-
-pub least_page : (names : List Name) (test : Claim → Bool) (o new whole : Option Claim) (i : ℕ) (ps : List (List Claim)) (p : List Claim) → i < length ps → p ≡ get_or ps i p → new ≡ least_from names o (filter test p) → least_from names o (filter test (paged (drop i ps))) ≡ whole
-    → least_from names new (filter test (paged (drop (i + 1) ps))) ≡ whole
+pub least_page : (names : List Name) (test : Claim → Bool) (o new whole : Option Claim) (i : ℕ) (ps : List (List Claim)) (p : List Claim) → i < length ps → p ≡ get_or ps i p → new ≡ least_from (range_before names) o (filter test p) → least_from (range_before names) o (filter test (paged (drop i ps))) ≡ whole
+    → least_from (range_before names) new (filter test (paged (drop (i + 1) ps))) ≡ whole
 least_page names test o new whole i ps p h is e so_far =
-    ap (λ (x : Option Claim). least_from names x (filter test (paged (drop (i + 1) ps)))) e
-    ∙ sym (least_more names o (filter test p) (filter test (paged (drop (i + 1) ps))))
-    ∙ ap (λ (ds : List Claim). least_from names o ds) (sym (filter-append test p (paged (drop (i + 1) ps))) ∙ ap (filter test) (sym (drop_page ps i p h is)))
+    ap (λ (x : Option Claim). least_from (range_before names) x (filter test (paged (drop (i + 1) ps)))) e
+    ∙ sym (least_both (range_before names) o (filter test p) (filter test (paged (drop (i + 1) ps))))
+    ∙ ap (λ (ds : List Claim). least_from (range_before names) o ds) (sym (filter-append test p (paged (drop (i + 1) ps))) ∙ ap (filter test) (sym (drop_page ps i p h is)))
     ∙ so_far
 
 -- ---- a page that is passed by
@@ -57,10 +55,10 @@ not_before names l d (Range (Empty offset) exclusive) b is h within = absurd (bo
 not_before names l d (Share access deny) b is h within = absurd (both_ways false refl (rw within.0 at h))
 not_before names l d (Cache kind running) b is h within = absurd (both_ways false refl (rw within.0 at h))
 
-passed_over : (names : List Name) (l c : Claim) (cs : List Claim) → range_before names c l ≡ false → least_from names (Some l) (c ∷ cs) ≡ least_from names (Some l) cs
+passed_over : (names : List Name) (l c : Claim) (cs : List Claim) → range_before names c l ≡ false → least_from (range_before names) (Some l) (c ∷ cs) ≡ least_from (range_before names) (Some l) cs
 passed_over names l c cs e = rw e refl
 
-none_before : (names : List Name) (l : Claim) (test : Claim → Bool) (b : Bounds) (cs : List Claim) → (not b.mixed && nat_lt (range_key l.what).0 b.low) ≡ true → AreWithin b cs → least_from names (Some l) (filter test cs) ≡ Some l
+none_before : (names : List Name) (l : Claim) (test : Claim → Bool) (b : Bounds) (cs : List Claim) → (not b.mixed && nat_lt (range_key l.what).0 b.low) ≡ true → AreWithin b cs → least_from (range_before names) (Some l) (filter test cs) ≡ Some l
 none_before names l test b [] h all = refl
 none_before names l test b (c ∷ cs) h all =
     elim (cases_Bool (test c)) [
@@ -68,7 +66,7 @@ none_before names l test b (c ∷ cs) h all =
       | inl in_it ↦ rw in_it (passed_over names l c (filter test cs) (not_before names l c c.what b refl h all.0) ∙ none_before names l test b cs h all.1)
     ]
 
-beyond_none : (names : List Name) (o : Option Claim) (test : Claim → Bool) (b : Bounds) (cs : List Claim) → is_beyond o b ≡ true → AreWithin b cs → least_from names o (filter test cs) ≡ o
+beyond_none : (names : List Name) (o : Option Claim) (test : Claim → Bool) (b : Bounds) (cs : List Claim) → is_beyond o b ≡ true → AreWithin b cs → least_from (range_before names) o (filter test cs) ≡ o
 beyond_none names None test b cs h all = absurd (both_ways false refl h)
 beyond_none names (Some l) test b cs h all = none_before names l test b cs h all
 
@@ -76,10 +74,10 @@ none_counts : (ask : Claim) (ranges : Bool) (cs : List Claim) → AllByRecursion
 none_counts ask ranges [] all = refl
 none_counts ask ranges (c ∷ cs) all = rw (clear_none ask c all.0) (none_counts ask ranges cs all.1)
 
-pub past_counts_none : (names : List Name) (o : Option Claim) (ask : Claim) (ranges b : Bool) (bounds : Bounds) (cs : List Claim) → AreWithin bounds cs → b ≡ is_past ask.what bounds → b ≡ true → o ≡ least_from names o (filter (counts ask ranges) cs)
-past_counts_none names o ask ranges b bounds cs all e h = sym (ap (λ (ds : List Claim). least_from names o ds) (none_counts ask ranges cs (past_all ask.what bounds cs (sym e ∙ h) all)))
+pub past_counts_none : (names : List Name) (o : Option Claim) (ask : Claim) (ranges b : Bool) (bounds : Bounds) (cs : List Claim) → AreWithin bounds cs → b ≡ is_past ask.what bounds → b ≡ true → o ≡ least_from (range_before names) o (filter (counts ask ranges) cs)
+past_counts_none names o ask ranges b bounds cs all e h = sym (ap (λ (ds : List Claim). least_from (range_before names) o ds) (none_counts ask ranges cs (past_all ask.what bounds cs (sym e ∙ h) all)))
 
-pub beyond_counts_none : (names : List Name) (o : Option Claim) (ask : Claim) (ranges b : Bool) (bounds : Bounds) (cs : List Claim) → AreWithin bounds cs → b ≡ is_beyond o bounds → b ≡ true → o ≡ least_from names o (filter (counts ask ranges) cs)
+pub beyond_counts_none : (names : List Name) (o : Option Claim) (ask : Claim) (ranges b : Bool) (bounds : Bounds) (cs : List Claim) → AreWithin bounds cs → b ≡ is_beyond o bounds → b ≡ true → o ≡ least_from (range_before names) o (filter (counts ask ranges) cs)
 beyond_counts_none names o ask ranges b bounds cs all e h = sym (beyond_none names o (counts ask ranges) bounds cs (sym e ∙ h) all)
 
 -- ---- what counts

@@ -1,9 +1,12 @@
 -- Where a claim stands in the list, and the one equal to it; who has a byte.
-use Rattle.std.proofs.Common.{◌≡◌, ℕ, ◌+◌, ◌-◌, ◌<◌, ◌≤◌, suc, zero, Bool, true, false, nat_lt, ◌&&◌, ◌||◌, ◌==◌, if◌then◌else◌, List, [], ◌∷◌, ◌++◌, length, take, drop, get_or, Option, Some, None, IsTrue, ◌↔◌, refl, sym, ap, subst, ◌∙◌, inl, inr, arith}
+use Rattle.std.proofs.Common.{◌≡◌, ℕ, ◌+◌, ◌-◌, ◌<◌, ◌≤◌, suc, zero, Bool, true, false, nat_lt, ◌&&◌, ◌||◌, ◌==◌, if◌then◌else◌, List, [], ◌∷◌, ◌++◌, length, take, drop, get_or, Option, None, IsTrue, ◌↔◌, refl, sym, ap, subst, ◌∙◌, inl, inr, arith}
 use Rattle.std.proofs.Math.Numerals.{one-add}
 use Rattle.std.specs.List.{AllByRecursion, filter, list_any, prefix_len, remove}
 use Rattle.std.proofs.Math.Seq.{take-length}
 use Rattle.std.proofs.lemmas.List.{append_assoc, length-append, length-drop}
+use Rattle.std.proofs.lemmas.List.Elements.{filter-append}
+use Rattle.xl_base.proofs.LeastLaws.{least_both}
+use Rattle.xl_base.specs.Leasts.{least_from}
 use Rattle.xl_base.specs.declared.name.Owner.{Owner}
 use Rattle.xl_base.specs.declared.name.Owner.TheVariants as owners
 use Rattle.xl_base.specs.declared.name.Party.{Party}
@@ -21,7 +24,7 @@ use Rattle.xl_base.specs.Lists.{IsIn, Pairwise, placed}
 use Rattle.xl_matrix.specs.declared.claim.Claim.{Claim}
 use Rattle.xl_matrix.specs.Equal.{same_claims}
 use Rattle.xl_table.specs.Order.{no_later, owner_key, party_key, place_in_group, key_from, key_by, key, goes_first}
-use Rattle.xl_table.specs.Flat.{inserted, removed, changed, with_what, locks_by, locks, lesser, holder_from, holder}
+use Rattle.xl_table.specs.Flat.{inserted, removed, changed, with_what, comes_before, locks, holder_from, holder}
 use Rattle.xl_table.specs.Elements.{taken_back}
 use Rattle.xl_table.specs.Sections.{is_no_later_than, is_before, is_upto}
 use Rattle.xl_index.specs.Parted.{IsParted}
@@ -50,21 +53,23 @@ pub held_on_file : (claim : Claim) (cs out : List Claim) (test : Bool) → test 
 held_on_file claim cs out test e is =
     held_iff test claim cs (e ∙ equal_here claim cs out is)
 
-holder_within : (file byte : ℕ) (least : Option Claim) (cs : List Claim) → holder_from least file byte (filter (λ c. c.file == file) cs) ≡ holder_from least file byte cs
-holder_within file byte least [] = refl
-holder_within file byte least (c ∷ cs) =
+one_more : (p : Claim → Bool) (c : Claim) (ds cs : List Claim) → filter p ds ≡ filter p cs → filter p (c ∷ ds) ≡ filter p (c ∷ cs)
+one_more p c ds cs same = elim (cases_Bool (p c)) [ inl on ↦ rw on (ap (λ (es : List Claim). c ∷ es) same) | inr off ↦ rw off same ]
+
+-- who has the byte is on the file
+on_file : (file byte : ℕ) (cs : List Claim) → filter (locks file byte) (filter (λ c. c.file == file) cs) ≡ filter (locks file byte) cs
+on_file file byte [] = refl
+on_file file byte (c ∷ cs) =
+    let there = filter (λ (d : Claim). d.file == file) cs in
+    let rest = on_file file byte cs in
     elim (cases_Bool (c.file == file)) [
-      | inl here ↦ let rest = holder_within file byte (if locks_by c.what byte then Some (lesser least c) else least) cs in rw here (on here rest)
-      | inr apart ↦ rw apart (holder_within file byte least cs)
+      | inl here ↦ subst (λ (b : Bool). filter (locks file byte) (if b then c ∷ there else there) ≡ filter (locks file byte) (c ∷ cs)) (sym here) (one_more (locks file byte) c there cs rest)
+      | inr apart ↦ rw apart rest
     ]
-  where
-    on : (c.file == file) ≡ true → holder_from (if locks_by c.what byte then Some (lesser least c) else least) file byte (filter (λ d. d.file == file) cs) ≡ holder_from (if locks_by c.what byte then Some (lesser least c) else least) file byte cs
-        → holder_from least file byte (c ∷ filter (λ d. d.file == file) cs) ≡ holder_from (if locks_by c.what byte then Some (lesser least c) else least) file byte cs
-    on here rest = ap (λ (b : Bool). holder_from (if b && locks_by c.what byte then Some (lesser least c) else least) file byte (filter (λ d. d.file == file) cs)) here ∙ rest
 
 pub holder_on_file : (file byte : ℕ) (cs out : List Claim) (found : Option Claim) → found ≡ holder file byte out → out ≡ filter (λ c. c.file == file) cs → found ≡ holder file byte cs
 unfolding holder
-holder_on_file file byte cs out found e is = e ∙ ap (λ (ds : List Claim). holder_from None file byte ds) is ∙ holder_within file byte None cs
+holder_on_file file byte cs out found e is = e ∙ ap (λ (ds : List Claim). holder_from None file byte ds) is ∙ ap (λ (ds : List Claim). least_from comes_before None ds) (on_file file byte cs)
 
 -- ---- a claim's place by its numbers
 
@@ -237,8 +242,7 @@ pub put_at_place : (claim : Claim) (cs new : List Claim) (i : ℕ) → i ≡ pre
 put_at_place claim cs new i at e = e ∙ sym (placed_at claim cs i at)
 
 pub holder_more : (least : Option Claim) (file byte : ℕ) (xs ys : List Claim) → holder_from least file byte (xs ++ ys) ≡ holder_from (holder_from least file byte xs) file byte ys
-holder_more least file byte [] ys = refl
-holder_more least file byte (x ∷ xs) ys = holder_more (if locks file byte x then Some (lesser least x) else least) file byte xs ys
+holder_more least file byte xs ys = ap (λ (ds : List Claim). least_from comes_before least ds) (filter-append (locks file byte) xs ys) ∙ least_both comes_before least (filter (locks file byte) xs) (filter (locks file byte) ys)
 
 pub holder_page : (least new whole : Option Claim) (file byte i : ℕ) (ps : List (List Claim)) (p seen : List Claim) → i < length ps → p ≡ get_or ps i p → seen ≡ p → new ≡ holder_from least file byte seen → holder_from least file byte (paged (drop i ps)) ≡ whole → holder_from new file byte (paged (drop (i + 1) ps)) ≡ whole
 holder_page least new whole file byte i ps p seen h is same e so_far =

@@ -1,6 +1,7 @@
 -- What a table of claims answers, on the flat list of its claims.
-use Rattle.std.specs.Prelude.{ℕ, Bool, false, ◌&&◌, ◌||◌, ◌==◌, nat_le, List, [], ◌∷◌, Option, Some, None, if◌then◌else◌}
-use Rattle.std.specs.List.{list_any}
+use Rattle.std.specs.Prelude.{ℕ, Bool, false, not, ◌&&◌, ◌||◌, ◌==◌, nat_le, List, [], ◌∷◌, Option, Some, None, if◌then◌else◌}
+use Rattle.std.specs.List.{filter, list_any}
+use Rattle.xl_base.specs.Leasts.{least_from}
 use Rattle.xl_base.specs.Lists.{placed}
 use Rattle.xl_base.specs.declared.event.Moment.{Moment}
 use Rattle.xl_matrix.specs.declared.claim.Extent.TheVariants.{Bytes}
@@ -63,15 +64,13 @@ range_key_by _ = 0 ∷ 0 ∷ 0 ∷ []
 abbrev pub range_key : Claim → List ℕ
 range_key claim = range_key_by claim.what
 
--- the lesser of the least so far and one more claim; of equal ones the earlier
-abbrev pub lesser : Option Claim → Claim → Claim
-lesser None claim = claim
-lesser (Some least) claim = if no_later (range_key least) (range_key claim) then least else claim
+-- the first range comes before the second
+abbrev pub comes_before : Claim → Claim → Bool
+comes_before a b = not (no_later (range_key b) (range_key a))
 
 -- the least of those that lock the byte, with the least so far
 abbrev pub holder_from : Option Claim → ℕ → ℕ → List Claim → Option Claim
-holder_from least file byte [] = least
-holder_from least file byte (c ∷ cs) = holder_from (if locks file byte c then Some (lesser least c) else least) file byte cs
+holder_from found file byte cs = least_from comes_before found (filter (locks file byte) cs)
 
 -- the least range on the file that has the byte (TABLE-19)
 unfoldable pub holder : ℕ → ℕ → List Claim → Option Claim

@@ -1,7 +1,8 @@
 -- The least of some claims, as a blocker is reported.
-use Rattle.std.specs.Prelude.{ℕ, Bool, false, not, ◌&&◌, ◌||◌, ◌==◌, nat_lt, if◌then◌else◌, List, [], ◌∷◌, Option, Some, None}
+use Rattle.std.specs.Prelude.{ℕ, Bool, false, not, ◌&&◌, ◌||◌, ◌==◌, nat_lt, if◌then◌else◌, List, Option, Some, None}
 use Rattle.std.specs.Ordering.{nat_cmp, is_lt}
 use Rattle.std.specs.Cmp.Lexicographic.{slice_cmp}
+use Rattle.xl_base.specs.Leasts.{least_by}
 use Rattle.xl_matrix.specs.declared.claim.Claim.{Claim}
 use Rattle.xl_matrix.specs.declared.claim.Extent.TheVariants.{Bytes, Empty}
 use Rattle.xl_matrix.specs.declared.claim.What.{What}
@@ -26,18 +27,9 @@ before_by a b text =
 abbrev pub range_before : List Name → Claim → Claim → Bool
 range_before names a b = before_by (range_key a.what) (range_key b.what) (is_lt (slice_cmp nat_cmp (owner_text names a.owner) (owner_text names b.owner)))
 
--- the lesser of the least so far and one more
-abbrev pub lesser : List Name → Option Claim → Claim → Option Claim
-lesser names None c = Some c
-lesser names (Some least) c = if range_before names c least then Some c else Some least
-
-abbrev pub least_from : List Name → Option Claim → List Claim → Option Claim
-least_from names least [] = least
-least_from names least (c ∷ cs) = least_from names (lesser names least c) cs
-
 -- the least of these, which a refusal names (CORE-2)
 unfoldable pub least : List Name → List Claim → Option Claim
-least names cs = least_from names None cs
+least names cs = least_by (range_before names) cs
 
 -- the held claim blocks the ask, and is a range if ranges alone count
 abbrev pub counts : Claim → Bool → Claim → Bool

@@ -1,8 +1,9 @@
 //! Who has a byte.
-ghost use Rattle.std.specs.Prelude.{◌≡◌};
+ghost use Rattle.std.specs.Prelude.{◌≡◌, Some};
 ghost use Rattle.xl_table.specs.Files.{joined, IsFiled};
 ghost use Rattle.xl_table.specs.Pages.{paged};
-ghost use Rattle.xl_table.specs.Flat.{locks_by, locks, range_key_by, lesser, holder_from, holder};
+ghost use Rattle.xl_base.specs.Leasts.{lesser};
+ghost use Rattle.xl_table.specs.Flat.{locks_by, locks, range_key_by, comes_before, holder_from, holder};
 
 use crate::files::{OnFile, on_file};
 use crate::ordering::is_no_later;
@@ -37,7 +38,7 @@ fn key_of_range(what: What) -> [u64; 3]
 
 /// The lesser of the least range so far and one more; of equal ones the earlier.
 fn lesser_of(least: Option<Claim>, claim: Claim) -> Claim
-    ensures { result ≡ lesser least claim }
+    ensures { lesser comes_before least claim ≡ Some result }
 {
     match least {
         None => claim,

@@ -4,8 +4,9 @@ ghost use Rattle.std.specs.Ordering.{nat_cmp, is_lt};
 ghost use Rattle.std.specs.Cmp.Lexicographic.{slice_cmp};
 ghost use Rattle.xl_names.specs.Texts.{owner_text};
 ghost use Rattle.std.specs.List.{filter};
+ghost use Rattle.xl_base.specs.Leasts.{lesser, least_from};
 ghost use Rattle.xl_table.specs.Files.{joined, IsFiled};
-ghost use Rattle.xl_table.specs.Least.{range_key, range_before, lesser, least_from, least, counts, is_beyond};
+ghost use Rattle.xl_table.specs.Least.{range_key, range_before, least, counts, is_beyond};
 ghost use Rattle.xl_table.specs.Pages.{paged};
 
 use crate::bounds::Bounds;
@@ -75,7 +76,7 @@ fn lesser(
     least: Option<Claim>,
     claim: &Claim,
 ) -> Result<Option<Claim>, AllocError>
-    ensures { IfOk result (λ c. c ≡ lesser names.now least claim.now) }
+    ensures { IfOk result (λ c. c ≡ lesser (range_before names.now) least claim.now) }
 {
     if let Some(before) = least {
         if !range_before(alloc, names, claim, &before)? {
@@ -111,7 +112,7 @@ pub(crate) fn least_among(
     ask: &Claim,
     ranges: bool,
 ) -> Result<Option<Claim>, AllocError>
-    ensures { IfOk result (λ c. c ≡ least_from names.now least (filter (counts ask.now ranges) claims.now)) }
+    ensures { IfOk result (λ c. c ≡ least_from (range_before names.now) least (filter (counts ask.now ranges) claims.now)) }
 {
     let mut least = least;
     for claim in claims {

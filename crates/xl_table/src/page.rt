@@ -6,7 +6,8 @@ ghost use Rattle.xl_table.specs.Flat.{blocks, is_blocked, may_obstruct, is_due, 
 ghost use Rattle.xl_table.specs.Leaving.{goes};
 ghost use Rattle.xl_table.specs.Pages.{passes, passes_side, ends};
 ghost use Rattle.xl_table.specs.Held.{is_cache};
-ghost use Rattle.xl_table.specs.Least.{least_from, counts};
+ghost use Rattle.xl_base.specs.Leasts.{least_from};
+ghost use Rattle.xl_table.specs.Least.{range_before, counts};
 ghost use Rattle.xl_table.specs.Sections.{ends_in_cache};
 ghost use Rattle.xl_index.specs.Parted.{IsParted};
 
@@ -291,7 +292,7 @@ impl Page {
         ask: &Claim,
         ranges: bool,
     ) -> Result<Option<Claim>, AllocError>
-        ensures { IfOk result (λ c. c ≡ least_from names.now least (filter (counts ask.now ranges) self.now)) }
+        ensures { IfOk result (λ c. c ≡ least_from (range_before names.now) least (filter (counts ask.now ranges) self.now)) }
     {
         if is_past(ask.what, self.bounds) {
             return Ok(least);
