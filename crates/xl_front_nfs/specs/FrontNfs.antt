@@ -1,5 +1,5 @@
 -- What a call of program 100003 version 4 is answered (RFC 7530 15.1, 15.2).
-use Rattle.std.specs.Prelude.{ℕ, ◌*◌, not, ◌==◌, nat_lt, if◌then◌else◌, List, [], ◌++◌, length, Result, Ok, Err}
+use Rattle.std.specs.Prelude.{ℕ, ◌+◌, ◌*◌, not, ◌==◌, nat_lt, if◌then◌else◌, List, [], ◌++◌, length, Result, Ok, Err}
 use Rattle.xl_base.specs.declared.event.Out.{Out}
 use Rattle.xl_base.specs.declared.journal.Exports.{Exports}
 use Rattle.xl_nfs.specs.Compounds.{CompoundHeadItem, compound_head_at}
@@ -15,7 +15,9 @@ use Rattle.xl_core.specs.State.{CoreState}
 use Rattle.xl_core.specs.declared.ask.Effect.{Effect}
 use Rattle.xl_nfs_state.specs.State.{NfsLists}
 use Rattle.xl_plan.specs.Plans.{Outcome, deeds_of, carried}
+use Rattle.xl_nfs_state.specs.Bytes.{most_result_bytes}
 use Rattle.xl_nfs_opens.specs.Results.{compound_results}
+use Rattle.xl_nfs_opens.specs.Seqids.{most_short}
 use Rattle.xl_front_nfs.specs.State.{FrontNfs}
 use Rattle.xl_front_nfs.specs.Steps.{Step, Course, begun, steps_in, compound}
 
@@ -36,21 +38,32 @@ null_in bytes = if length bytes == 0 then Null else Garbage
 abbrev pub most_ops : ℕ
 most_ops = 64
 
+-- how many bytes its results have at most: only the last may be that of a lock that is denied
+abbrev pub most_results : ℕ
+most_results = most_short * most_ops + most_result_bytes
+
 -- numbers that a COMPOUND draws at most, four an operation
 abbrev pub most_drawn : ℕ
 most_drawn = 4 * most_ops
+
+-- the minor version that is served
+abbrev pub minor_version : ℕ
+minor_version = 0
 
 -- the minor version is judged before the count; what stands behind the last operation is not read (NFS-8)
 abbrev pub compound_in : Result (CompoundHeadItem × List ℕ) RpcBad → Called
 compound_in (Err fault) = Garbage
 compound_in (Ok (head, bytes)) =
-    if not (head.minorversion == 0) then Refused head.tag MinorVersMismatch
+    if not (head.minorversion == minor_version) then Refused head.tag MinorVersMismatch
     else if nat_lt most_ops head.count then Refused head.tag Resource
     else Compound head.tag (steps_in head.count bytes)
 
--- procedure 0 is NULL, and 1 COMPOUND
+-- the procedure NULL; the other one is COMPOUND
+abbrev pub null_procedure : ℕ
+null_procedure = 0
+
 unfoldable pub call_in : RequestItem → Called
-call_in r = if r.procedure == 0 then null_in r.arguments else compound_in (compound_head_at r.arguments)
+call_in r = if r.procedure == null_procedure then null_in r.arguments else compound_in (compound_head_at r.arguments)
 
 -- ---- what it does, and what it is answered
 

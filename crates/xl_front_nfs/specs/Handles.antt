@@ -3,14 +3,14 @@ use Rattle.std.specs.Prelude.{ℕ, not, ◌==◌, nat_le, if◌then◌else◌, L
 use Rattle.xl_base.specs.Handles.{file_at}
 use Rattle.xl_nfs.specs.declared.status.NfsStatus.TheVariants.{Ok, NoEnt, NotDir, Inval, Stale, BadHandle, NoFileHandle}
 use Rattle.xl_nfs_state.specs.State.{NfsLists}
-use Rattle.xl_nfs_opens.specs.Files.{file_named}
+use Rattle.xl_nfs_opens.specs.Files.{root, file_named}
 use Rattle.xl_plan.specs.Plans.{Tells, Does}
 use Rattle.xl_nfs_opens.specs.Plans.{Plan}
 use Rattle.xl_nfs_opens.specs.declared.told.Told.TheVariants.{Ended, Handle}
 
 -- PUTROOTFH (16.22)
 unfoldable pub put_root_fh : NfsLists → Plan
-put_root_fh l = Does [] l (Ended Ok, Some 0)
+put_root_fh l = Does [] l (Ended Ok, Some root)
 
 abbrev pub put_file : ℕ → NfsLists → Option ℕ → Option ℕ → Plan
 put_file count l current None = Tells (Ended BadHandle, current)
@@ -33,6 +33,6 @@ found_file l current (Some file) = Does [] l (Ended Ok, Some file)
 unfoldable pub look_up : List (List ℕ) → NfsLists → Option ℕ → List ℕ → Plan
 look_up files l None name = Tells (Ended NoFileHandle, None)
 look_up files l (Some file) name =
-    if not (file == 0) then Tells (Ended NotDir, Some file)
+    if not (file == root) then Tells (Ended NotDir, Some file)
     else if length name == 0 then Tells (Ended Inval, Some file)
     else found_file l (Some file) (file_named files name)

@@ -12,6 +12,7 @@ ghost use Rattle.xl_front_nfs.specs.FrontNfs.{most_ops};
 ghost use Rattle.xl_plan.specs.Budgets.{IsReady};
 ghost use Rattle.xl_plan.specs.Plans.{carried, told_behind};
 ghost use Rattle.xl_nfs_opens.specs.Results.{ToldFits};
+ghost use Rattle.xl_nfs_opens.specs.Seqids.{most_short};
 ghost use Rattle.xl_nfs_opens.specs.Short.{Leaves};
 ghost use Rattle.xl_nfs_opens.specs.declared.told.Told.TheVariants.{Ended};
 ghost use Rattle.xl_front_nfs.specs.Steps.{steps_in, fault_of, noted, step_plan, goes_on, compound, Runs};
@@ -75,7 +76,7 @@ fn note(progress: &mut Progress, number: u32, done: Done) -> Result<bool, AllocE
     ensures told { OnOk result (progress.new.effects ≡ progress.old.effects ++ done.2) }
     ensures more { IfOk result (λ more. more ≡ goes_on (course_of progress.new)) }
     ensures little { OnOk result (length progress.new.results ≤ length progress.old.results + most_result_bytes) }
-    ensures short { IfOk result (λ more. more ≡ true → length progress.new.results ≤ length progress.old.results + 104) }
+    ensures short { IfOk result (λ more. more ≡ true → length progress.new.results ≤ length progress.old.results + most_short) }
     ensures count { OnOk result (progress.new.count ≡ progress.old.count + 1) }
 {
     let (told, current, effects) = done;
@@ -104,7 +105,7 @@ fn do_op<K: Keeper>(
     ensures more { IfOk result (λ more. more ≡ goes_on (course_of progress.new)) }
     ensures leaves { OnOk result (Leaves 4 core.old core.new) }
     ensures little { OnOk result (length progress.new.results ≤ length progress.old.results + most_result_bytes) }
-    ensures short { IfOk result (λ more. more ≡ true → length progress.new.results ≤ length progress.old.results + 104) }
+    ensures short { IfOk result (λ more. more ≡ true → length progress.new.results ≤ length progress.old.results + most_short) }
     ensures count { OnOk result (progress.new.count ≡ progress.old.count + 1) }
     ensures keeper { HandedOn keeper.old keeper.new }
 {
@@ -158,7 +159,7 @@ pub(crate) fn run_ops<K: Keeper>(
     requires few { progress.old.count + ops.now.count ≤ most_ops }
     ensures course { (n : ℕ) → OnOk result (MayBe n core.new → told_behind progress.old.effects (carried n core.old state.old (compound exported.now.files.now exported.now.others (course_of progress.old) core.old state.old (steps_in ops.now.count ops.now.bytes.rest.now))) ≡ (course_of progress.new, progress.new.effects, state.new, core.new)) }
     ensures leaves { OnOk result (Leaves (4 * ops.now.count) core.old core.new) }
-    ensures little { OnOk result (length progress.new.results ≤ length progress.old.results + 104 * ops.now.count + most_result_bytes) }
+    ensures little { OnOk result (length progress.new.results ≤ length progress.old.results + most_short * ops.now.count + most_result_bytes) }
     ensures keeper { HandedOn keeper.old keeper.new }
 {
     if ops.count == 0 {

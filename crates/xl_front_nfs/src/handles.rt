@@ -8,7 +8,7 @@ ghost use Rattle.xl_nfs_opens.specs.Plans.{carried};
 
 use xl_base::{Sequence, file_of};
 use xl_nfs::NfsStatus;
-use xl_nfs_opens::{Told, file_named};
+use xl_nfs_opens::{ROOT, Told, file_named};
 
 /// It failed so, and the current handle stays.
 fn failed(status: NfsStatus, current: Option<u32>) -> (Told, Option<u32>)
@@ -23,7 +23,7 @@ fn failed(status: NfsStatus, current: Option<u32>) -> (Told, Option<u32>)
 pub(crate) fn put_root_fh() -> (Told, Option<u32>)
     ensures { (n : ℕ) (s : CoreState) (l : NfsLists) → carried n s l (put_root_fh l) ≡ (result.0, result.1, [], l, s) }
 {
-    (Told::Ended(NfsStatus::Ok), Some(0))
+    (Told::Ended(NfsStatus::Ok), Some(ROOT))
 }
 
 /// The file of a handle becomes the current one, if it is one of so many.
@@ -70,7 +70,7 @@ pub(crate) fn look_up(
     let Some(file) = current else {
         return failed(NfsStatus::NoFileHandle, current);
     };
-    if file != 0 {
+    if file != ROOT {
         return failed(NfsStatus::NotDir, current);
     }
     if name.is_empty() {

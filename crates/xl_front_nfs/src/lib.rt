@@ -15,4 +15,4 @@ mod step;
 
 pub use front::{NfsFront, nfs_shown, nfs_tick};
 pub use recalling::recalls;
-pub use step::nfs_step;
+pub use step::{Arrival, nfs_step};

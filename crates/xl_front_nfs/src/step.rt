@@ -11,7 +11,7 @@ ghost use Rattle.xl_rpc.specs.Replies.{reply};
 ghost use Rattle.xl_rpc.specs.declared.reply.Verdict.TheVariants.{Success, GarbageArgs};
 ghost use Rattle.xl_core.specs.State.{CoreState, MayBe};
 ghost use Rattle.xl_front_nfs.specs.Courses.{course_of};
-ghost use Rattle.xl_front_nfs.specs.FrontNfs.{null_in, compound_in, call_in, most_ops, most_drawn, run, with_reply, replied, nfs_step};
+ghost use Rattle.xl_front_nfs.specs.FrontNfs.{null_in, compound_in, call_in, most_ops, most_drawn, most_results, run, with_reply, replied, nfs_step};
 ghost use Rattle.xl_nfs_opens.specs.Results.{compound_results};
 ghost use Rattle.xl_plan.specs.Budgets.{IsReady};
 ghost use Rattle.xl_nfs_opens.specs.Short.{Leaves};
@@ -28,8 +28,23 @@ use xl_nfs_opens::Exported;
 use xl_programs::{Program, Request, refusal, sent_to};
 use xl_rpc::{Verdict, Xdr, XdrOut, write_reply};
 
+/// The procedure NULL.
+const NULL: u32 = 0;
+
+/// The minor version that is served.
+const MINOR_VERSION: u32 = 0;
+
 /// How many operations a COMPOUND has at most.
 const MOST_OPS: u32 = 64;
+
+/// A request as it arrives.
+#[derive(Clone, Copy)]
+pub struct Arrival<'a> {
+    /// The connection that it came by.
+    pub conn: u64,
+    /// The request.
+    pub request: &'a Request<'a>,
+}
 
 /// A COMPOUND whose head is read, of this request.
 #[derive(Clone, Copy)]
@@ -72,7 +87,7 @@ fn compound_reply(
     results: &XdrOut,
 ) -> Result<Vec<u8>, AllocError>
     requires tag { length tag.now ≤ most_text_bytes }
-    requires few { length results.now ≤ 7720 }
+    requires few { length results.now ≤ most_results }
     ensures reply { IfOk result (λ v. v.items ≡ reply xid Success ++ compound_results tag.now status count results.now) }
     ensures little { IfOk result (λ v. length v.items ≤ most_message_bytes) }
 {
@@ -190,7 +205,7 @@ fn compound<K: Keeper>(
     let Ok(head) = read_head(&mut args) else {
         return garbage(alloc, request.xid);
     };
-    if head.minorversion != 0 {
+    if head.minorversion != MINOR_VERSION {
         return refused(alloc, request.xid, head.tag, NfsStatus::MinorVersMismatch);
     }
     if head.count > MOST_OPS {
@@ -217,7 +232,7 @@ fn replied<K: Keeper>(
     ensures little { IfOk result (λ r. length r.0.items ≤ most_message_bytes) }
     ensures keeper { HandedOn keeper.old keeper.new }
 {
-    if request.procedure == 0 {
+    if request.procedure == NULL {
         let done = null(alloc, request)?;
         Ok(done)
     } else {
@@ -226,8 +241,9 @@ fn replied<K: Keeper>(
     }
 }
 
-/// Answers a call of NFS version 4.0 (RFC 7530) from the connection of this number: the reply, without its frame and at
-/// most 65,536 bytes long, and what the core told of besides. The procedures served are NULL and COMPOUND. A COMPOUND's
+/// Answers a call of NFS version 4.0 (RFC 7530): the reply to the connection that it came by, without its frame and at
+/// most 65,536 bytes long, and what the core told of besides. Other protocols have this number of opens. The procedures
+/// served are NULL and COMPOUND. A COMPOUND's
 /// operations are done in order, up to the first that isn't OK; PUTROOTFH, PUTFH, GETFH, LOOKUP, SETCLIENTID,
 /// SETCLIENTID_CONFIRM, RENEW, OPEN, OPEN_CONFIRM, OPEN_DOWNGRADE, CLOSE, DELEGRETURN, LOCK, LOCKT, LOCKU and RELEASE_LOCKOWNER
 /// are served, other numbers from 3 to 39 are NOTSUPP and all else OP_ILLEGAL. A head that
@@ -242,18 +258,17 @@ pub fn nfs_step<K: Keeper>(
     front: &mut NfsFront,
     core: &mut Core,
     keeper: &mut K,
-    conn: u64,
-    request: &Request,
+    arrival: &Arrival<'_>,
 ) -> Result<(Sequence<Out>, Sequence<Effect>), AllocError>
-    requires known { serves Program.Nfs request.now.procedure ≡ true }
+    requires known { serves Program.Nfs arrival.now.request.now.procedure ≡ true }
     requires ready { IsReady most_drawn core.old }
-    ensures state { (n : ℕ) → IfOk result (λ r. MayBe n core.new → nfs_step n exports.now others front.old core.old conn (shown_request request.now) ≡ (r.0, r.1, front.new, core.new)) }
+    ensures state { (n : ℕ) → IfOk result (λ r. MayBe n core.new → nfs_step n exports.now others front.old core.old arrival.now.conn (shown_request arrival.now.request.now) ≡ (r.0, r.1, front.new, core.new)) }
     ensures leaves { OnOk result (Leaves most_drawn core.old core.new) }
     ensures little { IfOk result (λ r. AllByRecursion FitsFrame r.0) }
     ensures keeper { HandedOn keeper.old keeper.new }
 {
     let files = exports.files.as_slice();
     let exported = Exported { files, others };
-    let (reply, effects) = replied(alloc, &exported, front, core, keeper, request)?;
-    Ok((sent_to(alloc, conn, reply)?, effects))
+    let (reply, effects) = replied(alloc, &exported, front, core, keeper, arrival.request)?;
+    Ok((sent_to(alloc, arrival.conn, reply)?, effects))
 }

@@ -1,5 +1,5 @@
 -- Who is granted something, or waits, is a host then, and each host stays one.
-use Rattle.std.proofs.Common.{◌≡◌, ℕ, Bool, true, false, ◌||◌, if◌then◌else◌, List, [], ◌∷◌, ◌++◌, Option, Some, None, Result, Ok, Err, refl, ap, subst, ◌∙◌, inl, inr}
+use Rattle.std.proofs.Common.{◌≡◌, ℕ, true, List, [], ◌∷◌, ◌++◌, Option, Some, None, Result, Ok, Err, refl, ap, ◌∙◌, inl, inr}
 use Rattle.std.proofs.lemmas.Bool.{cases_Bool}
 use Rattle.std.specs.Prelude.{bytes_eq}
 use Rattle.xl_base.specs.declared.journal.Exports.{Exports}
@@ -20,7 +20,7 @@ use Rattle.xl_front_nlm.proofs.LeftLaws.{host_came}
 use Rattle.xl_front_nlm.specs.Aims.{aimed, exported}
 use Rattle.xl_front_nlm.specs.Asks.{lock_ask, share_ask, test_ask, unlock_ask}
 use Rattle.xl_front_nlm.specs.Grants.{news, shown, told_by}
-use Rattle.xl_front_nlm.specs.Hosts.{host_entered, host_rows, hosts_after, is_host, makes_host, rooms}
+use Rattle.xl_front_nlm.specs.Hosts.{host_rows, hosts_after, is_host, makes_host, rooms}
 use Rattle.xl_front_nlm.specs.Serving.{CallPlan, asks, at_bytes, if_found, lock_plan, on_file, planned, served}
 use Rattle.xl_front_nlm.specs.Standing.{does_wait, share_held, waiter_for}
 use Rattle.xl_front_nlm.specs.State.{FrontState}

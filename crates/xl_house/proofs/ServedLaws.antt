@@ -129,21 +129,21 @@ module _ (n fuel : ℕ) (exports : Exports) (f : Fronts) (s t : CoreState) (told
       ∙ ap (λ (held : Caching). final_outs row (opened_reply id row (id_of t row.opened) held)) (same_caching t counter row.opened made)
   says u counter request.Lock same locks = lock_told f.smb u party id row claim waited locks
 
-  pub is_told : (earlier : List Out) × ((all_shown exports f t told).0 ≡ earlier ++ map (framed Smb) (final_outs row (success_of t id row row.request)))
+  pub is_told : (before : List Effect) × (told ≡ before ++ effects.Served party id (answers.Granted claim) ∷ []) × ((all_shown exports f t told).0 ≡ (all_shown exports f t before).0 ++ map (framed Smb) (final_outs row (success_of t id row row.request)))
   is_told =
       let x : Effect = effects.Served party id (answers.Granted claim) in
       let grant = served_grant (rooms_of f) s t told party id claim (turn_of n (rooms_of f) s t told good turned) served in
-      let r = all_shown exports f t grant.before in
-      let ends = last_ends exports f t grant.before x of_smb in (
-        ends.0,
+      let r = all_shown exports f t grant.before in (
+        grant.before,
+        grant.last,
         ap (λ (es : List Effect). (all_shown exports f t es).0) grant.last
-            ∙ ends.1
-            ∙ ap (λ (l : Lists). ends.0 ++ map (framed Smb) (smb_shown (record { state = l }) r.2 x).0) (quiet_shows exports f t grant.before grant.begun)
-            ∙ ap (λ (outs : List Out). ends.0 ++ map (framed Smb) outs) (says r.2 r.2.counter row.request (all_shown_is exports f t grant.before).parts refl),
+            ∙ last_ends exports f t grant.before x of_smb
+            ∙ ap (λ (l : Lists). r.0 ++ map (framed Smb) (smb_shown (record { state = l }) r.2 x).0) (quiet_shows exports f t grant.before grant.begun)
+            ∙ ap (λ (outs : List Out). r.0 ++ map (framed Smb) outs) (says r.2 r.2.counter row.request (all_shown_is exports f t grant.before).parts refl),
       )
 
-  pub has_open : row.opened ≡ number → HasItsOpen exports last_lists turn id number claim
-  has_open own = record { row = row; waited = waited; own = own; there = is_there row.request refl; earlier = is_told.0; sent = is_told.1 }
+  pub has_open : row.opened ≡ number → HasItsOpen exports last_lists turn party id number claim
+  has_open own = record { row = row; waited = waited; own = own; there = is_there row.request refl; before = is_told.0; told = is_told.1; sent = is_told.2 }
 
 turn_has : (n fuel : ℕ) (exports : Exports) (f : Fronts) (s t : CoreState) (told : List Effect) → IsGood s → Stand s f.smb.state → settle n (rooms_of f) s ≡ Some (told, t)
     → (let r = all_shown exports f t told in HaveOpens exports (turns_sent exports r.1 r.2 (taken fuel n exports r.1 r.2)).1.smb.state (record { front = f; told = told; left = t }))

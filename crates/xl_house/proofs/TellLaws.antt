@@ -65,5 +65,5 @@ last_sends exports f s (first ∷ told) effect =
 
 -- what SMB's front says of it stands at the end
 pub last_ends : (exports : Exports) (f : Fronts) (s : CoreState) (told : List Effect) (effect : Effect) → told_to effect ≡ protocols.Smb
-    → (let r = all_shown exports f s told in (earlier : List Out) × ((all_shown exports f s (told ++ effect ∷ [])).0 ≡ earlier ++ map (framed Smb) (smb_shown r.1.smb r.2 effect).0))
-last_ends exports f s told effect own = (let r = all_shown exports f s told in (r.0, last_sends exports f s told effect ∙ ap (λ (p : Protocol). r.0 ++ (shown_by exports r.1 r.2 effect p).0) own))
+    → (let r = all_shown exports f s told in (all_shown exports f s (told ++ effect ∷ [])).0 ≡ r.0 ++ map (framed Smb) (smb_shown r.1.smb r.2 effect).0)
+last_ends exports f s told effect own = (let r = all_shown exports f s told in last_sends exports f s told effect ∙ ap (λ (p : Protocol). r.0 ++ (shown_by exports r.1 r.2 effect p).0) own)

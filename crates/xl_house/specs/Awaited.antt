@@ -1,12 +1,11 @@
 -- Requests of SMB that wait: each is a waiter of the core at a free moment, and each waiter of an SMB open has its
 -- request; and what a turn grants to an SMB open has its open afterwards, and is answered (MS-SMB2 3.3.4.2, 3.3.4.4,
 -- 3.3.5.9).
-use Rattle.std.specs.Prelude.{◌≡◌, ℕ, true, List, ◌++◌, map, Some}
+use Rattle.std.specs.Prelude.{◌≡◌, ℕ, true, List, [], ◌∷◌, ◌++◌, map, Some}
 use Rattle.std.specs.List.{AllByRecursion}
 use Rattle.xl_base.specs.Lists.{IsIn}
 use Rattle.xl_base.specs.declared.event.Event.{Event}
 use Rattle.xl_base.specs.declared.event.Kind.TheVariants.{Smb}
-use Rattle.xl_base.specs.declared.event.Out.{Out}
 use Rattle.xl_base.specs.declared.journal.Exports.{Exports}
 use Rattle.xl_base.specs.declared.name.Owner.TheVariants as owners
 use Rattle.xl_base.specs.declared.name.Party.{Party}
@@ -17,6 +16,7 @@ use Rattle.xl_smb_state.specs.declared.row.Request.TheVariants as request
 use Rattle.xl_smb_state.specs.declared.row.Waiting.{Waiting}
 use Rattle.xl_core.specs.State.{CoreState}
 use Rattle.xl_core.specs.declared.ask.Answer.TheVariants.{Granted}
+use Rattle.xl_core.specs.declared.ask.Effect.{Effect}
 use Rattle.xl_core.specs.declared.ask.Effect.TheVariants.{Served}
 use Rattle.xl_smb_locks.specs.Finals.{final_outs, locked_reply, opened_reply}
 use Rattle.xl_core.specs.Ids.{id_of}
@@ -28,7 +28,7 @@ use Rattle.xl_house.specs.Done.{Round, rounds}
 use Rattle.xl_house.specs.Lawful.{Law}
 use Rattle.xl_house.specs.Owed.{IsGoneBy}
 use Rattle.xl_house.specs.State.{Whole}
-use Rattle.xl_house.specs.Telling.{TurnTaken, turn_sent, framed}
+use Rattle.xl_house.specs.Telling.{TurnTaken, all_shown, turn_sent, framed}
 
 -- each request that waits in SMB's lists is a waiter of the core, and each waiter of an SMB open has its request there
 pub record IsAwaiting (s : Whole) : Type 0 where
@@ -49,18 +49,20 @@ success_of t id row (request.Create made) = opened_reply id row (id_of t row.ope
 success_of t id row request.Lock = locked_reply id row
 
 -- The claim that the waiter of this number is granted by a turn for an SMB open: a request under that number waits for this open in
--- the front's lists, the open is there in the last ones, and what is sent for the turn ends with the reply that the request succeeded.
-pub record HasItsOpen (exports : Exports) (last : Lists) (turn : TurnTaken) (id number : ℕ) (claim : Claim) : Type 0 where
+-- the front's lists, and the open is there in the last ones. The grant is the last that the turn tells of; and what is sent for the
+-- turn is what telling of the effects before sends, and behind that the reply that the request succeeded.
+pub record HasItsOpen (exports : Exports) (last : Lists) (turn : TurnTaken) (party : Party) (id number : ℕ) (claim : Claim) : Type 0 where
   pub row : Waiting
   pub waited : waiting_of id turn.front.smb.state ≡ Some row
   pub own : row.opened ≡ number
   pub there : OpenStands last row claim row.request
-  pub earlier : List Out
-  pub sent : (turn_sent exports turn).0 ≡ earlier ++ map (framed Smb) (final_outs row (success_of turn.left id row row.request))
+  pub before : List Effect
+  pub told : turn.told ≡ before ++ Served party id (Granted claim) ∷ []
+  pub sent : (turn_sent exports turn).0 ≡ (all_shown exports turn.front turn.left before).0 ++ map (framed Smb) (final_outs row (success_of turn.left id row row.request))
 
 -- so it is of each claim that is granted by it to an SMB open
 abbrev pub HaveOpens : Exports → Lists → TurnTaken → Type 0
-HaveOpens exports last turn = (party : Party) (id number : ℕ) (claim : Claim) → IsIn (Served party id (Granted claim)) turn.told → claim.owner ≡ owners.Open number → HasItsOpen exports last turn id number claim
+HaveOpens exports last turn = (party : Party) (id number : ℕ) (claim : Claim) → IsIn (Served party id (Granted claim)) turn.told → claim.owner ≡ owners.Open number → HasItsOpen exports last turn party id number claim
 
 -- ---- an entry
 

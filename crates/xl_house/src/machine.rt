@@ -26,7 +26,7 @@ use crate::outs::{room_for, send_all, sent_for, sent_with};
 use crate::settling::settle;
 use std::alloc::{AllocError, Global};
 use xl_base::{Event, Exports, Keeper, Kind, Moment, Out, Sequence};
-use xl_front_nfs::{nfs_step, nfs_tick};
+use xl_front_nfs::{Arrival, nfs_step, nfs_tick};
 use xl_front_nlm::{NlmLayers, nlm_called, nlm_step};
 use xl_front_smb::{Packet, smb_begin, smb_end, smb_step};
 use xl_programs::{Incoming, Program, Request, read_incoming, refusal, sent_to};
@@ -102,6 +102,10 @@ fn hear_nfs<K: Keeper>(
     ensures keeper { HandedOn keeper.old keeper.new }
 {
     let others = layers.front.smb.opens_held();
+    let arrival = Arrival {
+        conn: number,
+        request,
+    };
     let (reply, effects) = nfs_step(
         alloc,
         exports,
@@ -109,8 +113,7 @@ fn hear_nfs<K: Keeper>(
         &mut layers.front.nfs,
         &mut layers.core,
         keeper,
-        number,
-        request,
+        &arrival,
     )?;
     let outs = sent_with(alloc, exports, Kind::Rpc, layers, reply, effects)?;
     Ok(outs)
