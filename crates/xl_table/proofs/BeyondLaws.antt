@@ -12,8 +12,7 @@ use Rattle.xl_matrix.specs.declared.claim.What.{What}
 use Rattle.xl_matrix.specs.declared.claim.What.TheVariants.{Share, Range, Cache}
 use Rattle.xl_names.specs.Texts.{owner_text}
 use Rattle.xl_names.specs.declared.name.Name.{Name}
-use Rattle.xl_table.specs.Bounds.{is_past, IsWithin, AreWithin}
-use Rattle.xl_table.specs.Clear.{is_clear}
+use Rattle.xl_table.specs.Bounds.{is_quiet, IsWithin, AreWithin}
 use Rattle.xl_table.specs.Flat.{blocks}
 use Rattle.xl_table.specs.Held.{is_range}
 use Rattle.xl_base.proofs.LeastLaws.{least_both}
@@ -21,7 +20,7 @@ use Rattle.xl_base.specs.Leasts.{least_from}
 use Rattle.xl_table.specs.Least.{range_key, before_by, range_before, least, counts, is_beyond}
 use Rattle.xl_table.specs.Pages.{paged}
 use Rattle.xl_table.specs.declared.bounds.Bounds.{Bounds}
-use Rattle.xl_table.proofs.ClearLaws.{clear_none, past_all}
+use Rattle.xl_table.proofs.ClearLaws.{quiet_all}
 use Rattle.xl_table.proofs.PageLaws.{drop_page}
 use Rattle.xl_table.proofs.SectionLaws.{same_filter, filter_within, blocks_there}
 
@@ -70,12 +69,12 @@ beyond_none : (names : List Name) (o : Option Claim) (test : Claim → Bool) (b 
 beyond_none names None test b cs h all = absurd (both_ways false refl h)
 beyond_none names (Some l) test b cs h all = none_before names l test b cs h all
 
-none_counts : (ask : Claim) (ranges : Bool) (cs : List Claim) → AllByRecursion (λ c. is_clear ask.what c.what ≡ true) cs → filter (counts ask ranges) cs ≡ []
+none_counts : (ask : Claim) (ranges : Bool) (cs : List Claim) → AllByRecursion (λ c. blocks ask c ≡ false) cs → filter (counts ask ranges) cs ≡ []
 none_counts ask ranges [] all = refl
-none_counts ask ranges (c ∷ cs) all = rw (clear_none ask c all.0) (none_counts ask ranges cs all.1)
+none_counts ask ranges (c ∷ cs) all = rw all.0 (none_counts ask ranges cs all.1)
 
-pub past_counts_none : (names : List Name) (o : Option Claim) (ask : Claim) (ranges b : Bool) (bounds : Bounds) (cs : List Claim) → AreWithin bounds cs → b ≡ is_past ask.what bounds → b ≡ true → o ≡ least_from (range_before names) o (filter (counts ask ranges) cs)
-past_counts_none names o ask ranges b bounds cs all e h = sym (ap (λ (ds : List Claim). least_from (range_before names) o ds) (none_counts ask ranges cs (past_all ask.what bounds cs (sym e ∙ h) all)))
+pub quiet_counts_none : (names : List Name) (o : Option Claim) (ask : Claim) (ranges b : Bool) (bounds : Bounds) (cs : List Claim) → AreWithin bounds cs → b ≡ is_quiet ask.what bounds → b ≡ true → o ≡ least_from (range_before names) o (filter (counts ask ranges) cs)
+quiet_counts_none names o ask ranges b bounds cs all e h = sym (ap (λ (ds : List Claim). least_from (range_before names) o ds) (none_counts ask ranges cs (quiet_all ask bounds cs (sym e ∙ h) all)))
 
 pub beyond_counts_none : (names : List Name) (o : Option Claim) (ask : Claim) (ranges b : Bool) (bounds : Bounds) (cs : List Claim) → AreWithin bounds cs → b ≡ is_beyond o bounds → b ≡ true → o ≡ least_from (range_before names) o (filter (counts ask ranges) cs)
 beyond_counts_none names o ask ranges b bounds cs all e h = sym (beyond_none names o (counts ask ranges) bounds cs (sym e ∙ h) all)

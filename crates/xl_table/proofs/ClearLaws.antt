@@ -1,8 +1,8 @@
--- What has no byte in common with a range that is asked doesn't block it.
-use Rattle.std.proofs.Common.{◌≡◌, ℕ, ◌≤◌, Bool, true, false, not, ◌&&◌, ◌||◌, ◌==◌, nat_lt, nat_le, min, max, List, [], ◌∷◌, ◌++◌, Option, refl, sym, ap, ◌∙◌, arith}
+-- What has no byte in common with a range that is asked doesn't block it; nor does what a page's guard lets by.
+use Rattle.std.proofs.Common.{◌≡◌, ℕ, ◌≤◌, Bool, true, false, not, ◌&&◌, ◌||◌, ◌==◌, nat_lt, nat_le, min, max, List, [], ◌∷◌, ◌++◌, Option, inl, inr, refl, sym, ap, ◌∙◌, arith}
 use Rattle.std.specs.List.{AllByRecursion, filter}
 use Rattle.std.proofs.lemmas.List.{append-nil}
-use Rattle.std.proofs.lemmas.Bool.{both_ways}
+use Rattle.std.proofs.lemmas.Bool.{cases_Bool, both_ways}
 use Rattle.std.proofs.lemmas.Bool.Decides.{nat_tests}
 use Rattle.xl_base.proofs.Members.{all_weaker}
 use Rattle.xl_matrix.specs.declared.claim.Claim.{Claim}
@@ -15,7 +15,9 @@ use Rattle.xl_matrix.specs.Blocks.{is_cache}
 use Rattle.xl_table.specs.Flat.{blocks, is_blocked, may_obstruct, locks_by, holder_from}
 use Rattle.xl_table.specs.Clear.{is_clear}
 use Rattle.xl_table.specs.declared.bounds.Bounds.{Bounds}
-use Rattle.xl_table.specs.Bounds.{is_past, IsWithin, AreWithin}
+use Rattle.xl_table.specs.Bounds.{is_past, is_quiet, IsWithin, AreWithin}
+use Rattle.xl_table.specs.Guard.{IsCounted, lets_by}
+use Rattle.xl_table.proofs.GuardLaws.{let_by_none}
 
 apart_meets_none : (first last start end : ℕ) → (nat_lt end first || nat_lt last start) ≡ true → nat_le (max first start) (min last end) ≡ false
 apart_meets_none first last start end h = grind (arith, nat_tests)
@@ -75,20 +77,40 @@ and_no : (a : Bool) → (a && false) ≡ false
 and_no true = refl
 and_no false = refl
 
-none_there : (ask : Claim) (cs : List Claim) → AllByRecursion (λ c. is_clear ask.what c.what ≡ true) cs → filter (λ held. blocks ask held) cs ≡ []
+-- ---- what blocks nothing within the bounds
+
+quiet_by : (ask held : Claim) (b : Bounds) → (is_past ask.what b || lets_by b.guard ask.what) ≡ true → IsWithin b held.what → blocks ask held ≡ false
+quiet_by ask held b h within =
+    elim (cases_Bool (is_past ask.what b)) [
+      | inl past ↦ clear_none ask held (past_one ask.what held.what b past within)
+      | inr other ↦ let_by_none ask held b.guard (rw other at h) (counted held.what within)
+    ]
+  where
+    counted : (w : What) → IsWithin b w → IsCounted b.guard w
+    counted (Range (Bytes start end) x) within = within.2
+    counted (Range (Empty offset) x) within = within.2
+    counted (Share p q) within = within.2
+    counted (Cache p q) within = within.2
+
+pub quiet_all : (ask : Claim) (b : Bounds) (cs : List Claim) → is_quiet ask.what b ≡ true → AreWithin b cs → AllByRecursion (λ c. blocks ask c ≡ false) cs
+quiet_all ask b cs h all = all_weaker (λ c. IsWithin b c.what) (λ c. blocks ask c ≡ false) cs (λ c within. quiet_by ask c b h within) all
+
+none_there : (ask : Claim) (cs : List Claim) → AllByRecursion (λ c. blocks ask c ≡ false) cs → filter (λ held. blocks ask held) cs ≡ []
 none_there ask [] all = refl
-none_there ask (c ∷ cs) all = rw (clear_none ask c all.0) (none_there ask cs all.1)
+none_there ask (c ∷ cs) all = rw all.0 (none_there ask cs all.1)
 
-free_there : (ask : Claim) (cs : List Claim) → AllByRecursion (λ c. is_clear ask.what c.what ≡ true) cs → is_blocked cs ask ≡ false
+free_there : (ask : Claim) (cs : List Claim) → AllByRecursion (λ c. blocks ask c ≡ false) cs → is_blocked cs ask ≡ false
 free_there ask [] all = refl
-free_there ask (c ∷ cs) all = rw (clear_none ask c all.0) (free_there ask cs all.1)
+free_there ask (c ∷ cs) all = rw all.0 (free_there ask cs all.1)
 
--- where a range is asked that lies past the bounds of these claims, none of them blocks it
-pub past_is_none : (ask : Claim) (cs found : List Claim) (b : Bool) (bounds : Bounds) → AreWithin bounds cs → b ≡ is_past ask.what bounds → b ≡ true → found ≡ found ++ filter (λ held. blocks ask held) cs
-past_is_none ask cs found b bounds all e h =
-    sym (ap (λ (ds : List Claim). found ++ ds) (none_there ask cs (past_all ask.what bounds cs (sym e ∙ h) all)) ∙ append-nil found)
+pub quiet_is_none : (ask : Claim) (cs found : List Claim) (b : Bool) (bounds : Bounds) → AreWithin bounds cs → b ≡ is_quiet ask.what bounds → b ≡ true → found ≡ found ++ filter (λ held. blocks ask held) cs
+quiet_is_none ask cs found b bounds all e h =
+    sym (ap (λ (ds : List Claim). found ++ ds) (none_there ask cs (quiet_all ask bounds cs (sym e ∙ h) all)) ∙ append-nil found)
 
--- nor is one of them a cache
+pub quiet_is_free : (ask : Claim) (cs : List Claim) (b : Bool) (bounds : Bounds) → AreWithin bounds cs → b ≡ is_quiet ask.what bounds → b ≡ true → false ≡ is_blocked cs ask
+quiet_is_free ask cs b bounds all e h = sym (free_there ask cs (quiet_all ask bounds cs (sym e ∙ h) all))
+
+-- what lies past the bytes of a range is no cache
 clear_no_cache : (asked w : What) → is_clear asked w ≡ true → is_cache w ≡ false
 clear_no_cache (Range (Bytes first last) exclusive) (Range (Bytes start end) alone) h = refl
 clear_no_cache (Range (Bytes first last) exclusive) (Range (Empty offset) alone) h = refl
@@ -105,9 +127,6 @@ none_obstructs ask (c ∷ cs) all = rw (clear_none ask c all.0, clear_no_cache a
 pub past_obstructs_none : (ask : Claim) (cs found : List Claim) (b : Bool) (bounds : Bounds) → AreWithin bounds cs → b ≡ is_past ask.what bounds → b ≡ true → found ≡ found ++ filter (may_obstruct ask) cs
 past_obstructs_none ask cs found b bounds all e h =
     sym (ap (λ (ds : List Claim). found ++ ds) (none_obstructs ask cs (past_all ask.what bounds cs (sym e ∙ h) all)) ∙ append-nil found)
-
-pub past_is_free : (ask : Claim) (cs : List Claim) (b : Bool) (bounds : Bounds) → AreWithin bounds cs → b ≡ is_past ask.what bounds → b ≡ true → false ≡ is_blocked cs ask
-past_is_free ask cs b bounds all e h = sym (free_there ask cs (past_all ask.what bounds cs (sym e ∙ h) all))
 
 -- ---- who has a byte
 

@@ -16,6 +16,7 @@ pub mod UnionLaws
 pub mod RoomLaws
 pub mod ChangeLaws
 pub mod PlaceLaws
+pub mod GuardLaws
 pub mod ClearLaws
 pub mod BeyondLaws
 pub mod PageLaws

@@ -14,34 +14,35 @@ use Rattle.xl_table.specs.declared.bounds.Bounds.{Bounds}
 use Rattle.xl_table.specs.Bounds.{unbounded, widened, bounds_from, bounds_of, IsWithin, AreWithin}
 use Rattle.xl_table.specs.Due.{due_with}
 use Rattle.xl_table.specs.Flat.{is_due, due_by}
+use Rattle.xl_table.proofs.GuardLaws.{still_counted, this_counted}
 use Rattle.xl_table.proofs.DueLaws.{later, with_less, with_this, not_due}
 
 -- ---- one claim more
 
 -- what lies within the bounds, lies within wider ones; and so does the claim by which they were widened
 keeps : (b : Bounds) (w v : What) → IsWithin b v → IsWithin (widened b w) v
-keeps b (Range (Bytes f l) x) (Range (Bytes start end) y) h = (omega (arith, h.0), omega (arith, h.1))
-keeps b (Range (Bytes f l) x) (Range (Empty offset) y) h = h
-keeps b (Range (Bytes f l) x) (Share p q) h = h
-keeps b (Range (Bytes f l) x) (Cache p q) h = h
-keeps b (Range (Empty o) x) (Range (Bytes start end) y) h = h
-keeps b (Range (Empty o) x) (Range (Empty offset) y) h = (refl, tt)
-keeps b (Range (Empty o) x) (Share p q) h = (refl, tt)
-keeps b (Range (Empty o) x) (Cache p q) h = (refl, h.1)
-keeps b (Share r s) (Range (Bytes start end) y) h = h
-keeps b (Share r s) (Range (Empty offset) y) h = (refl, tt)
-keeps b (Share r s) (Share p q) h = (refl, tt)
-keeps b (Share r s) (Cache p q) h = (refl, h.1)
-keeps b (Cache r s) (Range (Bytes start end) y) h = h
-keeps b (Cache r s) (Range (Empty offset) y) h = (refl, tt)
-keeps b (Cache r s) (Share p q) h = (refl, tt)
-keeps b (Cache r s) (Cache p q) h = (refl, later (due_with b.due (Cache r s)) b.due (Cache p q) (with_less b.due (Cache r s)) h.1)
+keeps b (Range (Bytes f l) x) (Range (Bytes start end) y) h = (omega (arith, h.0), omega (arith, h.1), still_counted b.guard (Range (Bytes f l) x) (Range (Bytes start end) y) h.2)
+keeps b (Range (Bytes f l) x) (Range (Empty offset) y) h = (h.0, h.1, still_counted b.guard (Range (Bytes f l) x) (Range (Empty offset) y) h.2)
+keeps b (Range (Bytes f l) x) (Share p q) h = (h.0, h.1, still_counted b.guard (Range (Bytes f l) x) (Share p q) h.2)
+keeps b (Range (Bytes f l) x) (Cache p q) h = (h.0, h.1, still_counted b.guard (Range (Bytes f l) x) (Cache p q) h.2)
+keeps b (Range (Empty o) x) (Range (Bytes start end) y) h = (h.0, h.1, still_counted b.guard (Range (Empty o) x) (Range (Bytes start end) y) h.2)
+keeps b (Range (Empty o) x) (Range (Empty offset) y) h = (refl, h.1, still_counted b.guard (Range (Empty o) x) (Range (Empty offset) y) h.2)
+keeps b (Range (Empty o) x) (Share p q) h = (refl, h.1, still_counted b.guard (Range (Empty o) x) (Share p q) h.2)
+keeps b (Range (Empty o) x) (Cache p q) h = (refl, h.1, still_counted b.guard (Range (Empty o) x) (Cache p q) h.2)
+keeps b (Share r s) (Range (Bytes start end) y) h = (h.0, h.1, still_counted b.guard (Share r s) (Range (Bytes start end) y) h.2)
+keeps b (Share r s) (Range (Empty offset) y) h = (refl, h.1, still_counted b.guard (Share r s) (Range (Empty offset) y) h.2)
+keeps b (Share r s) (Share p q) h = (refl, h.1, still_counted b.guard (Share r s) (Share p q) h.2)
+keeps b (Share r s) (Cache p q) h = (refl, h.1, still_counted b.guard (Share r s) (Cache p q) h.2)
+keeps b (Cache r s) (Range (Bytes start end) y) h = (h.0, h.1, still_counted b.guard (Cache r s) (Range (Bytes start end) y) h.2)
+keeps b (Cache r s) (Range (Empty offset) y) h = (refl, h.1, still_counted b.guard (Cache r s) (Range (Empty offset) y) h.2)
+keeps b (Cache r s) (Share p q) h = (refl, h.1, still_counted b.guard (Cache r s) (Share p q) h.2)
+keeps b (Cache r s) (Cache p q) h = (refl, later (due_with b.due (Cache r s)) b.due (Cache p q) (with_less b.due (Cache r s)) h.1, still_counted b.guard (Cache r s) (Cache p q) h.2)
 
 this : (b : Bounds) (w : What) → IsWithin (widened b w) w
-this b (Range (Bytes first last) x) = (omega arith, omega arith)
-this b (Range (Empty offset) x) = (refl, tt)
-this b (Share p q) = (refl, tt)
-this b (Cache p q) = (refl, with_this b.due (Cache p q))
+this b (Range (Bytes first last) x) = (omega arith, omega arith, this_counted b.guard (Range (Bytes first last) x))
+this b (Range (Empty offset) x) = (refl, tt, this_counted b.guard (Range (Empty offset) x))
+this b (Share p q) = (refl, tt, this_counted b.guard (Share p q))
+this b (Cache p q) = (refl, with_this b.due (Cache p q), this_counted b.guard (Cache p q))
 
 -- ---- several claims
 

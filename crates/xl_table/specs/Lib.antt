@@ -8,6 +8,7 @@ pub mod Relock
 pub mod Changes
 pub mod Least
 pub mod Clear
+pub mod Guard
 pub mod Bounds
 pub mod Pages
 pub mod Elements

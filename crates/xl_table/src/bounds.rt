@@ -1,19 +1,22 @@
 //! Between which bytes the ranges of a page lie.
 ghost use Rattle.std.specs.Prelude.{◌≡◌, min, max};
 ghost use Rattle.std.specs.List.{list_any};
-ghost use Rattle.xl_table.specs.Bounds.{unbounded, widened, bounds_from, bounds_of, is_past, is_edge};
+ghost use Rattle.xl_table.specs.Bounds.{unbounded, widened, bounds_from, bounds_of, is_past, is_quiet, is_edge};
 
 use crate::due::due_with;
+use crate::guard::{Guard, OPEN, guard_with, lets_by};
 use xl_matrix::{Claim, Extent, What};
 
 /// No range of a page has a byte before the low one or behind the high one, it has other claims than ranges with bytes
-/// only if it is mixed, and no answer is due to one of its caches before the moment.
+/// only if it is mixed, no answer is due to one of its caches before the moment, and its claims stand against no more than
+/// the guard says.
 #[derive(Clone, Copy)]
 pub struct Bounds {
     pub(crate) low: u64,
     pub(crate) high: u64,
     pub(crate) mixed: bool,
     pub(crate) due: u64,
+    pub(crate) guard: Guard,
 }
 
 fn least(a: u64, b: u64) -> u64
@@ -38,12 +41,14 @@ pub(crate) fn widened(bounds: Bounds, what: What) -> Bounds
             high: greatest(bounds.high, last),
             mixed: bounds.mixed,
             due: bounds.due,
+            guard: guard_with(bounds.guard, what),
         },
         _ => Bounds {
             low: bounds.low,
             high: bounds.high,
             mixed: true,
             due: due_with(bounds.due, what),
+            guard: guard_with(bounds.guard, what),
         },
     }
 }
@@ -68,6 +73,7 @@ pub(crate) fn bounds_of(claims: &[Claim]) -> Bounds
         high: 0,
         mixed: false,
         due: u64::MAX,
+        guard: OPEN,
     };
     widened_by(none, claims)
 }
@@ -99,4 +105,11 @@ pub(crate) fn is_past(asked: What, bounds: Bounds) -> bool
         }
         _ => false,
     }
+}
+
+/// Whether nothing within these bounds blocks what is asked: it is a range past them, or what the guard lets by.
+pub(crate) fn is_quiet(asked: What, bounds: Bounds) -> bool
+    ensures { result ≡ is_quiet asked bounds }
+{
+    is_past(asked, bounds) || lets_by(bounds.guard, asked)
 }

@@ -7,6 +7,7 @@ mod change;
 mod due;
 mod exact;
 mod files;
+mod guard;
 mod holding;
 mod law;
 mod least;

@@ -11,7 +11,7 @@ ghost use Rattle.xl_table.specs.Least.{range_before, counts};
 ghost use Rattle.xl_table.specs.Sections.{ends_in_cache};
 ghost use Rattle.xl_index.specs.Parted.{IsParted};
 
-use crate::bounds::{Bounds, any_edge, bounds_of, is_past, widened, widened_by};
+use crate::bounds::{Bounds, any_edge, bounds_of, is_past, is_quiet, widened, widened_by};
 use crate::change::{put_all, take_between};
 use crate::due::is_asleep;
 use crate::holding::holder_with;
@@ -273,11 +273,11 @@ impl Page {
     }
 
     /// Whether one of the claims blocks the ask.
-    #[tactic(auto, using(crate::proofs::ClearLaws::past_is_free))]
+    #[tactic(auto, using(crate::proofs::ClearLaws::quiet_is_free))]
     pub(crate) fn blocks(&self, ask: &Claim) -> bool
         ensures { result ≡ is_blocked self.now ask.now }
     {
-        if is_past(ask.what, self.bounds) {
+        if is_quiet(ask.what, self.bounds) {
             return false;
         }
         any_blocks(self.claims.as_slice(), ask)
@@ -294,7 +294,7 @@ impl Page {
     ) -> Result<Option<Claim>, AllocError>
         ensures { IfOk result (λ c. c ≡ least_from (range_before names.now) least (filter (counts ask.now ranges) self.now)) }
     {
-        if is_past(ask.what, self.bounds) {
+        if is_quiet(ask.what, self.bounds) {
             return Ok(least);
         }
         if is_beyond(least, self.bounds) {
@@ -305,7 +305,7 @@ impl Page {
     }
 
     /// Adds those of the claims that block the ask: one step for each of them at most.
-    #[tactic(auto, using(crate::proofs::ClearLaws::past_is_none))]
+    #[tactic(auto, using(crate::proofs::ClearLaws::quiet_is_none))]
     pub(crate) fn push_blockers<L: Ledger>(
         &self,
         found: &mut Vec<Claim>,
@@ -316,7 +316,7 @@ impl Page {
         ensures more { steps.old ≤ steps.new }
         ensures few { steps.new ≤ steps.old + length self.now }
     {
-        if is_past(ask.what, self.bounds) {
+        if is_quiet(ask.what, self.bounds) {
             return Ok(());
         }
         push_blockers(found, self.claims.as_slice(), ask, steps)?;

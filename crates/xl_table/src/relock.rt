@@ -141,7 +141,8 @@ pub(crate) fn meets(first: u64, last: u64, what: What) -> bool
 
 // ---- shares
 
-fn either_right(p: Rwd, q: Rwd) -> Rwd
+/// The rights of both.
+pub(crate) fn either_right(p: Rwd, q: Rwd) -> Rwd
     ensures { result ≡ either_right p q }
 {
     Rwd {

@@ -1,10 +1,10 @@
 use Rattle.std.proofs.Common.{List, subst}
 use Rattle.xl_matrix.specs.declared.claim.Claim.{Claim}
 use Rattle.xl_table.specs.Bounds.{AreWithin}
-use Rattle.xl_table.proofs.ClearLaws.{past_is_free}
+use Rattle.xl_table.proofs.ClearLaws.{quiet_is_free}
 use Rattle.xl_table.proofs.page.Page.blocks.Goals as goal
 
-pub returns-then-is_past : goal.returns-then-is_past
-returns-then-is_past c =
-    past_is_free c.args.ask.now c.args.self.now c.is_past.result c.self.inside.bounds
-    (subst (λ (cs : List Claim). AreWithin c.self.inside.bounds cs) c.self.view_is c.self.invariant) c.is_past.ensures c.if-is_past.true
+pub returns-then-is_quiet : goal.returns-then-is_quiet
+returns-then-is_quiet c =
+    quiet_is_free c.args.ask.now c.args.self.now c.is_quiet.result c.self.inside.bounds
+    (subst (λ (cs : List Claim). AreWithin c.self.inside.bounds cs) c.self.view_is c.self.invariant) c.is_quiet.ensures c.if-is_quiet.true
