@@ -10,7 +10,7 @@ use Rattle.std.proofs.lemmas.List.Sums.{sum_by-set}
 use Rattle.std.proofs.lemmas.List.{length-append, get_or-set_same, get_or-set_other, get_or_past}
 use Rattle.xl_smb_state.specs.State.{keys_where}
 use Rattle.xl_smb_state.proofs.RowLaws.{equal_from, unequal_both, same_Some, some_none}
-use Rattle.xl_smb_state.specs.Filed.{in_front, passes, filed, AreApart, IsFiled}
+use Rattle.xl_smb_state.specs.Filed.{in_front, passes, filed, row_at, AreApart, IsFiled}
 
 differs : (k j : ℕ) → eqb k j ≡ false → j ≢ k
 differs k j h e = grind (arith, nat_tests)
@@ -83,6 +83,9 @@ module _ {A : Type 0} where
 
   pub length_is : (es : List (ℕ × ℕ)) (slots : List (Option A)) → IsFiled es slots → length (filed es slots) ≡ length es
   length_is es slots ok = length_there es slots ok.there
+
+  pub length_whole : (es : List (ℕ × ℕ)) (slots : List (Option A)) (n : ℕ) → IsFiled es slots → n ≡ count_by is_some slots → n ≡ length (filed es slots)
+  length_whole es slots n ok is = is ∙ ok.whole ∙ sym (length_is es slots ok)
 
   find_front : (n key : ℕ) (o : Option A) (rest : List (ℕ × A)) (found : Option A) → is_some o ≡ true → lookup (nat_eq n) rest ≡ found → lookup (nat_eq n) (in_front key o rest) ≡ cond (eqb n key) o found
   find_front n key None rest found h same = absurd (false≢true h)
@@ -294,6 +297,11 @@ module _ {A : Type 0} where
           ]
 
   -- ---- walks
+
+  -- the row of the first place stands in front of the others
+  pub filed_front : (n : ℕ) (place : Option ℕ) (rest : List (ℕ × ℕ)) (slots : List (Option A)) → filed (in_front n place rest) slots ≡ in_front n (row_at slots place) (filed rest slots)
+  filed_front n None rest slots = refl
+  filed_front n (Some slot) rest slots = refl
 
   pub keys_front : (test : A → Bool) (n : ℕ) (o : Option A) (rest : List (ℕ × A)) → keys_where test (in_front n o rest) ≡ cond (passes test o) (n ∷ keys_where test rest) (keys_where test rest)
   keys_front test n None rest = refl

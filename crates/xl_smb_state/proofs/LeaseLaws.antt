@@ -106,6 +106,40 @@ shrunk key number es mid emptied some none distinct only = by (lookup (same_leas
         ∙ ap (λ b. cond b (remove_entry (same_lease key) es) (set_value (same_lease key) es (left_row number row))) h.1
         ∙ sym (left_one key number row es distinct at only)
 
+-- ---- a lease is put back, changed, in place of one that stood for it
+
+set_again : (key : LeaseKey) (es : List (LeaseKey × Lease)) (one other : Lease) → set_value (same_lease key) (set_value (same_lease key) es one) other ≡ set_value (same_lease key) es other
+set_again key [] one other = refl
+set_again key (e ∷ es) one other =
+    elim (cases_Bool (same_lease key e.0)) [
+      | inl same ↦ rw same (rw same refl)
+      | inr apart ↦ rw apart (rw apart (ap (λ (fs : List (LeaseKey × Lease)). e ∷ fs) (set_again key es one other)))
+    ]
+
+back_again : (key : LeaseKey) (es mid new : List (LeaseKey × Lease)) (one other : Lease) → mid ≡ set_value (same_lease key) es one → new ≡ set_value (same_lease key) mid other → new ≡ set_value (same_lease key) es other
+back_again key es mid new one other h k = k ∙ ap (λ (fs : List (LeaseKey × Lease)). set_value (same_lease key) fs other) h ∙ set_again key es one other
+
+pub shrunk_there : (key : LeaseKey) (number : ℕ) (row one : Lease) (es mid new : List (LeaseKey × Lease)) (emptied : Bool) → Some row ≡ lookup (same_lease key) es → mid ≡ set_value (same_lease key) es one → new ≡ set_value (same_lease key) mid (left_row number row) → emptied ≡ is_empty (without number row.opens) → IfSome (lookup (same_lease key) es) (λ r. (new ≡ set_value (same_lease key) es (left_row number r)) × (emptied ≡ is_empty (without number r.opens)))
+shrunk_there key number row one es mid new emptied at set back is = subst (λ (o : Option Lease). IfSome o (λ r. (new ≡ set_value (same_lease key) es (left_row number r)) × (emptied ≡ is_empty (without number r.opens)))) at (back_again key es mid new one (left_row number row) set back, is)
+
+pub grown_there : (key : LeaseKey) (number : ℕ) (row one : Lease) (es mid new : List (LeaseKey × Lease)) (ok : Bool) → Some row ≡ lookup (same_lease key) es → mid ≡ set_value (same_lease key) es one → new ≡ set_value (same_lease key) mid (if ok then grown_row number row else row) → IfSome (lookup (same_lease key) es) (λ r. new ≡ set_value (same_lease key) es (if ok then grown_row number r else r))
+grown_there key number row one es mid new ok at set back = subst (λ (o : Option Lease). IfSome o (λ r. new ≡ set_value (same_lease key) es (if ok then grown_row number r else r))) at (back_again key es mid new one (if ok then grown_row number row else row) set back)
+
+-- where no lease has the key, none is changed
+set_nowhere : (key : LeaseKey) (es : List (LeaseKey × Lease)) (one : Lease) → lookup (same_lease key) es ≡ None → set_value (same_lease key) es one ≡ es
+set_nowhere key [] one h = refl
+set_nowhere key (e ∷ es) one h =
+    elim (cases_Bool (same_lease key e.0)) [
+      | inl same ↦ absurd (none_some (sym (rw same at h)))
+      | inr apart ↦ rw apart (ap (λ (fs : List (LeaseKey × Lease)). e ∷ fs) (set_nowhere key es one (rw apart at h)))
+    ]
+
+pub ungrown_there : (key : LeaseKey) (one : Lease) (es new : List (LeaseKey × Lease)) → None ≡ lookup (same_lease key) es → new ≡ set_value (same_lease key) es one → IfNone (lookup (same_lease key) es) (new ≡ es)
+ungrown_there key one es new at set = subst (λ (o : Option Lease). IfNone o (new ≡ es)) at (set ∙ set_nowhere key es one (sym at))
+
+pub unchanged_there : (key : LeaseKey) (one : Lease) (es new : List (LeaseKey × Lease)) (emptied : Bool) → None ≡ lookup (same_lease key) es → new ≡ set_value (same_lease key) es one → emptied ≡ false → IfNone (lookup (same_lease key) es) ((new ≡ es) × (emptied ≡ false))
+unchanged_there key one es new emptied at set is = subst (λ (o : Option Lease). IfNone o ((new ≡ es) × (emptied ≡ false))) at (set ∙ set_nowhere key es one (sym at), is)
+
 -- once an open has left, no lease lists it
 absent_without : (number : ℕ) (ns : List ℕ) → list_any (nat_eq number) (without number ns) ≡ false
 absent_without number [] = refl

@@ -8,9 +8,8 @@ ghost use Rattle.xl_smb_state.specs.Links.{most_opens, IsOpenLinked, IsLeaseLink
 use crate::listing::{is_key, key_of, lowest_held, waiting_file};
 use crate::opens::Opens;
 use crate::row::{Lease, LeaseKey, Open};
-use crate::rows::{add, change, remove};
+use crate::rows::Rows;
 use crate::state::SmbState;
-use indexmap::IndexMap;
 use std::alloc::{AllocError, Global};
 use std::mem;
 use xl_base::Sequence;
@@ -33,37 +32,62 @@ fn others(mut numbers: Vec<u32>, number: u32) -> Vec<u32>
     numbers
 }
 
+/// A lease without an open, which stands in another's place while that is changed.
+fn blank(alloc: Global) -> Lease {
+    Lease {
+        file: 0,
+        opens: Sequence::new(alloc),
+    }
+}
+
+/// Puts a lease back without the open; whether none is left in it.
+fn put_back(
+    alloc: Global,
+    leases: &mut Rows<LeaseKey, Lease>,
+    key: &LeaseKey,
+    mut lease: Lease,
+    number: u32,
+) -> bool
+    ensures rows { leases.new ≡ set_value (same_lease key.now) leases.old (left_row number lease) }
+    ensures emptied { result ≡ is_empty (without number lease.opens) }
+{
+    let emptied = take_open(alloc, &mut lease, number);
+    leases.change(key, lease);
+    emptied
+}
+
 /// Takes an open out of the lease of this key, if there is one; whether none is left in it.
 fn shrink(
     alloc: Global,
-    leases: &mut IndexMap<LeaseKey, Lease>,
+    leases: &mut Rows<LeaseKey, Lease>,
     key: &LeaseKey,
     number: u32,
 ) -> bool
-    ensures found { IfSome (lookup (same_lease key.now) leases.old.entries) (λ row. (leases.new.entries ≡ set_value (same_lease key.now) leases.old.entries (left_row number row)) × (result ≡ is_empty (without number row.opens))) }
-    ensures none { IfNone (lookup (same_lease key.now) leases.old.entries) ((leases.new.entries ≡ leases.old.entries) × (result ≡ false)) }
-    ensures distinct { IsDistinct same_lease (keys_of leases.old.entries) }
+    ensures found { IfSome (lookup (same_lease key.now) leases.old) (λ row. (leases.new ≡ set_value (same_lease key.now) leases.old (left_row number row)) × (result ≡ is_empty (without number row.opens))) }
+    ensures none { IfNone (lookup (same_lease key.now) leases.old) ((leases.new ≡ leases.old) × (result ≡ false)) }
+    ensures distinct { IsDistinct same_lease (keys_of leases.old) }
 {
-    match leases.get_mut(key) {
-        Some(lease) => take_open(alloc, lease, number),
+    leases.keys();
+    match leases.change(key, blank(alloc)) {
+        Some(lease) => put_back(alloc, leases, key, lease, number),
         None => false,
     }
 }
 
 /// Takes an open out of the lease of this key, which goes if none is left.
-fn leave(alloc: Global, leases: &mut IndexMap<LeaseKey, Lease>, key: &LeaseKey, number: u32)
-    requires { AllByRecursion (ListsOnly key.now number) leases.old.entries }
-    ensures { leases.new.entries ≡ filter_map (kept_lease number) leases.old.entries }
+fn leave(alloc: Global, leases: &mut Rows<LeaseKey, Lease>, key: &LeaseKey, number: u32)
+    requires { AllByRecursion (ListsOnly key.now number) leases.old }
+    ensures { leases.new ≡ filter_map (kept_lease number) leases.old }
 {
     if shrink(alloc, leases, key, number) {
-        let _ = leases.shift_remove(key);
+        leases.take(key);
     }
 }
 
 /// Takes an open out of the lease that lists it, which goes if none is left.
-fn leave_any(alloc: Global, opens: &Opens, leases: &mut IndexMap<LeaseKey, Lease>, number: u32)
-    requires { AllByRecursion (λ e. IsLeaseLinked (only_opens opens.now) e.0 e.1) leases.old.entries }
-    ensures { leases.new.entries ≡ filter_map (kept_lease number) leases.old.entries }
+fn leave_any(alloc: Global, opens: &Opens, leases: &mut Rows<LeaseKey, Lease>, number: u32)
+    requires { AllByRecursion (λ e. IsLeaseLinked (only_opens opens.now) e.0 e.1) leases.old }
+    ensures { leases.new ≡ filter_map (kept_lease number) leases.old }
 {
     if let Some(key) = key_of(opens.find(number)) {
         leave(alloc, leases, &key, number);
@@ -78,29 +102,44 @@ fn put_open(lease: &mut Lease, number: u32) -> Result<(), AllocError>
     Ok(())
 }
 
+/// Puts a lease back with the open behind its others. After an error it is back as it was.
+fn put_grown(
+    leases: &mut Rows<LeaseKey, Lease>,
+    key: &LeaseKey,
+    mut lease: Lease,
+    number: u32,
+) -> Result<(), AllocError>
+    ensures { leases.new ≡ set_value (same_lease key.now) leases.old (if is_ok result then grown_row number lease else lease) }
+{
+    let result = put_open(&mut lease, number);
+    leases.change(key, lease);
+    result
+}
+
 /// Puts an open behind the others of the lease of this key, if there is one.
 fn grow(
-    leases: &mut IndexMap<LeaseKey, Lease>,
+    leases: &mut Rows<LeaseKey, Lease>,
     key: &LeaseKey,
     number: u32,
 ) -> Result<(), AllocError>
-    ensures found { IfSome (lookup (same_lease key.now) leases.old.entries) (λ row. leases.new.entries ≡ set_value (same_lease key.now) leases.old.entries (if is_ok result then grown_row number row else row)) }
-    ensures none { IfNone (lookup (same_lease key.now) leases.old.entries) (leases.new.entries ≡ leases.old.entries) }
+    ensures found { IfSome (lookup (same_lease key.now) leases.old) (λ row. leases.new ≡ set_value (same_lease key.now) leases.old (if is_ok result then grown_row number row else row)) }
+    ensures none { IfNone (lookup (same_lease key.now) leases.old) (leases.new ≡ leases.old) }
 {
-    match leases.get_mut(key) {
-        Some(lease) => put_open(lease, number),
+    let alloc = leases.allocator();
+    match leases.change(key, blank(alloc)) {
+        Some(lease) => put_grown(leases, key, lease, number),
         None => Ok(()),
     }
 }
 
 /// The same, by what the leases are afterwards.
 fn join(
-    leases: &mut IndexMap<LeaseKey, Lease>,
+    leases: &mut Rows<LeaseKey, Lease>,
     key: &LeaseKey,
     number: u32,
 ) -> Result<(), AllocError>
-    ensures ok { OnOk result (leases.new.entries ≡ joined number (lookup (same_lease key.now) leases.old.entries) key.now leases.old.entries) }
-    ensures err { OnErr result (leases.new.entries ≡ leases.old.entries) }
+    ensures ok { OnOk result (leases.new ≡ joined number (lookup (same_lease key.now) leases.old) key.now leases.old) }
+    ensures err { OnErr result (leases.new ≡ leases.old) }
 {
     grow(leases, key, number)
 }
@@ -144,7 +183,7 @@ impl SmbState {
     pub fn find_lease(&self, key: &LeaseKey) -> Option<&Lease>
         ensures { option_copied result ≡ lease_of key.now self.now }
     {
-        self.leases.get(key)
+        self.leases.find(key)
     }
 
     /// Whether the open of this number is there, under the lease key and on the file.
@@ -165,7 +204,7 @@ impl SmbState {
         ensures ok { OnOk result (self.new ≡ lease_added key row self.old) }
         ensures err { OnErr result (self.new ≡ self.old) }
     {
-        add(&mut self.leases, key, row)
+        self.leases.add(key, row)
     }
 
     /// Puts another row in place of a lease's.
@@ -174,7 +213,7 @@ impl SmbState {
         requires link { IsLeaseLinked self.old key.now row }
         ensures { self.new ≡ lease_changed key.now row self.old }
     {
-        change(&mut self.leases, key, row);
+        self.leases.change(key, row);
     }
 
     /// Puts an open that is there, under the key and on the lease's file, behind the others of the lease of this key.
@@ -220,7 +259,7 @@ impl SmbState {
         requires under { is_under key file (open_of number self.old) ≡ true }
         ensures { OnOk result (self.new ≡ lease_begun number file key (lease_of key self.old) self.old) }
     {
-        if !is_of_file(self.leases.get(&key), file) {
+        if !is_of_file(self.leases.find(&key), file) {
             return Ok(());
         }
         if self.find_lease(&key).is_some() {
@@ -264,7 +303,7 @@ impl SmbState {
         requires { IsSome (lease_of key.now self.old) }
         ensures { self.new ≡ lease_dropped key.now self.old }
     {
-        remove(&mut self.leases, key);
+        self.leases.take(key);
     }
 
     /// The lowest number of the lease's opens that somebody holds, to whose connection breaks of the lease are sent
@@ -272,7 +311,7 @@ impl SmbState {
     pub fn lowest_open(&self, key: &LeaseKey) -> Option<u32>
         ensures { result ≡ lowest_open key.now self.now }
     {
-        let lease = self.leases.get(key)?;
+        let lease = self.leases.find(key)?;
         lowest_held(&self.opens, lease.opens.as_slice())
     }
 
@@ -281,7 +320,7 @@ impl SmbState {
     pub fn key_file(&self, key: &LeaseKey) -> Option<u32>
         ensures { result ≡ key_file key.now self.now }
     {
-        match self.leases.get(key) {
+        match self.leases.find(key) {
             Some(lease) => Some(lease.file),
             None => waiting_file(&self.waiting, key),
         }

@@ -4,11 +4,12 @@ ghost use Rattle.std.specs.Prelude.{◌≡◌, nat_eq, ◌∷◌, [], ◌++◌, 
 ghost use Rattle.std.specs.List.{IsDistinct};
 ghost use Rattle.std.specs.Map.{keys_of, lookup, remove_entry, set_value};
 ghost use Rattle.slab.specs.Slab.{get};
-ghost use Rattle.xl_smb_state.specs.Filed.{passes, filed, IsFiled};
+ghost use Rattle.xl_smb_state.specs.Filed.{passes, filed, row_at, standing, IsFiled};
 ghost use Rattle.xl_smb_state.specs.State.{keys_where, covers_holder};
 
 use crate::listing::covers_holder;
 use crate::row::{Open, Scope};
+use crate::rows::Rows;
 use indexmap::IndexMap;
 use slab::Slab;
 use std::alloc::{AllocError, Global};
@@ -17,7 +18,7 @@ use std::marker::Model;
 /// The opens, each under its number. A contract sees the rows with their numbers, in the order in which they came.
 #[derive(Drop)]
 pub(crate) struct Opens {
-    places: IndexMap<u32, usize>,
+    places: Rows<u32, usize>,
     rows: Slab<Open>,
 }
 
@@ -28,9 +29,9 @@ impl Model for Opens {
 
     ghost Value = { List (ℕ × Open) };
 
-    ghost view = { λ o. filed o.places.entries o.rows.slots };
+    ghost view = { λ o. filed o.places o.rows.slots };
 
-    ghost invariant = { λ o. IsFiled o.places.entries o.rows.slots };
+    ghost invariant = { λ o. IsFiled o.places o.rows.slots };
 }
 
 impl Opens {
@@ -39,7 +40,7 @@ impl Opens {
         ensures { result ≡ [] }
     {
         Opens {
-            places: IndexMap::new(alloc),
+            places: Rows::new(alloc),
             rows: Slab::new(alloc),
         }
     }
@@ -56,7 +57,7 @@ impl Opens {
     pub(crate) fn list_under(&self, alloc: Global, scope: Scope) -> Result<Vec<u32>, AllocError>
         ensures { IfOk result (λ v. v.items ≡ keys_where (λ r. covers_holder scope r.holder) self.now) }
     {
-        list_filed(alloc, &self.places, &self.rows, scope)
+        list_filed(alloc, self.places.places(), &self.rows, scope)
     }
 
     /// The open of this number.
@@ -101,81 +102,90 @@ fn is_under(scope: Scope, found: Option<&Open>) -> bool
     }
 }
 
-#[tactic(auto, using(crate::proofs::FiledLaws::keys_front))]
+/// The row of a place, unless that is empty.
+fn row_at<'a>(rows: &'a Slab<Open>, place: &Option<usize>) -> Option<&'a Open>
+    ensures { option_copied result ≡ row_at rows.now.slots place.now }
+{
+    let slot = (*place)?;
+    rows.get(slot)
+}
+
+#[tactic(auto, using(crate::proofs::FiledLaws::filed_front, crate::proofs::FiledLaws::keys_front))]
 fn list_filed(
     alloc: Global,
-    places: &IndexMap<u32, usize>,
+    places: &IndexMap<u32, Option<usize>>,
     rows: &Slab<Open>,
     scope: Scope,
 ) -> Result<Vec<u32>, AllocError>
-    ensures { IfOk result (λ v. v.items ≡ keys_where (λ r. covers_holder scope r.holder) (filed places.now.entries rows.now.slots)) }
+    ensures { IfOk result (λ v. v.items ≡ keys_where (λ r. covers_holder scope r.holder) (filed (standing places.now.entries) rows.now.slots)) }
 {
     let mut numbers = Vec::new(alloc);
-    'rows: for (number, slot) in places.iter() {
-        if is_under(scope, rows.get(*slot)) {
+    'rows: for (number, place) in places.iter() {
+        if is_under(scope, row_at(rows, place)) {
             numbers.push(*number)?;
         }
     }
     Ok(numbers)
 }
 
-#[tactic(auto, using(crate::proofs::FiledLaws::length_is, crate::proofs::FiledLaws::distinct_filed))]
-fn length_filed(places: &IndexMap<u32, usize>, rows: &Slab<Open>) -> usize
-    requires { IsFiled places.now.entries rows.now.slots }
-    ensures len { result ≡ length (filed places.now.entries rows.now.slots) }
-    ensures distinct { IsDistinct nat_eq (keys_of (filed places.now.entries rows.now.slots)) }
+#[tactic(auto, using(crate::proofs::FiledLaws::length_whole, crate::proofs::FiledLaws::distinct_filed))]
+fn length_filed(places: &Rows<u32, usize>, rows: &Slab<Open>) -> usize
+    requires { IsFiled places.now rows.now.slots }
+    ensures len { result ≡ length (filed places.now rows.now.slots) }
+    ensures distinct { IsDistinct nat_eq (keys_of (filed places.now rows.now.slots)) }
 {
-    let _ = rows;
-    places.len()
+    places.keys();
+    rows.len()
 }
 
 fn find_filed<'a>(
-    places: &IndexMap<u32, usize>,
+    places: &Rows<u32, usize>,
     rows: &'a Slab<Open>,
     number: u32,
 ) -> Option<&'a Open>
-    requires { IsFiled places.now.entries rows.now.slots }
-    ensures { option_copied result ≡ lookup (nat_eq number) (filed places.now.entries rows.now.slots) }
+    requires { IsFiled places.now rows.now.slots }
+    ensures { option_copied result ≡ lookup (nat_eq number) (filed places.now rows.now.slots) }
 {
-    let slot = places.get(&number)?;
+    let slot = places.find(&number)?;
     rows.get(*slot)
 }
 
 fn file(
-    places: &mut IndexMap<u32, usize>,
+    places: &mut Rows<u32, usize>,
     rows: &mut Slab<Open>,
     number: u32,
     row: Open,
 ) -> Result<(), AllocError>
-    requires new { lookup (nat_eq number) (filed places.old.entries rows.old.slots) ≡ None }
-    requires filed { IsFiled places.old.entries rows.old.slots }
-    ensures ok { OnOk result (filed places.new.entries rows.new.slots ≡ filed places.old.entries rows.old.slots ++ (number, row) ∷ []) }
-    ensures err { OnErr result (filed places.new.entries rows.new.slots ≡ filed places.old.entries rows.old.slots) }
-    ensures filed { IsFiled places.new.entries rows.new.slots }
+    requires new { lookup (nat_eq number) (filed places.old rows.old.slots) ≡ None }
+    requires filed { IsFiled places.old rows.old.slots }
+    ensures ok { OnOk result (filed places.new rows.new.slots ≡ filed places.old rows.old.slots ++ (number, row) ∷ []) }
+    ensures err { OnErr result (filed places.new rows.new.slots ≡ filed places.old rows.old.slots) }
+    ensures filed { IsFiled places.new rows.new.slots }
 {
-    places.reserve(1)?;
-    let slot = rows.insert(row)?;
-    places.insert(number, slot)?;
+    rows.reserve(1)?;
+    let slot = rows.vacant_key();
+    places.add(number, slot)?;
+    rows.insert_reserved(row);
     Ok(())
 }
 
-fn file_again(places: &IndexMap<u32, usize>, rows: &mut Slab<Open>, number: u32, row: Open)
-    requires filed { IsFiled places.now.entries rows.old.slots }
-    requires there { IsSome (lookup (nat_eq number) (filed places.now.entries rows.old.slots)) }
-    ensures value { filed places.now.entries rows.new.slots ≡ set_value (nat_eq number) (filed places.now.entries rows.old.slots) row }
-    ensures filed { IsFiled places.now.entries rows.new.slots }
+fn file_again(places: &Rows<u32, usize>, rows: &mut Slab<Open>, number: u32, row: Open)
+    requires filed { IsFiled places.now rows.old.slots }
+    requires there { IsSome (lookup (nat_eq number) (filed places.now rows.old.slots)) }
+    ensures value { filed places.now rows.new.slots ≡ set_value (nat_eq number) (filed places.now rows.old.slots) row }
+    ensures filed { IsFiled places.now rows.new.slots }
 {
-    if let Some(slot) = places.get(&number) {
+    if let Some(slot) = places.find(&number) {
         rows[*slot] = row;
     }
 }
 
-fn take_out(places: &mut IndexMap<u32, usize>, rows: &mut Slab<Open>, number: u32)
-    requires { IsFiled places.old.entries rows.old.slots }
-    ensures value { filed places.new.entries rows.new.slots ≡ remove_entry (nat_eq number) (filed places.old.entries rows.old.slots) }
-    ensures filed { IsFiled places.new.entries rows.new.slots }
+fn take_out(places: &mut Rows<u32, usize>, rows: &mut Slab<Open>, number: u32)
+    requires { IsFiled places.old rows.old.slots }
+    ensures value { filed places.new rows.new.slots ≡ remove_entry (nat_eq number) (filed places.old rows.old.slots) }
+    ensures filed { IsFiled places.new rows.new.slots }
 {
-    if let Some(slot) = places.shift_remove(&number) {
+    if let Some(slot) = places.take(&number) {
         let _ = rows.remove(slot);
     }
 }

@@ -5,6 +5,7 @@ ghost use Rattle.xl_smb_state.specs.State.{nothing};
 
 use crate::opens::Opens;
 use crate::row::{Connection, Lease, LeaseKey, Session, Tree, Waiting};
+use crate::rows::Rows;
 use indexmap::IndexMap;
 use std::alloc::Global;
 use std::marker::Model;
@@ -34,7 +35,7 @@ pub struct SmbState {
     pub(crate) sessions: IndexMap<u32, Session>,
     pub(crate) trees: IndexMap<u32, Tree>,
     pub(crate) opens: Opens,
-    pub(crate) leases: IndexMap<LeaseKey, Lease>,
+    pub(crate) leases: Rows<LeaseKey, Lease>,
     pub(crate) waiting: IndexMap<u32, Waiting>,
 }
 
@@ -49,7 +50,7 @@ impl Model for SmbState {
       sessions = s.sessions.entries;
       trees = s.trees.entries;
       opens = s.opens;
-      leases = s.leases.entries;
+      leases = s.leases;
       waiting = s.waiting.entries;
     } };
 
@@ -58,7 +59,7 @@ impl Model for SmbState {
       sessions = s.sessions.entries;
       trees = s.trees.entries;
       opens = s.opens;
-      leases = s.leases.entries;
+      leases = s.leases;
       waiting = s.waiting.entries;
     }) };
 }
@@ -74,7 +75,7 @@ impl SmbState {
         let _ = self.sessions.len();
         let _ = self.trees.len();
         let _ = self.opens.len();
-        let _ = self.leases.len();
+        self.leases.keys();
         let _ = self.waiting.len();
     }
 
@@ -101,7 +102,7 @@ impl SmbState {
             sessions: IndexMap::new(alloc),
             trees: IndexMap::new(alloc),
             opens: Opens::new(alloc),
-            leases: IndexMap::new(alloc),
+            leases: Rows::new(alloc),
             waiting: IndexMap::new(alloc),
         }
     }

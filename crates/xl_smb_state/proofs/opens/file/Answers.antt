@@ -1,20 +1,30 @@
-use Rattle.std.proofs.Common.{◌≡◌, nat_eq, [], ◌∷◌, ◌++◌, ap, ◌∙◌}
-use Rattle.indexmap.specs.IndexMap.{insert_entry}
-use Rattle.indexmap.proofs.CallerLemmas.{insert_entry-new}
+use Rattle.std.proofs.Common.{◌≡◌, List, ℕ, Option, [], ◌∷◌, ◌++◌, sym, ap, subst, ◌∙◌}
+use Rattle.slab.specs.Slab.{Slab}
+use Rattle.xl_smb_state.specs.declared.row.Open.{Open}
+use Rattle.xl_smb_state.specs.Filed.{filed, IsFiled}
 use Rattle.xl_smb_state.proofs.FiledLaws.{filed_added, is_filed_added, slot_vacant}
 use Rattle.xl_smb_state.proofs.opens.file.Goals as goal
 
-placed : (c : goal.In_ok-insert) → c.insert-2.new.self.entries ≡ c.args.places.now.entries ++ (c.args.number, c.in_ok-slot.slot) ∷ []
-placed c =
-    let n = c.args.number in
-    let slot = c.in_ok-slot.slot in
-    let old = c.args.places.now in
-    c.in_ok-insert.ensures.entries
-    ∙ ap (λ es. insert_entry nat_eq es n slot) c.reserve.ensures.entries
-    ∙ insert_entry-new nat_eq old n slot (slot_vacant n old.entries c.args.rows.now.slots c.requires.filed c.requires.new)
+pub add-requires : goal.add-requires
+add-requires c = slot_vacant c.args.number c.args.places.now c.args.rows.now.slots c.requires.filed c.requires.new
 
 pub returns-clause-ok : goal.returns-clause-ok
-returns-clause-ok c = filed_added c.args.number c.in_ok-slot.slot c.args.row c.args.places.now.entries c.insert-2.new.self.entries c.args.rows.now.slots c.insert.new.self.slots c.requires.filed c.in_ok-slot.ensures.was_vacant (placed c) c.in_ok-slot.ensures.updates.changed c.in_ok-slot.ensures.updates.others
+returns-clause-ok c =
+    let n = c.args.number in
+    let old = c.args.places.now in
+    let mid = c.reserve.new.self.slots in
+    let same : mid ≡ c.args.rows.now.slots = ap (λ (s : Slab Open). s.slots) c.reserve.ensures.rest_kept in
+    let slot = c.insert_reserved.result in
+    let placed = c.in_ok-add.ensures.ok ∙ ap (λ (k : ℕ). old ++ (n, k) ∷ []) (c.vacant_key-slot.ensures.value ∙ sym c.insert_reserved.ensures.key) in
+    filed_added n slot c.args.row old c.add.new.self mid c.insert_reserved.new.self.slots (subst (λ (ss : List (Option Open)). IsFiled old ss) (sym same) c.requires.filed) c.insert_reserved.ensures.was_vacant placed c.insert_reserved.ensures.updates.changed c.insert_reserved.ensures.updates.others
+    ∙ ap (λ (ss : List (Option Open)). filed old ss ++ (n, c.args.row) ∷ []) same
 
 pub returns-clause-filed : goal.returns-clause-filed
-returns-clause-filed c = is_filed_added c.args.number c.in_ok-slot.slot c.args.row c.args.places.now.entries c.insert-2.new.self.entries c.args.rows.now.slots c.insert.new.self.slots c.requires.filed c.in_ok-slot.ensures.was_vacant (placed c) c.in_ok-slot.ensures.updates.changed c.in_ok-slot.ensures.updates.others c.in_ok-slot.ensures.len
+returns-clause-filed c =
+    let n = c.args.number in
+    let old = c.args.places.now in
+    let mid = c.reserve.new.self.slots in
+    let same : mid ≡ c.args.rows.now.slots = ap (λ (s : Slab Open). s.slots) c.reserve.ensures.rest_kept in
+    let slot = c.insert_reserved.result in
+    let placed = c.in_ok-add.ensures.ok ∙ ap (λ (k : ℕ). old ++ (n, k) ∷ []) (c.vacant_key-slot.ensures.value ∙ sym c.insert_reserved.ensures.key) in
+    is_filed_added n slot c.args.row old c.add.new.self mid c.insert_reserved.new.self.slots (subst (λ (ss : List (Option Open)). IsFiled old ss) (sym same) c.requires.filed) c.insert_reserved.ensures.was_vacant placed c.insert_reserved.ensures.updates.changed c.insert_reserved.ensures.updates.others c.insert_reserved.ensures.len

@@ -6,9 +6,9 @@ use Rattle.xl_smb_state.proofs.opens.find_filed.Goals as goal
 pub returns-in_err-slot : goal.returns-in_err-slot
 returns-in_err-slot c =
     let slots = c.args.rows.now.slots in
-    ap option_copied c.from_residual.ensures ∙ sym (find_is c.args.number c.args.places.now.entries slots c.requires ∙ ap (option_and_then (λ k. get_or slots k None)) (sym c.in_err-slot.ensures.value))
+    ap option_copied c.from_residual.ensures ∙ sym (find_is c.args.number c.args.places.now slots c.requires ∙ ap (option_and_then (λ k. get_or slots k None)) (sym c.in_err-slot.ensures))
 
 pub returns : goal.returns
 returns c =
     let slots = c.args.rows.now.slots in
-    c.get-2.ensures ∙ sym (find_is c.args.number c.args.places.now.entries slots c.requires ∙ ap (option_and_then (λ k. get_or slots k None)) (sym c.in_ok-slot.ensures.value))
+    c.get.ensures ∙ sym (find_is c.args.number c.args.places.now slots c.requires ∙ ap (option_and_then (λ k. get_or slots k None)) (sym c.in_ok-slot.ensures))

@@ -10,4 +10,4 @@ pub invariant_of-self : goal.invariant_of-self
 invariant_of-self c =
     let w : Lists = the_view c.self.inside in
     let fact0 = subst (λ (w : Lists). IsLeaseLinked w c.args.key c.args.row) (sym c.self.view_is) c.requires.link in
-    on_result c.add.result (λ es. IsSound (record w { leases = es })) c.add.new.rows.entries w.leases (w.leases ++ (c.args.key, c.args.row) ∷ []) c.add.ensures.ok c.add.ensures.err (lease_added_sound c.args.key c.args.row w fact0 c.self.invariant) c.self.invariant
+    on_result c.add.result (λ es. IsSound (record w { leases = es })) c.add.new.self w.leases (w.leases ++ (c.args.key, c.args.row) ∷ []) c.add.ensures.ok c.add.ensures.err (lease_added_sound c.args.key c.args.row w fact0 c.self.invariant) c.self.invariant

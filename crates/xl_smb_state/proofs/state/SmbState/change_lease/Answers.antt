@@ -9,4 +9,4 @@ pub invariant_of-self : goal.invariant_of-self
 invariant_of-self c =
     let w : Lists = the_view c.self.inside in
     let fact0 = subst (λ (w : Lists). IsLeaseLinked w c.args.key.now c.args.row) (sym c.self.view_is) c.requires.link in
-    rw c.change.ensures (lease_changed_sound c.args.key.now c.args.row w fact0 c.self.invariant)
+    rw c.change.ensures.rest (lease_changed_sound c.args.key.now c.args.row w fact0 c.self.invariant)

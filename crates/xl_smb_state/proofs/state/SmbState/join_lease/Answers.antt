@@ -12,4 +12,4 @@ invariant_of-self c =
     let w : Lists = the_view c.self.inside in
     let key = c.args.key.now in
     let fact = subst (λ (v : Lists). IfSome (lease_of key v) (λ row. is_under key row.file (open_of c.args.number v) ≡ true)) (sym c.self.view_is) c.requires in
-    on_result c.join.result (λ es. IsSound (record w { leases = es })) c.join.new.leases.entries w.leases (joined c.args.number (lease_of key w) key w.leases) c.join.ensures.ok c.join.ensures.err (lease_joined_sound key c.args.number w fact c.self.invariant) c.self.invariant
+    on_result c.join.result (λ es. IsSound (record w { leases = es })) c.join.new.leases w.leases (joined c.args.number (lease_of key w) key w.leases) c.join.ensures.ok c.join.ensures.err (lease_joined_sound key c.args.number w fact c.self.invariant) c.self.invariant
