@@ -57,12 +57,7 @@ fn put_back(
 }
 
 /// Takes an open out of the lease of this key, if there is one; whether none is left in it.
-fn shrink(
-    alloc: Global,
-    leases: &mut Rows<LeaseKey, Lease>,
-    key: &LeaseKey,
-    number: u32,
-) -> bool
+fn shrink(alloc: Global, leases: &mut Rows<LeaseKey, Lease>, key: &LeaseKey, number: u32) -> bool
     ensures found { IfSome (lookup (same_lease key.now) leases.old) (λ row. (leases.new ≡ set_value (same_lease key.now) leases.old (left_row number row)) × (result ≡ is_empty (without number row.opens))) }
     ensures none { IfNone (lookup (same_lease key.now) leases.old) ((leases.new ≡ leases.old) × (result ≡ false)) }
     ensures distinct { IsDistinct same_lease (keys_of leases.old) }
@@ -117,11 +112,7 @@ fn put_grown(
 }
 
 /// Puts an open behind the others of the lease of this key, if there is one.
-fn grow(
-    leases: &mut Rows<LeaseKey, Lease>,
-    key: &LeaseKey,
-    number: u32,
-) -> Result<(), AllocError>
+fn grow(leases: &mut Rows<LeaseKey, Lease>, key: &LeaseKey, number: u32) -> Result<(), AllocError>
     ensures found { IfSome (lookup (same_lease key.now) leases.old) (λ row. leases.new ≡ set_value (same_lease key.now) leases.old (if is_ok result then grown_row number row else row)) }
     ensures none { IfNone (lookup (same_lease key.now) leases.old) (leases.new ≡ leases.old) }
 {
@@ -133,11 +124,7 @@ fn grow(
 }
 
 /// The same, by what the leases are afterwards.
-fn join(
-    leases: &mut Rows<LeaseKey, Lease>,
-    key: &LeaseKey,
-    number: u32,
-) -> Result<(), AllocError>
+fn join(leases: &mut Rows<LeaseKey, Lease>, key: &LeaseKey, number: u32) -> Result<(), AllocError>
     ensures ok { OnOk result (leases.new ≡ joined number (lookup (same_lease key.now) leases.old) key.now leases.old) }
     ensures err { OnErr result (leases.new ≡ leases.old) }
 {

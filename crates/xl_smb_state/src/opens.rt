@@ -138,11 +138,7 @@ fn length_filed(places: &Rows<u32, usize>, rows: &Slab<Open>) -> usize
     rows.len()
 }
 
-fn find_filed<'a>(
-    places: &Rows<u32, usize>,
-    rows: &'a Slab<Open>,
-    number: u32,
-) -> Option<&'a Open>
+fn find_filed<'a>(places: &Rows<u32, usize>, rows: &'a Slab<Open>, number: u32) -> Option<&'a Open>
     requires { IsFiled places.now rows.now.slots }
     ensures { option_copied result ≡ lookup (nat_eq number) (filed places.now rows.now.slots) }
 {

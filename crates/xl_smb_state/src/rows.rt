@@ -218,10 +218,7 @@ fn close_up<K: Eq + Hash + Drop, V: Drop>(places: &mut IndexMap<K, Option<V>>)
 
 /// Counts one more empty place; the places close up once more than half of them are empty.
 #[tactic(auto, using(crate::proofs::StandingLaws::closed_still))]
-fn count_empty<K: Eq + Hash + Drop, V: Drop>(
-    places: &mut IndexMap<K, Option<V>>,
-    empty: &mut usize,
-)
+fn count_empty<K: Eq + Hash + Drop, V: Drop>(places: &mut IndexMap<K, Option<V>>, empty: &mut usize)
     ensures { standing places.new.entries ≡ standing places.old.entries }
 {
     *empty = empty.saturating_add(1);
