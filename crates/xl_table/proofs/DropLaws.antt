@@ -1,10 +1,10 @@
 -- What goes with an SMB open stands in sections of its file's claims: its share, its ranges, and the cache of the party that goes
 -- with it; each is taken out at once.
-use Rattle.std.proofs.Common.{◌≡◌, ℕ, ◌+◌, ◌-◌, ◌<◌, ◌≤◌, Bool, true, false, not, ◌&&◌, ◌||◌, ◌==◌, if◌then◌else◌, List, [], ◌∷◌, ◌++◌, length, take, drop, get_or, Some, None, refl, sym, ap, subst, ◌∙◌, inl, inr, arith}
+use Rattle.std.proofs.Common.{◌≡◌, ℕ, ◌-◌, ◌<◌, ◌≤◌, Bool, true, false, not, ◌&&◌, ◌||◌, ◌==◌, if◌then◌else◌, List, [], ◌∷◌, ◌++◌, length, take, drop, get_or, Option, Some, None, refl, sym, ap, subst, ◌∙◌, inl, inr, arith}
 use Rattle.std.proofs.lemmas.Bool.{cases_Bool}
 use Rattle.std.proofs.Math.Seq.{take-length}
 use Rattle.std.proofs.lemmas.List.{append_assoc, length-append, length-drop}
-use Rattle.std.specs.List.{filter, prefix_len, slice_range}
+use Rattle.std.specs.List.{filter, find, prefix_len, slice_get, slice_range}
 use Rattle.xl_base.specs.Lists.{IsIn, Pairwise}
 use Rattle.xl_base.proofs.Members.{all_in}
 use Rattle.xl_base.specs.declared.name.Owner.TheVariants as owners
@@ -21,14 +21,14 @@ use Rattle.xl_matrix.specs.Equal.{same_owners, same_parties}
 use Rattle.xl_matrix.specs.declared.claim.Claim.{Claim}
 use Rattle.xl_matrix.specs.declared.claim.What.{What}
 use Rattle.xl_matrix.specs.declared.claim.What.TheVariants.{Share, Range, Cache}
-use Rattle.xl_table.specs.Files.{AreOn}
+use Rattle.xl_table.specs.Files.{AreOn, here}
 use Rattle.xl_table.specs.Leaving.{goes, in_group, owned, all_owned}
 use Rattle.xl_table.specs.Order.{goes_first, party_key, key_by, key}
 use Rattle.xl_table.specs.Pages.{paged}
-use Rattle.xl_table.specs.Sections.{party_group, starts, is_before, is_upto}
+use Rattle.xl_table.specs.Sections.{party_group, starts, is_before, is_upto, is_cache_by}
 use Rattle.xl_table.specs.declared.leaver.Leaver.TheVariants as leavers
 use Rattle.xl_table.proofs.PageLaws.{first_and_rest, range_late, range_early, range_across}
-use Rattle.xl_table.proofs.SectionLaws.{section_is, section_rest, starts_share, starts_range}
+use Rattle.xl_table.proofs.SectionLaws.{section_is, section_rest, starts_share, starts_range, same_filter, find_filter, find_within}
 
 -- ---- one section
 
@@ -195,6 +195,28 @@ starts_cache file party c = by c.what where
   by (Share access deny) = refl
   by (Range extent exclusive) = refl
   by (Cache kind running) = ap (λ (b : Bool). (c.file == file) && b) (same_key party c.party)
+
+-- ---- a party's cache on a file
+
+and_swap : (a b c : Bool) → (a && (b && c)) ≡ (b && (a && c))
+and_swap true true c = refl
+and_swap true false c = refl
+and_swap false true c = refl
+and_swap false false c = refl
+
+pub first_cache : (file : ℕ) (party : Party) (cs out : List Claim) → out ≡ filter (in_group (party_group file party)) cs → slice_get out 0 ≡ find (is_cache_by file party) cs
+first_cache file party cs out is =
+    ap (λ (ds : List Claim). slice_get ds 0) is
+    ∙ ap (λ (ds : List Claim). slice_get ds 0) (same_filter (in_group (party_group file party)) (is_cache_by file party) cs (λ c. starts_cache file party c ∙ and_swap (c.file == file) (is_cache c.what) (same_parties c.party party)))
+    ∙ find_filter (is_cache_by file party) cs
+
+apart_no : (a b : Bool) → (a && (false && b)) ≡ false
+apart_no true b = refl
+apart_no false b = refl
+
+pub cache_here : (file : ℕ) (party : Party) (cs on : List Claim) (out : Option Claim) → out ≡ find (is_cache_by file party) on → on ≡ here file cs → out ≡ find (is_cache_by file party) cs
+cache_here file party cs on out e is =
+    e ∙ ap (λ (ds : List Claim). find (is_cache_by file party) ds) is ∙ find_within (is_cache_by file party) (λ c. c.file == file) cs (λ c other. rw other (apart_no (is_cache c.what) (same_parties c.party party)))
 
 all_goes : (file number : ℕ) (party : Party) (c : Claim) → (c.file == file) ≡ true → all_owned file number party c ≡ goes (leavers.Open number (Some party)) c
 all_goes file number party c here =

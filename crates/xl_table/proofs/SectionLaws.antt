@@ -315,7 +315,7 @@ has_here file cs on b e is =
     e ∙ ap (λ (ds : List Claim). list_any (λ c. (c.file == file) && is_cache c.what) ds) is
     ∙ any_within (λ c. (c.file == file) && is_cache c.what) (λ c. c.file == file) cs (λ c other. rw other refl)
 
-find_filter : (p : Claim → Bool) (cs : List Claim) → slice_get (filter p cs) 0 ≡ find p cs
+pub find_filter : (p : Claim → Bool) (cs : List Claim) → slice_get (filter p cs) 0 ≡ find p cs
 find_filter p [] = refl
 find_filter p (c ∷ cs) = elim (cases_Bool (p c)) [ inl h ↦ rw h refl | inr h ↦ rw h (find_filter p cs) ]
 

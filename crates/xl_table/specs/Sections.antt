@@ -7,6 +7,7 @@ use Rattle.xl_matrix.specs.declared.claim.Extent.TheVariants.{Bytes}
 use Rattle.xl_matrix.specs.declared.claim.What.{What}
 use Rattle.xl_matrix.specs.declared.claim.What.TheVariants.{Range}
 use Rattle.xl_matrix.specs.declared.claim.Claim.{Claim}
+use Rattle.xl_matrix.specs.Equal.{same_parties}
 use Rattle.xl_spans.specs.declared.span.Span.{Span}
 use Rattle.xl_table.specs.declared.ordering.Side.{Side}
 use Rattle.xl_table.specs.declared.ordering.Side.TheVariants.{Earlier, Among, Later}
@@ -38,6 +39,10 @@ abbrev pub side_of : List ℕ → List ℕ → Side
 side_of [] ks = Among
 side_of (f ∷ fs) [] = Earlier
 side_of (f ∷ fs) (k ∷ ks) = if nat_lt k f then Earlier else if nat_lt f k then Later else side_of fs ks
+
+-- the claim is a cache of the party on the file
+abbrev pub is_cache_by : ℕ → Party → Claim → Bool
+is_cache_by file party c = is_cache c.what && ((c.file == file) && same_parties c.party party)
 
 -- the claim stands before those whose numbers begin with these, or at most among them: what a bisection tests (TABLE-12)
 abbrev pub is_before : List ℕ → Claim → Bool

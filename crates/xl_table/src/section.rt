@@ -7,7 +7,7 @@ ghost use Rattle.xl_table.specs.Files.{joined, AreOn, IsFiled};
 ghost use Rattle.xl_table.specs.Pages.{paged, AreFull};
 ghost use Rattle.xl_table.specs.Held.{is_cache, is_share, most_claims};
 ghost use Rattle.xl_table.specs.Relock.{is_share_of, is_range_of};
-ghost use Rattle.xl_table.specs.Sections.{group, party_group, is_before, is_upto, ends_in_cache};
+ghost use Rattle.xl_table.specs.Sections.{group, party_group, is_before, is_upto, is_cache_by, ends_in_cache};
 
 use crate::files::{OnFile, on_file};
 use crate::marks::Mark;
@@ -241,4 +241,37 @@ pub(crate) fn find_share(lists: &[OnFile], file: u32, owner: Owner) -> Option<Cl
     ensures { result ≡ find (is_share_of file owner) (joined lists.now) }
 {
     share_in(on_file(lists, file), file, owner)
+}
+
+/// Where the party's caches on the file begin and end.
+fn party_places(pages: &[Page], file: u32, party: Party) -> (usize, usize)
+    requires ordered { Pairwise goes_first (paged pages.now) }
+    requires full { AreFull pages.now }
+    requires room { length (paged pages.now) < 2 ^ 32 }
+    ensures start { result.0 ≡ prefix_len (is_before (party_group file party)) (paged pages.now) }
+    ensures end { result.1 ≡ prefix_len (is_upto (party_group file party)) (paged pages.now) }
+{
+    places(pages, &party_group(file, party))
+}
+
+/// The party's first cache among a file's claims.
+fn cache_in(pages: &[Page], file: u32, party: Party) -> Option<Claim>
+    requires ordered { Pairwise goes_first (paged pages.now) }
+    requires full { AreFull pages.now }
+    requires room { length (paged pages.now) < 2 ^ 32 }
+    ensures { result ≡ find (is_cache_by file party) (paged pages.now) }
+{
+    let (start, end) = party_places(pages, file, party);
+    first_between(pages, start, end)
+}
+
+/// The party's first cache on the file.
+#[tactic(auto, using(crate::proofs::FileLaws::ordered_here, crate::proofs::FileLaws::room_here, crate::proofs::DropLaws::cache_here))]
+pub(crate) fn find_cache(lists: &[OnFile], file: u32, party: Party) -> Option<Claim>
+    requires filed { IsFiled lists.now }
+    requires ordered { Pairwise goes_first (joined lists.now) }
+    requires room { length (joined lists.now) ≤ most_claims }
+    ensures { result ≡ find (is_cache_by file party) (joined lists.now) }
+{
+    cache_in(on_file(lists, file), file, party)
 }

@@ -16,7 +16,7 @@ use crate::listing::{
 };
 use crate::placing::{is_held, put, replace, take_back, take_out};
 use crate::relock::spans_in;
-use crate::section::{caches_on, find_share, has_cache, ranges_by, shares_on};
+use crate::section::{caches_on, find_cache, find_share, has_cache, ranges_by, shares_on};
 use crate::touching::{has_byte, has_range};
 use std::alloc::{AllocError, AllocFailed, Global};
 use std::marker::Model;
@@ -93,6 +93,7 @@ impl Table {
     ghost use Rattle.xl_table.specs.Flat.{inserted, removed, changed, blocks, is_blocked, may_obstruct, is_due, locks, range_key, holder};
     ghost use Rattle.xl_table.specs.Held.{is_range, is_share, is_cache, has_one_party, spans_of, IsGrantable, IsSound, IsKept};
     ghost use Rattle.xl_table.specs.Leaving.{goes, IsNextLeft};
+    ghost use Rattle.xl_table.specs.Sections.{is_cache_by};
     ghost use Rattle.xl_table.specs.Relock.{is_share_of, holds_byte, holds_range, relocked_in, granted_claims, most_claims};
     ghost use Rattle.xl_table.specs.Changes.{written, MayBeWritten};
     ghost use Rattle.xl_table.specs.Elements.{is_held, element_held, taken_back, CameLast};
@@ -246,6 +247,14 @@ impl Table {
         ensures { IfOk result (λ v. v.items ≡ filter (λ held. (held.file == file) && is_cache held.what) self.now) }
     {
         caches_on(alloc, &self.lists, file)
+    }
+
+    /// The party's cache on the file, of which it has one at most; the first if there are more. It takes no memory.
+    pub fn cache_of(&self, file: u32, party: Party) -> Option<Claim>
+        ensures cache { result ≡ find (is_cache_by file party) self.now }
+        ensures held { IfSome result (λ c. IsIn c self.now) }
+    {
+        find_cache(&self.lists, file, party)
     }
 
     /// Whether there is a cache on the file. It takes no memory.

@@ -232,6 +232,13 @@ fn has_share(table: &Table, file: u32, number: u32, row: &str) -> bool {
     }
 }
 
+fn has_cache_of(table: &Table, file: u32, number: u32, row: &str) -> bool {
+    match table.cache_of(file, Party::Name(Protocol::Smb, number)) {
+        Some(claim) => is_claim(&claim, row),
+        None => row.is_empty(),
+    }
+}
+
 fn are_sections(alloc: Global, table: &Table) -> bool {
     are_listed(
         table.shares_on(alloc, 1),
@@ -241,6 +248,9 @@ fn are_sections(alloc: Global, table: &Table) -> bool {
         && has_share(table, 1, 2, "client share r -")
         && has_share(table, 1, 1, "")
         && has_share(table, 2, 2, "")
+        && has_cache_of(table, 1, 5, "lease cache RH -")
+        && has_cache_of(table, 1, 4, "")
+        && has_cache_of(table, 2, 5, "")
 }
 
 /// Whether these are the caller's read lock alone.
@@ -281,6 +291,19 @@ fn block_asks(alloc: Global, table: &Table) -> bool {
         "client read 10 24\nlease lock 40 44\nlease cache RH -",
     ) && is_blocked(alloc, table, "lease lock 40 41", "lease lock 40 44")
         && is_blocked(alloc, table, "lease read 40 41", "")
+        && is_blocked(
+            alloc,
+            table,
+            "caller read 20 45",
+            "lease lock 40 44\nlease cache RH -",
+        )
+        && is_blocked(alloc, table, "caller share rw -", "")
+        && is_blocked(
+            alloc,
+            table,
+            "caller share w r",
+            "client share r -\nlease share r -",
+        )
         && table.is_blocked(&claim_in("lease lock 40 41"))
         && !table.is_blocked(&claim_in("lease read 40 41"))
 }
