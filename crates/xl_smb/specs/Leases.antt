@@ -1,7 +1,7 @@
 -- Leases and the contexts of CREATE that carry them.
-use Rattle.std.specs.Prelude.{ℕ, zero, suc, ◌&&◌, ◌||◌, not, Bool, true, false, ◌==◌, List, ◌∷◌, length, drop, bytes_eq, codes, nat_lt, Option, Some, None, option_map, Result, Ok, Err, if◌then◌else◌}
+use Rattle.std.specs.Prelude.{ℕ, zero, suc, ◌&&◌, ◌||◌, not, Bool, false, ◌==◌, List, ◌∷◌, length, drop, bytes_eq, codes, nat_lt, Option, Some, None, option_map, Result, Ok, Err, is_ok, if◌then◌else◌}
 use Rattle.std.specs.Int.{w16, w32}
-use Rattle.xl_base.specs.Codec.{little_endian}
+use Rattle.xl_base.specs.Codec.{little_endian, ◌>>=◌}
 use Rattle.xl_layout.specs.Places.{joined, zeros}
 use Rattle.xl_layout.specs.Layouts.{U16, U32, Layout, made, reserved, part, aligned, u32, u64, raw, read, parts_at, all_stand, fields}
 use Rattle.xl_smb.specs.Bodies.{buffer}
@@ -29,37 +29,38 @@ context_fields = u32 (λ c. c.next) λ next. buffer (λ c. c.name) λ name. rese
 unfoldable pub context_at : List ℕ → Result ContextItem SmbBad
 context_at list = if not (nat_lt (length list) 16) && all_stand (parts_at context_fields 0 16 list list) then Ok (read context_fields 0 16 list list) else Err Offset
 
--- ---- walks from context to context
+-- ---- the contexts of a list, one after the other
 
-abbrev pub or_else : {R : Type 0} → Option R → R → R
-or_else (Some r) other = r
-or_else None other = other
+-- a context of this name and this length, or none at all
+abbrev pub is_wanted : Option (List ℕ × ℕ) → ContextItem → Bool
+is_wanted None c = false
+is_wanted (Some wanted) c = bytes_eq c.name wanted.0 && (length c.content == wanted.1)
 
--- what a context comes to: what is found at it; the end, if it is the last; or what the next one comes to. What leaves the
--- list comes to nothing.
-abbrev pub met : {R : Type 0} → (ContextItem → Option R) → R → R → Result ContextItem SmbBad → (ℕ → R) → R
-met found end none (Ok c) others = or_else (found c) (if c.next == 0 then end else others c.next)
-met found end none (Err e) others = none
+-- the context itself if it is wanted, nothing if it is the last, or what the next one comes to
+abbrev pub among : Option (List ℕ × ℕ) → ContextItem → (ℕ → Result (Option ContextItem) SmbBad) → Result (Option ContextItem) SmbBad
+among wanted c others = if is_wanted wanted c then Ok (Some c) else if c.next == 0 then Ok None else others c.next
 
--- what at most so many contexts come to; a list has at most as many as bytes
-unfoldable pub walk : {R : Type 0} → (ContextItem → Option R) → R → R → ℕ → List ℕ → R
-walk found end none zero list = none
-walk found end none (suc most) list = met found end none (context_at list) (λ next. walk found end none most (drop next list))
+-- the first of at most so many contexts that is wanted, None if none is, or why one leaves the list
+unfoldable pub first_among : Option (List ℕ × ℕ) → ℕ → List ℕ → Result (Option ContextItem) SmbBad
+first_among wanted zero list = Err Offset
+first_among wanted (suc most) list = context_at list >>= λ c. among wanted c (λ next. first_among wanted most (drop next list))
+
+-- a list has at most as many contexts as bytes
+abbrev pub first_of : Option (List ℕ × ℕ) → List ℕ → Result (Option ContextItem) SmbBad
+first_of wanted list = first_among wanted (length list) list
 
 -- whether each context lies within the list
 abbrev pub are_contexts : List ℕ → Bool
-are_contexts list = (length list == 0) || walk (λ _. None) true false (length list) list
+are_contexts list = (length list == 0) || is_ok (first_of None list)
 
--- whether a context has this name and this length
-abbrev pub is_named : List ℕ → ℕ → ContextItem → Bool
-is_named name size c = bytes_eq c.name name && (length c.content == size)
+-- the data of what was found
+abbrev pub content_of : Result (Option ContextItem) SmbBad → Option (List ℕ)
+content_of (Ok (Some c)) = Some c.content
+content_of _ = None
 
 -- the data of the first context of this name and this length
-abbrev pub named : List ℕ → ℕ → ContextItem → Option (Option (List ℕ))
-named name size c = if is_named name size c then Some (Some c.content) else None
-
 abbrev pub find : List ℕ → ℕ → List ℕ → Option (List ℕ)
-find name size list = walk (named name size) None None (length list) list
+find name size list = content_of (first_of (Some (name, size)) list)
 
 -- ---- the lease's context, `RqLs` with 32 bytes (MS-SMB2 2.2.13.2.8, 2.2.14.2.10)
 

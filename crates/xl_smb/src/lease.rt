@@ -2,7 +2,7 @@
 ghost use Rattle.std.specs.Prelude.{◌≡◌, ◌≤◌, ◌++◌, true, length, drop, option_map, Some, IfSome, OnOk, IfOk};
 ghost use Rattle.xl_base.specs.Results.{Gives};
 ghost use Rattle.xl_layout.specs.Layouts.{Fit};
-ghost use Rattle.xl_smb.specs.Leases.{shown_context, context_at, are_contexts, is_named, find, lease_fields, lease_at, lease_of, lease_context};
+ghost use Rattle.xl_smb.specs.Leases.{shown_context, context_at, is_wanted, first_of, are_contexts, find, lease_fields, lease_at, lease_of, lease_context};
 
 use crate::body::{buffer_at, part_at};
 use crate::fault::SmbBad;
@@ -41,16 +41,19 @@ impl<'a> Contexts<'a> {
     pub fn find(self, name: &[u8], size: usize) -> Option<&'a [u8]>
         ensures { option_map (λ content. content.now) result ≡ find name.now size self.entry.0.now }
     {
-        first_of(self.0, name, size)
+        match first_of(self.0, Some((name, size))) {
+            Ok(Some(context)) => Some(context.content),
+            _ => None,
+        }
     }
 
     /// The lease of the first `RqLs` context of 32 bytes. Other contexts are passed over.
     pub fn lease(self) -> Option<Lease>
         ensures { result ≡ lease_of self.entry.0.now }
     {
-        match first_of(self.0, b"RqLs", 32) {
-            Some(content) => Some(lease_at(content)),
-            None => None,
+        match first_of(self.0, Some((b"RqLs", 32))) {
+            Ok(Some(context)) => Some(lease_at(context.content)),
+            _ => None,
         }
     }
 }
@@ -81,45 +84,43 @@ fn after(list: &[u8], next: u32) -> &[u8]
     list.split_at(next).1
 }
 
+/// Whether a context has this name and this length; none has if none is named.
+fn is_wanted(context: &Context<'_>, wanted: Option<(&[u8], usize)>) -> bool
+    ensures { result ≡ is_wanted (option_map (λ w. (w.0.now, w.1)) wanted.entry) (shown_context context.now) }
+{
+    match wanted {
+        Some((name, size)) => context.name == name && context.content.len() == size,
+        None => false,
+    }
+}
+
+/// The first context that is wanted, None if none is; Offset if one leaves the list.
+#[tactic(auto, using(crate::proofs::LeaseLaws::comes_to, crate::proofs::LeaseLaws::found_at, crate::proofs::LeaseLaws::ends_at, crate::proofs::LeaseLaws::goes_on))]
+fn first_of<'a>(
+    list: &'a [u8],
+    wanted: Option<(&[u8], usize)>,
+) -> Result<Option<Context<'a>>, SmbBad>
+    ensures first { Gives (option_map shown_context) result (first_of (option_map (λ w. (w.0.now, w.1)) wanted.entry) list.now) }
+    ensures wanted { IfOk result (λ found. IfSome found (λ c. is_wanted (option_map (λ w. (w.0.now, w.1)) wanted.entry) (shown_context c) ≡ true)) }
+{
+    let mut rest = list;
+    'contexts: loop {
+        let context = context_at(rest)?;
+        if is_wanted(&context, wanted) {
+            return Ok(Some(context));
+        }
+        if context.next == 0 {
+            return Ok(None);
+        }
+        rest = after(rest, context.next);
+    }
+}
+
 /// Whether each context lies within the list.
-#[tactic(auto, using(crate::proofs::LeaseLaws::walk_next, crate::proofs::LeaseLaws::walk_end, crate::proofs::LeaseLaws::walk_none))]
 pub(crate) fn are_contexts(list: &[u8]) -> bool
     ensures { result ≡ are_contexts list.now }
 {
-    let mut rest = list;
-    'contexts: while let Ok(context) = context_at(rest) {
-        if context.next == 0 {
-            return true;
-        }
-        rest = after(rest, context.next);
-    }
-    list.is_empty()
-}
-
-/// The data of the first context of this name and this length.
-#[tactic(auto, using(crate::proofs::LeaseLaws::walk_found, crate::proofs::LeaseLaws::walk_next, crate::proofs::LeaseLaws::walk_end, crate::proofs::LeaseLaws::walk_none))]
-fn first_of<'a>(list: &'a [u8], name: &[u8], size: usize) -> Option<&'a [u8]>
-    ensures found { option_map (λ content. content.now) result ≡ find name.now size list.now }
-    ensures sized { IfSome result (λ content. length content.now ≡ size) }
-{
-    let mut rest = list;
-    'contexts: while let Ok(context) = context_at(rest) {
-        if is_named(&context, name, size) {
-            return Some(context.content);
-        }
-        if context.next == 0 {
-            return None;
-        }
-        rest = after(rest, context.next);
-    }
-    None
-}
-
-/// Whether a context has this name and this length.
-fn is_named(context: &Context<'_>, name: &[u8], size: usize) -> bool
-    ensures { result ≡ is_named name.now size (shown_context context.now) }
-{
-    context.name == name && context.content.len() == size
+    list.is_empty() || first_of(list, None).is_ok()
 }
 
 /// The lease in the 32 bytes of its context.
