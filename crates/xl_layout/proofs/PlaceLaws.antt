@@ -1,5 +1,5 @@
 -- Laws of texts that are joined, and of things of a size.
-use Rattle.std.proofs.Common.{◌≡◌, ℕ, zero, suc, ◌+◌, ◌*◌, ◌/◌, ◌<◌, ◌≤◌, List, [], ◌∷◌, ◌++◌, length, map, take, drop, get_or, refl, sym, ap, ◌∙◌, append_assoc, arith}
+use Rattle.std.proofs.Common.{◌≡◌, ℕ, zero, suc, ◌+◌, ◌*◌, ◌/◌, ◌<◌, ◌≤◌, List, [], ◌∷◌, ◌++◌, length, map, take, drop, get_or, slice_index_or, refl, sym, ap, ◌∙◌, append_assoc, arith}
 use Rattle.std.specs.Borrow.{Bor}
 use Rattle.std.proofs.lemmas.Grind.{take_at_read}
 use Rattle.std.proofs.Math.Nat.{mul-zero, mul-suc, add_comm, add-div_right, div-eq_of_lt}
@@ -25,13 +25,17 @@ unfolding each_of
 each_length at size zero bytes = refl
 each_length at size (suc count) bytes = ap suc (each_length at size count (drop size bytes))
 
-pub each_at : {A : Type 0} (at : List ℕ → A) (size count : ℕ) (bytes : List ℕ) (i : ℕ) (d : A) → i < count → get_or (each_of at size count bytes) i d ≡ at (drop (size * i) bytes)
+each_at : {A : Type 0} (at : List ℕ → A) (size count : ℕ) (bytes : List ℕ) (i : ℕ) (d : A) → i < count → get_or (each_of at size count bytes) i d ≡ at (drop (size * i) bytes)
 unfolding each_of
 each_at at size zero bytes i d within = absurd (omega arith)
 each_at at size (suc count) bytes zero d within = ap (λ (n : ℕ). at (drop n bytes)) (sym (mul-zero size))
 each_at at size (suc count) bytes (suc i) d within =
     let place : size + size * i ≡ size * suc i = sym (mul-suc size i ∙ add_comm (size * i) size) in
     each_at at size count (drop size bytes) i d (omega arith) ∙ ap at (drop-drop (size * i) size bytes) ∙ ap (λ (n : ℕ). at (drop n bytes)) place
+
+-- the whole thing of this index
+pub whole_at : {A : Type 0} (at : List ℕ → A) (size : ℕ) (bytes : List ℕ) (i : ℕ) (d : A) → i < length (whole_of at size bytes) → slice_index_or (whole_of at size bytes) i d ≡ at (drop (size * i) bytes)
+whole_at at size bytes i d within = each_at at size (length bytes / size) bytes i d (omega (arith, within, each_length at size (length bytes / size) bytes))
 
 -- the first of the whole things, or none
 pub whole_more : {A : Type 0} (at : List ℕ → A) (size : ℕ) (bytes : List ℕ) → 0 < size → size ≤ length bytes → whole_of at size bytes ≡ at bytes ∷ whole_of at size (drop size bytes)

@@ -6,7 +6,7 @@ use Rattle.xl_base.specs.Codec.{little_endian}
 use Rattle.xl_layout.specs.Places.{u32_at, u64_at}
 use Rattle.xl_layout.specs.Layouts.{Fit}
 use Rattle.xl_layout.proofs.LayoutLaws.{fields_length, again}
-use Rattle.xl_smb.specs.Heads.{number_of, command_of, has_mark, is_set, is_async, route, route_of, head_fields, head_at, head, is_notice, RouteFits, HeadFits}
+use Rattle.xl_smb.specs.Heads.{number_of, command_of, has_mark, async_command, is_set, is_async, HasForm, route, route_of, head_fields, head_at, head, is_notice, RouteFits, HeadFits}
 use Rattle.xl_smb.specs.declared.command.Command.{Command}
 use Rattle.xl_smb.specs.declared.head.Route.{Route}
 use Rattle.xl_smb.specs.declared.head.Route.TheVariants.{Tree, Async}
@@ -17,21 +17,21 @@ unfolding route little_endian
 route_length (Tree id) = refl
 route_length (Async id) = refl
 
-route_again : (flags : ℕ) (to : Route) → RouteFits to → is_set 2 flags ≡ is_async to → route_of flags (route to) ≡ to
+route_again : (flags : ℕ) (to : Route) → RouteFits to → is_set async_command flags ≡ is_async to → route_of flags (route to) ≡ to
 unfolding route little_endian u32_at u64_at
 route_again flags (Tree id) fits form = rw (form, word_again id fits) refl
 route_again flags (Async id) fits form = rw (form, long_again id fits) refl
 
-head_fit : (h : SmbHead) → HeadFits h → is_set 2 h.flags ≡ is_async h.route → Fit head_fields h
+head_fit : (h : SmbHead) → HeadFits h → HasForm h → Fit head_fields h
 unfolding head_fields
 head_fit h fits form =
     (refl, (fits.credit_charge, (fits.status, (fits.command, (fits.credits, (fits.flags, (fits.next_command, (fits.message_id, (route_length h.route, (fits.session_id, (fits.signature, ap (λ (to : Route). record h { route = to }) (route_again h.flags h.route fits.route form))))))))))))
 
-pub head_length : (h : SmbHead) → HeadFits h → is_set 2 h.flags ≡ is_async h.route → length (head h) ≡ 64
+pub head_length : (h : SmbHead) → HeadFits h → HasForm h → length (head h) ≡ 64
 unfolding head head_fields
 head_length h fits form = fields_length head_fields 64 h (head_fit h fits form)
 
-pub head_again : (h : SmbHead) (rest : List ℕ) → HeadFits h → is_set 2 h.flags ≡ is_async h.route → head_at (head h ++ rest) ≡ h
+pub head_again : (h : SmbHead) (rest : List ℕ) → HeadFits h → HasForm h → head_at (head h ++ rest) ≡ h
 unfolding head head_at head_fields
 head_again h rest fits form = (again head_fields h 0 64 64 0 0 64 (head h ++ rest) rest (drop 64 (head h ++ rest)) (head_fit h fits form) refl (omega arith) (omega arith) refl refl).1
 

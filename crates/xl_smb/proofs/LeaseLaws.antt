@@ -1,7 +1,7 @@
 -- Walks from context to context, and the context of a lease.
 use Rattle.std.proofs.Common.{◌≡◌, ℕ, zero, suc, ◌<◌, ◌≤◌, true, false, ltb, eqb, List, [], ◌++◌, length, drop, Option, Some, None, Result, Ok, Err, refl, sym, ap, subst, ◌∙◌, arith, inl, inr}
 use Rattle.std.specs.Prelude.{codes}
-use Rattle.std.proofs.lemmas.Bool.{cases_Bool, le-ltb, or_right}
+use Rattle.std.proofs.lemmas.Bool.{cases_Bool, le-ltb, lt-ltb, or_right}
 use Rattle.std.proofs.lemmas.Bool.Decides.{nat_tests}
 use Rattle.std.proofs.lemmas.List.{length-drop, append-nil}
 use Rattle.xl_base.specs.Codec.{little_endian, ◌>>=◌}
@@ -16,9 +16,7 @@ use Rattle.xl_smb.specs.declared.fault.SmbBad.TheVariants.{Offset}
 -- a list of less than a head has no context
 no_context : (list : List ℕ) → length list < 16 → context_at list ≡ Err Offset
 unfolding context_at
-no_context list few =
-    let cut : ltb (length list) 16 ≡ true = grind (arith, nat_tests) in
-    rw cut refl
+no_context list few = rw (lt-ltb _ _ few) refl
 
 -- A list has at most as many contexts as bytes, so that looking at more of them changes nothing.
 enough : (wanted : Option (List ℕ × ℕ)) (n m : ℕ) (list : List ℕ) → length list ≤ n → length list ≤ m → first_among wanted n list ≡ first_among wanted m list
@@ -28,9 +26,9 @@ enough wanted zero (suc m) list a b = rw (no_context list (omega arith)) refl
 enough wanted (suc n) zero list a b = rw (no_context list (omega arith)) refl
 enough wanted (suc n) (suc m) list a b =
     same (context_at list) (λ next. first_among wanted n (drop next list)) (λ next. first_among wanted m (drop next list)) (λ next some. enough wanted n m (drop next list) (omega (arith, length-drop next list)) (omega (arith, length-drop next list))) where
-  same : (r : Result ContextItem SmbBad) (f g : ℕ → Result (Option ContextItem) SmbBad) → ((next : ℕ) → 0 < next → f next ≡ g next) → (r >>= λ c. among wanted c f) ≡ (r >>= λ c. among wanted c g)
-  same (Err e) f g others = refl
-  same (Ok c) f g others = elim (cases_Bool (eqb c.next 0)) [ inl last ↦ rw last refl | inr more ↦ rw (more, others c.next (grind (arith, nat_tests))) refl ]
+      same : (r : Result ContextItem SmbBad) (f g : ℕ → Result (Option ContextItem) SmbBad) → ((next : ℕ) → 0 < next → f next ≡ g next) → (r >>= λ c. among wanted c f) ≡ (r >>= λ c. among wanted c g)
+      same (Err e) f g others = refl
+      same (Ok c) f g others = elim (cases_Bool (eqb c.next 0)) [ inl last ↦ rw last refl | inr more ↦ rw (more, others c.next (grind (arith, nat_tests))) refl ]
 
 -- the first context, before the others
 opens : (wanted : Option (List ℕ × ℕ)) (list : List ℕ) → first_of wanted list ≡ (context_at list >>= λ c. among wanted c (λ next. first_among wanted (length list) (drop next list)))

@@ -1,7 +1,7 @@
 -- OPLOCK_BREAK: acknowledgements and their replies, which have the same forms, and notices.
-use Rattle.std.specs.Prelude.{ℕ, ◌==◌, List, [], if◌then◌else◌}
+use Rattle.std.specs.Prelude.{ℕ, ◌==◌, [], if◌then◌else◌}
 use Rattle.xl_layout.specs.Layouts.{made, reserved, byte, u32, u64, raw}
-use Rattle.xl_layout.specs.Forms.{Form, Spelling, by_form, spelled, SpellingFits}
+use Rattle.xl_layout.specs.Forms.{Form, Spelling, by_form}
 use Rattle.xl_smb.specs.Bodies.{form}
 use Rattle.xl_smb.specs.Files.{file_id}
 use Rattle.xl_smb.specs.declared.file.FileId.{FileId}
@@ -69,9 +69,3 @@ notice_form size = if size == 44 then lease_notice else oplock_notice
 abbrev pub notice_spelling : Notice → Spelling
 notice_spelling (told.Oplock level id) = by_form oplock_notice (told.Oplock level id)
 notice_spelling (told.Lease n) = by_form lease_notice (told.Lease n)
-
-abbrev pub notice : Notice → List ℕ
-notice n = spelled (notice_spelling n)
-
-abbrev pub NoticeFits : Notice → Type 0
-NoticeFits n = SpellingFits (notice_spelling n)

@@ -1,7 +1,7 @@
 -- Requests, by their command.
 use Rattle.std.specs.Prelude.{ℕ, ◌<◌, ◌^◌, List, length, Option, Some, None, Result}
 use Rattle.xl_layout.specs.Layouts.{IsCounted}
-use Rattle.xl_layout.specs.Forms.{size_found, Body, unread, reads, Spelling, no_body, by_form, spelled, SpellingFits}
+use Rattle.xl_layout.specs.Forms.{size_found, Body, unread, reads, Spelling, no_body, by_form}
 use Rattle.xl_smb.specs.Bodies.{body_at}
 use Rattle.xl_smb.specs.Heads.{command_of}
 use Rattle.xl_smb.specs.Sessions.{NegotiateCallItem, shown_negotiate_call, negotiate_call, SetupCallItem, shown_setup_call, setup_call, tree_call, empty}
@@ -80,13 +80,6 @@ call_spelling Cancel = by_form empty tt
 call_spelling Echo = by_form empty tt
 call_spelling (OplockBreak b) = break_spelling b
 call_spelling Other = no_body
-
-abbrev pub call_text : CallItem → List ℕ
-call_text c = spelled (call_spelling c)
-
--- what fits its fields
-abbrev pub CallFits : CallItem → Type 0
-CallFits c = SpellingFits (call_spelling c)
 
 -- the command of a request
 abbrev pub command_of_call : CallItem → Option Command

@@ -3,7 +3,7 @@ use Rattle.std.specs.Prelude.{ℕ, ◌*◌, Bool, ◌&&◌, ◌==◌, List, [], 
 use Rattle.xl_layout.specs.Places.{bytes_at, u16_at, u32_at, lies}
 use Rattle.xl_layout.specs.Layouts.{all_stand}
 use Rattle.xl_layout.specs.Forms.{size_found, has_form, first_fault}
-use Rattle.xl_smb.specs.Heads.{command_of, has_mark, is_set, head_at, is_notice}
+use Rattle.xl_smb.specs.Heads.{command_of, has_mark, is_reply, head_at, is_notice}
 use Rattle.xl_smb.specs.Leases.{are_contexts}
 use Rattle.xl_smb.specs.declared.command.Command.{Command}
 use Rattle.xl_smb.specs.declared.command.Command.TheVariants as command
@@ -48,7 +48,7 @@ success_form size None = None
 unfoldable pub form_of : ℕ → SmbHead → Option (ℕ × ℕ)
 form_of size h =
     if is_notice h then Some (if size == 44 then (44, 44) else (24, 24))
-    else if is_set 1 h.flags then (if h.status == 0 then success_form size (command_of h.command) else Some (9, 8))
+    else if is_reply h then (if h.status == 0 then success_form size (command_of h.command) else Some (9, 8))
     else call_form size (command_of h.command)
 
 -- ---- parts
@@ -77,7 +77,7 @@ success_parts _ frame body = []
 unfoldable pub parts_lie : SmbHead → List ℕ → List ℕ → List Bool
 parts_lie h frame body =
     if is_notice h then []
-    else if is_set 1 h.flags then (if h.status == 0 then success_parts (command_of h.command) frame body else [])
+    else if is_reply h then (if h.status == 0 then success_parts (command_of h.command) frame body else [])
     else call_parts (command_of h.command) frame body
 
 -- ---- the fault, the first of these

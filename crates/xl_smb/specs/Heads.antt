@@ -1,5 +1,5 @@
 -- The header of a message, 64 bytes (MS-SMB2 2.2.1).
-use Rattle.std.specs.Prelude.{◌≡◌, ℕ, ◌-◌, ◌<◌, ◌^◌, Bool, true, false, not, ◌&&◌, ◌==◌, bit_and, List, [], ◌∷◌, ◌++◌, length, bytes_eq, nat_lt, Option, Some, None, Result, Ok, Err, if◌then◌else◌}
+use Rattle.std.specs.Prelude.{◌≡◌, ℕ, ◌+◌, ◌-◌, ◌<◌, ◌^◌, Bool, true, false, not, ◌&&◌, ◌==◌, bit_and, List, [], ◌∷◌, ◌++◌, length, bytes_eq, nat_lt, Option, Some, None, Result, Ok, Err, if◌then◌else◌}
 use Rattle.std.specs.Int.{w32, w64}
 use Rattle.xl_base.specs.Codec.{little_endian}
 use Rattle.xl_layout.specs.Places.{joined, bytes_at, u32_at, u64_at}
@@ -43,18 +43,28 @@ mark = 0xFE ∷ 0x53 ∷ 0x4D ∷ 0x42 ∷ 64 ∷ 0 ∷ []
 unfoldable pub has_mark : List ℕ → Bool
 has_mark frame = bytes_eq (bytes_at 6 0 frame) mark
 
--- whether this flag is set: 1 a reply, 2 the asynchronous form
+-- whether this flag is set
 abbrev pub is_set : ℕ → ℕ → Bool
 is_set flag flags = not (bit_and flags flag == 0)
+
+-- flags (MS-SMB2 2.2.1.1, 2.2.1.2): a reply or a notice, and the asynchronous form
+abbrev pub server_to_redir : ℕ
+server_to_redir = 1
+
+abbrev pub async_command : ℕ
+async_command = 2
+
+abbrev pub is_reply : SmbHead → Bool
+is_reply h = is_set server_to_redir h.flags
 
 -- the tree in the last four of eight bytes, or the pending request in all of them
 unfoldable pub route : Route → List ℕ
 route (Tree id) = little_endian w32 0 ++ little_endian w32 id
 route (Async id) = little_endian w64 id
 
--- the pending request if flag 2 is set
+-- the pending request in the asynchronous form
 abbrev pub route_of : ℕ → List ℕ → Route
-route_of flags bytes = if is_set 2 flags then Async (u64_at 0 bytes) else Tree (u32_at 4 bytes)
+route_of flags bytes = if is_set async_command flags then Async (u64_at 0 bytes) else Tree (u32_at 4 bytes)
 
 unfoldable pub head_fields : Layout SmbHead
 head_fields = raw 6 (λ _. mark) λ _. u16 (λ h. h.credit_charge) λ credit_charge. u32 (λ h. h.status) λ status. u16 (λ h. h.command) λ command. u16 (λ h. h.credits) λ credits. u32 (λ h. h.flags) λ flags.
@@ -78,7 +88,7 @@ is_no_tree (Async id) = false
 
 -- the header of a notice, which no request asked for (MS-SMB2 2.2.23) (SMB-5)
 unfoldable pub is_notice : SmbHead → Bool
-is_notice h = (h.status == 0) && (h.command == 18) && (h.flags == 1) && (h.credits == 0) && (h.message_id == 2 ^ 64 - 1) && (h.session_id == 0) && is_no_tree h.route
+is_notice h = (h.status == 0) && (h.command == number_of OplockBreak) && (h.flags == server_to_redir) && (h.credits == 0) && (h.message_id == 2 ^ 64 - 1) && (h.session_id == 0) && is_no_tree h.route
 
 -- ---- what fits its fields, which each value in memory does
 
@@ -98,7 +108,15 @@ pub record HeadFits (h : SmbHead) : Type 0 where
   pub session_id : h.session_id < 2 ^ 64
   pub signature : length h.signature ≡ 16
 
--- whether a route is of the asynchronous form
+-- whether a route is of the asynchronous form, and whether the flags say the same of a header
 abbrev pub is_async : Route → Bool
 is_async (Tree id) = false
 is_async (Async id) = true
+
+abbrev pub HasForm : SmbHead → Type 0
+HasForm h = is_set async_command h.flags ≡ is_async h.route
+
+-- the flags of a reply in the form of this route
+abbrev pub reply_flags : Route → ℕ
+reply_flags (Tree id) = server_to_redir
+reply_flags (Async id) = server_to_redir + async_command

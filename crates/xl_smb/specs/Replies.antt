@@ -1,7 +1,7 @@
 -- Replies, by their command and status.
-use Rattle.std.specs.Prelude.{◌≡◌, ℕ, ◌<◌, ◌^◌, Bool, true, false, List, length, Option, Some, None}
+use Rattle.std.specs.Prelude.{◌≡◌, ℕ, ◌<◌, ◌^◌, Bool, true, false, length, Option, Some, None}
 use Rattle.xl_layout.specs.Layouts.{made, reserved}
-use Rattle.xl_layout.specs.Forms.{Form, Body, unread, reads, Spelling, no_body, by_form, spelled, SpellingFits}
+use Rattle.xl_layout.specs.Forms.{Form, Body, unread, reads, Spelling, no_body, by_form}
 use Rattle.xl_smb.specs.Bodies.{form}
 use Rattle.xl_smb.specs.Sessions.{NegotiateReplyItem, shown_negotiate_reply, negotiate_reply, SetupReplyItem, shown_setup_reply, setup_reply, tree_reply, empty}
 use Rattle.xl_smb.specs.Creates.{CreateReplyItem, shown_create_reply, create_reply, CreateReplyHas}
@@ -84,13 +84,6 @@ reply_spelling Echo = by_form empty tt
 reply_spelling (OplockBreak b) = break_spelling b
 reply_spelling Error = by_form error tt
 reply_spelling Other = no_body
-
-abbrev pub reply_text : ReplyItem → List ℕ
-reply_text r = spelled (reply_spelling r)
-
--- what fits its fields
-abbrev pub ReplyFits : ReplyItem → Type 0
-ReplyFits r = SpellingFits (reply_spelling r)
 
 -- whether a command has a reply of its own at status 0
 abbrev pub has_reply : Option Command → Bool

@@ -4,6 +4,8 @@ ghost use Rattle.xl_base.specs.Results.{Gives};
 ghost use Rattle.xl_layout.specs.Forms.{size_found, by_form, Puts};
 ghost use Rattle.xl_smb.specs.Bodies.{form_at};
 ghost use Rattle.xl_smb.specs.Breaks.{oplock_break, lease_break, break_form, break_spelling, oplock_notice, lease_notice, notice_form, notice_spelling};
+ghost use Rattle.xl_smb.specs.Heads.{number_of};
+ghost use Rattle.xl_smb.specs.declared.command.Command.TheVariants as Command;
 
 use crate::body::{check_fixed, size_found};
 use crate::command::Command;
@@ -48,7 +50,7 @@ pub struct LeaseNotice {
 /// An acknowledgement or the reply to one, which have the same form.
 #[tactic(auto, unfolding(xl_layout::specs::Forms::form_read, crate::specs::Breaks::oplock_break, crate::specs::Breaks::lease_break))]
 pub(crate) fn break_at(body: &[u8]) -> Result<Break, SmbBad>
-    ensures { (frame : List ℕ) → Gives (λ held. held) result (form_at (break_form (size_found body.now)) 18 frame body.now) }
+    ensures { (frame : List ℕ) → Gives (λ held. held) result (form_at (break_form (size_found body.now)) (number_of Command.OplockBreak) frame body.now) }
 {
     if size_found(body) == 36 {
         check_fixed(Command::OplockBreak.number(), 36, 36, body)?;
@@ -66,7 +68,7 @@ pub(crate) fn break_at(body: &[u8]) -> Result<Break, SmbBad>
 /// A notice, by its body.
 #[tactic(auto, unfolding(xl_layout::specs::Forms::form_read, crate::specs::Breaks::oplock_notice, crate::specs::Breaks::lease_notice))]
 pub(crate) fn notice_at(body: &[u8]) -> Result<Notice, SmbBad>
-    ensures { (frame : List ℕ) → Gives (λ told. told) result (form_at (notice_form (size_found body.now)) 18 frame body.now) }
+    ensures { (frame : List ℕ) → Gives (λ told. told) result (form_at (notice_form (size_found body.now)) (number_of Command.OplockBreak) frame body.now) }
 {
     if size_found(body) == 44 {
         check_fixed(Command::OplockBreak.number(), 44, 44, body)?;

@@ -7,6 +7,8 @@ ghost use Rattle.xl_layout.specs.Forms.{by_form, Puts};
 ghost use Rattle.xl_smb.specs.Bodies.{form_at};
 ghost use Rattle.xl_smb.specs.Creates.{shown_create_call, create_call, CreateCallHas, shown_create_reply, create_reply, CreateReplyHas};
 ghost use Rattle.xl_smb.specs.Leases.{are_contexts};
+ghost use Rattle.xl_smb.specs.Heads.{number_of};
+ghost use Rattle.xl_smb.specs.declared.command.Command.TheVariants as Command;
 
 use crate::body::{buffer_at, check_fixed, part_at};
 use crate::command::Command;
@@ -65,7 +67,7 @@ fn contexts_at<'a>(frame: &'a [u8], body: &[u8], place: usize) -> Result<&'a [u8
 
 #[tactic(auto, unfolding(xl_layout::specs::Forms::form_read, crate::specs::Creates::create_call))]
 pub(crate) fn create_call_at<'a>(frame: &'a [u8], body: &[u8]) -> Result<CreateCall<'a>, SmbBad>
-    ensures { Gives shown_create_call result (form_at create_call 5 frame.now body.now) }
+    ensures { Gives shown_create_call result (form_at create_call (number_of Command.Create) frame.now body.now) }
 {
     check_fixed(Command::Create.number(), 57, 56, body)?;
     let name = buffer_at(frame, body, 44)?;
@@ -83,7 +85,7 @@ pub(crate) fn create_call_at<'a>(frame: &'a [u8], body: &[u8]) -> Result<CreateC
 
 #[tactic(auto, unfolding(xl_layout::specs::Forms::form_read, crate::specs::Creates::create_reply))]
 pub(crate) fn create_reply_at<'a>(frame: &'a [u8], body: &[u8]) -> Result<CreateReply<'a>, SmbBad>
-    ensures { Gives shown_create_reply result (form_at create_reply 5 frame.now body.now) }
+    ensures { Gives shown_create_reply result (form_at create_reply (number_of Command.Create) frame.now body.now) }
 {
     check_fixed(Command::Create.number(), 89, 88, body)?;
     let contexts = contexts_at(frame, body, 80)?;

@@ -1,18 +1,24 @@
 //! The header of a message.
 ghost use Rattle.std.specs.Prelude.{◌≡◌, ◌≤◌, ◌++◌, length, OnOk};
 ghost use Rattle.xl_base.specs.Results.{Gives};
-ghost use Rattle.xl_smb.specs.Heads.{is_set, is_notice, has_mark, route_of, head_at, head_of, route, head, RouteFits, HeadFits};
+ghost use Rattle.xl_smb.specs.Heads.{is_set, is_reply, reply_flags, is_notice, has_mark, route_of, head_at, head_of, route, head, RouteFits, HeadFits};
 
+use crate::command::Command;
 use crate::fault::SmbBad;
 use std::alloc::AllocError;
 use xl_layout::{bytes_at, put_all, u16_at, u16_bytes, u32_at, u32_bytes, u64_at, u64_bytes};
+
+/// SMB2_FLAGS_SERVER_TO_REDIR, of a reply or a notice (MS-SMB2 2.2.1.1).
+pub const SERVER_TO_REDIR: u32 = 1;
+/// SMB2_FLAGS_ASYNC_COMMAND, of the asynchronous form (MS-SMB2 2.2.1.1).
+pub const ASYNC_COMMAND: u32 = 2;
 
 /// What a message belongs to, by the form of its header.
 #[derive(Clone, Copy)]
 pub enum Route {
     /// The synchronous form: the tree of this number, 0 for none (MS-SMB2 2.2.1.2).
     Tree(u32),
-    /// The asynchronous form, flag 2: the pending request of this number (MS-SMB2 2.2.1.1).
+    /// The asynchronous form: the pending request of this number (MS-SMB2 2.2.1.1).
     Async(u64),
 }
 
@@ -27,7 +33,7 @@ pub struct SmbHead {
     pub command: u16,
     /// The credits that a request asks for, or that a reply grants.
     pub credits: u16,
-    /// 1 a reply, 2 the asynchronous form, 4 related to the part before it, 8 signed.
+    /// SERVER_TO_REDIR, ASYNC_COMMAND; 4 related to the part before it, 8 signed.
     pub flags: u32,
     /// The way to the next part of the frame, 0 in the last.
     pub next_command: u32,
@@ -42,11 +48,23 @@ pub struct SmbHead {
 }
 
 impl SmbHead {
-    /// Whether flag 1 is set, so that the message is a reply or a notice.
+    /// Whether SERVER_TO_REDIR is set, so that the message is a reply or a notice.
     pub fn is_reply(&self) -> bool
-        ensures { result ≡ is_set 1 self.now.flags }
+        ensures { result ≡ is_reply self.now }
     {
-        is_set(1, self.flags)
+        is_set(SERVER_TO_REDIR, self.flags)
+    }
+}
+
+impl Route {
+    /// The flags of a reply in the form of this route.
+    pub fn reply_flags(self) -> u32
+        ensures { result ≡ reply_flags self }
+    {
+        match self {
+            Route::Tree(_) => SERVER_TO_REDIR,
+            Route::Async(_) => SERVER_TO_REDIR + ASYNC_COMMAND,
+        }
     }
 }
 
@@ -72,8 +90,8 @@ pub(crate) fn is_notice(head: &SmbHead) -> bool
     ensures { result ≡ is_notice head.now }
 {
     head.status == 0
-        && head.command == 18
-        && head.flags == 1
+        && head.command == Command::OplockBreak.number()
+        && head.flags == SERVER_TO_REDIR
         && head.credits == 0
         && head.message_id == u64::MAX
         && head.session_id == 0
@@ -85,7 +103,7 @@ fn route_of(flags: u32, bytes: &[u8]) -> Route
     requires { 8 ≤ length bytes.now }
     ensures { result ≡ route_of flags bytes.now }
 {
-    if is_set(2, flags) {
+    if is_set(ASYNC_COMMAND, flags) {
         Route::Async(u64_at(bytes, 0))
     } else {
         Route::Tree(u32_at(bytes, 4))

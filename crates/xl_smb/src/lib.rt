@@ -25,7 +25,7 @@ pub use command::Command;
 pub use create::{CreateCall, CreateReply};
 pub use fault::SmbBad;
 pub use file::{FileId, FileStatus};
-pub use head::{Route, SmbHead, read_head};
+pub use head::{ASYNC_COMMAND, Route, SERVER_TO_REDIR, SmbHead, read_head};
 pub use lease::{Contexts, Lease, lease_context};
 pub use lock::{CloseCall, CloseReply, LockCall, LockElement, LockElements};
 pub use message::{SmbMessage, read, write};

@@ -5,6 +5,8 @@ ghost use Rattle.xl_layout.specs.Layouts.{IsCounted};
 ghost use Rattle.xl_layout.specs.Forms.{by_form, Puts};
 ghost use Rattle.xl_smb.specs.Bodies.{form_at};
 ghost use Rattle.xl_smb.specs.Locks.{close_call, close_reply, shown_lock, lock_call, element_at};
+ghost use Rattle.xl_smb.specs.Heads.{number_of};
+ghost use Rattle.xl_smb.specs.declared.command.Command.TheVariants as Command;
 
 use crate::body::{check_fixed, part_at};
 use crate::command::Command;
@@ -77,7 +79,7 @@ impl LockElements<'_> {
     }
 
     /// The range of this index, counted from 0.
-    #[tactic(auto, using(xl_layout::proofs::PlaceLaws::each_length, xl_layout::proofs::PlaceLaws::each_at))]
+    #[tactic(auto, using(xl_layout::proofs::PlaceLaws::each_length))]
     pub fn at(&self, index: usize) -> LockElement
         requires { index < length (elements_of self.now.0.now) }
         ensures { (d : LockElement) → slice_index_or (elements_of self.now.0.now) index d ≡ result }
@@ -100,7 +102,7 @@ fn element_at(bytes: &[u8]) -> LockElement
 
 #[tactic(auto, unfolding(xl_layout::specs::Forms::form_read, crate::specs::Locks::close_call))]
 pub(crate) fn close_call_at(body: &[u8]) -> Result<CloseCall, SmbBad>
-    ensures { (frame : List ℕ) → Gives (λ call. call) result (form_at close_call 6 frame body.now) }
+    ensures { (frame : List ℕ) → Gives (λ call. call) result (form_at close_call (number_of Command.Close) frame body.now) }
 {
     check_fixed(Command::Close.number(), 24, 24, body)?;
     Ok(CloseCall {
@@ -111,7 +113,7 @@ pub(crate) fn close_call_at(body: &[u8]) -> Result<CloseCall, SmbBad>
 
 #[tactic(auto, unfolding(xl_layout::specs::Forms::form_read, crate::specs::Locks::close_reply))]
 pub(crate) fn close_reply_at(body: &[u8]) -> Result<CloseReply, SmbBad>
-    ensures { (frame : List ℕ) → Gives (λ reply. reply) result (form_at close_reply 6 frame body.now) }
+    ensures { (frame : List ℕ) → Gives (λ reply. reply) result (form_at close_reply (number_of Command.Close) frame body.now) }
 {
     check_fixed(Command::Close.number(), 60, 60, body)?;
     Ok(CloseReply {
@@ -122,7 +124,7 @@ pub(crate) fn close_reply_at(body: &[u8]) -> Result<CloseReply, SmbBad>
 
 #[tactic(auto, unfolding(xl_layout::specs::Forms::form_read, crate::specs::Locks::lock_call))]
 pub(crate) fn lock_call_at(body: &[u8]) -> Result<LockCall<'_>, SmbBad>
-    ensures { (frame : List ℕ) → Gives shown_lock result (form_at lock_call 10 frame body.now) }
+    ensures { (frame : List ℕ) → Gives shown_lock result (form_at lock_call (number_of Command.Lock) frame body.now) }
 {
     check_fixed(Command::Lock.number(), 48, 24, body)?;
     let elements = part_at(body, 24, 24 * u32::from(u16_at(body, 2)))?;

@@ -15,7 +15,7 @@ use crate::breaks::{Notice, notice_at, put_notice};
 use crate::call::{SmbCall, call_at, put_call};
 use crate::command::Command;
 use crate::fault::SmbBad;
-use crate::head::{Route, SmbHead, is_notice, put_head, read_head};
+use crate::head::{Route, SERVER_TO_REDIR, SmbHead, is_notice, put_head, read_head};
 use crate::reply::{SmbReply, error_at, put_reply, success_at};
 use std::alloc::{AllocError, Global};
 
@@ -24,9 +24,9 @@ use std::alloc::{AllocError, Global};
 pub enum SmbMessage<'a> {
     /// A request.
     Call(SmbHead, SmbCall<'a>),
-    /// A reply, flag 1.
+    /// A reply, SERVER_TO_REDIR.
     Reply(SmbHead, SmbReply<'a>),
-    /// What the server sends without a request. Its header is a reply's to command 18 at status 0 with flag 1 alone, no
+    /// What the server sends without a request. Its header is a reply's to command 18 at status 0 with SERVER_TO_REDIR alone, no
     /// credits, no session, no tree, and a message number of all ones.
     Notice(Notice),
 }
@@ -78,6 +78,7 @@ fn told_at<'a>(head: SmbHead, frame: &'a [u8], body: &'a [u8]) -> Result<SmbMess
 
 /// Reads a message, all of the frame. Nothing is copied except numbers: what is as long as its sender likes is
 /// borrowed.
+#[tactic(auto, using(crate::proofs::MessageLaws::message_fault, crate::proofs::MessageLaws::message_only))]
 pub fn read(frame: &[u8]) -> Result<SmbMessage<'_>, SmbBad>
     // Which message, or which fault, it is.
     ensures exact { Gives shown result (message_at frame.now) }
@@ -107,9 +108,9 @@ fn notice_head() -> SmbHead
     SmbHead {
         credit_charge: 0,
         status: 0,
-        command: 18,
+        command: Command::OplockBreak.number(),
         credits: 0,
-        flags: 1,
+        flags: SERVER_TO_REDIR,
         next_command: 0,
         message_id: u64::MAX,
         route: Route::Tree(0),

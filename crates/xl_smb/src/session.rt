@@ -7,6 +7,8 @@ ghost use Rattle.xl_layout.specs.Forms.{by_form, Puts};
 ghost use Rattle.xl_smb.specs.Bodies.{form_at};
 ghost use Rattle.xl_smb.specs.Heads.{number_of};
 ghost use Rattle.xl_smb.specs.Sessions.{shown_negotiate_call, negotiate_call, shown_negotiate_reply, negotiate_reply, shown_setup_call, setup_call, shown_setup_reply, setup_reply, tree_call, tree_reply, empty};
+ghost use Rattle.xl_smb.specs.Heads.{number_of};
+ghost use Rattle.xl_smb.specs.declared.command.Command.TheVariants as Command;
 
 use crate::body::{buffer_at, check_fixed, part_at};
 use crate::command::Command;
@@ -128,7 +130,7 @@ impl Dialects<'_> {
 
 #[tactic(auto, unfolding(xl_layout::specs::Forms::form_read, crate::specs::Sessions::negotiate_call))]
 pub(crate) fn negotiate_call_at(body: &[u8]) -> Result<NegotiateCall<'_>, SmbBad>
-    ensures { (frame : List ℕ) → Gives shown_negotiate_call result (form_at negotiate_call 0 frame body.now) }
+    ensures { (frame : List ℕ) → Gives shown_negotiate_call result (form_at negotiate_call (number_of Command.Negotiate) frame body.now) }
 {
     check_fixed(Command::Negotiate.number(), 36, 36, body)?;
     let dialects = part_at(body, 36, 2 * u32::from(u16_at(body, 2)))?;
@@ -145,7 +147,7 @@ pub(crate) fn negotiate_reply_at<'a>(
     frame: &'a [u8],
     body: &[u8],
 ) -> Result<NegotiateReply<'a>, SmbBad>
-    ensures { Gives shown_negotiate_reply result (form_at negotiate_reply 0 frame.now body.now) }
+    ensures { Gives shown_negotiate_reply result (form_at negotiate_reply (number_of Command.Negotiate) frame.now body.now) }
 {
     check_fixed(Command::Negotiate.number(), 65, 64, body)?;
     let buffer = buffer_at(frame, body, 56)?;
@@ -168,7 +170,7 @@ pub(crate) fn setup_call_at<'a>(
     frame: &'a [u8],
     body: &[u8],
 ) -> Result<SessionSetupCall<'a>, SmbBad>
-    ensures { Gives shown_setup_call result (form_at setup_call 1 frame.now body.now) }
+    ensures { Gives shown_setup_call result (form_at setup_call (number_of Command.SessionSetup) frame.now body.now) }
 {
     check_fixed(Command::SessionSetup.number(), 25, 24, body)?;
     let buffer = buffer_at(frame, body, 12)?;
@@ -185,7 +187,7 @@ pub(crate) fn setup_reply_at<'a>(
     frame: &'a [u8],
     body: &[u8],
 ) -> Result<SessionSetupReply<'a>, SmbBad>
-    ensures { Gives shown_setup_reply result (form_at setup_reply 1 frame.now body.now) }
+    ensures { Gives shown_setup_reply result (form_at setup_reply (number_of Command.SessionSetup) frame.now body.now) }
 {
     check_fixed(Command::SessionSetup.number(), 9, 8, body)?;
     let buffer = buffer_at(frame, body, 4)?;
@@ -198,7 +200,7 @@ pub(crate) fn setup_reply_at<'a>(
 /// The path of a TREE_CONNECT request (MS-SMB2 2.2.9).
 #[tactic(auto, unfolding(xl_layout::specs::Forms::form_read, crate::specs::Sessions::tree_call))]
 pub(crate) fn path_at<'a>(frame: &'a [u8], body: &[u8]) -> Result<&'a [u8], SmbBad>
-    ensures { Gives (λ path. path.now) result (form_at tree_call 3 frame.now body.now) }
+    ensures { Gives (λ path. path.now) result (form_at tree_call (number_of Command.TreeConnect) frame.now body.now) }
 {
     check_fixed(Command::TreeConnect.number(), 9, 8, body)?;
     buffer_at(frame, body, 4)
@@ -206,7 +208,7 @@ pub(crate) fn path_at<'a>(frame: &'a [u8], body: &[u8]) -> Result<&'a [u8], SmbB
 
 #[tactic(auto, unfolding(xl_layout::specs::Forms::form_read, crate::specs::Sessions::tree_reply))]
 pub(crate) fn tree_reply_at(body: &[u8]) -> Result<TreeConnectReply, SmbBad>
-    ensures { (frame : List ℕ) → Gives (λ reply. reply) result (form_at tree_reply 3 frame body.now) }
+    ensures { (frame : List ℕ) → Gives (λ reply. reply) result (form_at tree_reply (number_of Command.TreeConnect) frame body.now) }
 {
     check_fixed(Command::TreeConnect.number(), 16, 16, body)?;
     Ok(TreeConnectReply {

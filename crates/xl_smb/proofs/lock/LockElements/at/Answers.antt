@@ -1,12 +1,8 @@
-use Rattle.std.proofs.Common.{◌/◌, length, arith}
+use Rattle.std.proofs.Common.{arith}
 use Rattle.std.proofs.lemmas.Grind.{common_steps}
 use Rattle.xl_smb.specs.Locks.{element_at}
-use Rattle.xl_layout.proofs.PlaceLaws.{each_length, each_at}
+use Rattle.xl_layout.proofs.PlaceLaws.{whole_at}
 use Rattle.xl_smb.proofs.lock.LockElements.at.Goals as goal
 
 pub returns : goal.returns
-returns c = λ d.
-    let bytes = c.args.self.now.0.now in
-    let count = each_length element_at 24 (length bytes / 24) bytes in
-    let read = each_at element_at 24 (length bytes / 24) bytes c.args.index d (omega arith) in
-    grind (arith, common_steps)
+returns c = λ d. let read = whole_at element_at 24 c.args.self.now.0.now c.args.index d c.requires in grind (arith, common_steps)
