@@ -7,11 +7,18 @@
 //! in `scenarios/`.
 #![tactic(auto)]
 
+ghost use Rattle.std.specs.Prelude.{◌≡◌, vec_len};
+
 use std::alloc::{AllocError, Global};
 use std::io::{self, Write};
 use std::process::ExitCode;
-use xl_base::{MemorySink, MemorySource, Source};
-use xl_top::run;
+use std::sync::Wait;
+use std::thread::Threads;
+use xl_base::{
+    MemoryCaller, MemoryClock, MemoryKeeper, MemoryLane, MemorySink, MemorySource, Moment, Record,
+    Source,
+};
+use xl_top::{Outside, run};
 
 /// A program's words, which of its reads and writes fail, and what it reads.
 #[derive(Drop)]
@@ -52,36 +59,53 @@ fn words_of(alloc: Global, text: &str) -> Result<Vec<String>, AllocError> {
     Ok(words)
 }
 
+/// A keeper in memory, and no lanes and callers.
+fn nobody(alloc: Global) -> Outside<MemoryKeeper, MemoryLane, MemoryCaller, MemoryClock>
+    ensures { (vec_len result.lanes ≡ 0) × (vec_len result.callers ≡ 0) }
+{
+    Outside {
+        keeper: MemoryKeeper::new(alloc, Record::new(alloc), Vec::new(alloc)),
+        lanes: Vec::new(alloc),
+        callers: Vec::new(alloc),
+        clock: MemoryClock::new(alloc, Moment(0), Vec::new(alloc)),
+    }
+}
+
 /// The status of a run, the number of the line, and how many entries its journal has.
-fn ended<I: Source>(
+fn ended<I: Source, R: Threads + Wait + Sync>(
+    rt: &R,
     alloc: Global,
     words: &[String],
     source: &mut I,
     sink: &mut MemorySink,
 ) -> (u8, u64, usize) {
-    let done = run(alloc, words, source, sink);
+    let done = run(rt, alloc, words, source, sink, nobody(alloc));
     (done.status, done.line, done.journal.entries.len())
 }
 
 /// What is told of a case.
-fn told(alloc: Global, case: &Case<'_>) -> Result<Vec<u8>, AllocError> {
+fn told<R: Threads + Wait + Sync>(
+    rt: &R,
+    alloc: Global,
+    case: &Case<'_>,
+) -> Result<Vec<u8>, AllocError> {
     let words = words_of(alloc, case.words)?;
     let input = Vec::from_slice(alloc, case.input.as_bytes())?;
     let mut source = MemorySource::new(input, Vec::from_slice(alloc, &[case.reads])?);
     let mut sink = MemorySink::new(alloc, Vec::from_slice(alloc, &[case.writes])?);
-    let (status, line, entries) = ended(alloc, &words, &mut source, &mut sink);
+    let (status, line, entries) = ended(rt, alloc, &words, &mut source, &mut sink);
     let mut text = format!(in alloc; "== {}\n{status} {line} {entries}\n", case.name)?.into_bytes();
     text.extend_from_slice(sink.bytes())?;
     text.push(b'\n')?;
     Ok(text)
 }
 
-fn replay(rt: &HostRuntime) -> io::Result<()> {
+fn replay<R: Threads + Wait + Sync + Print + Input + AllocGlobal>(rt: &R) -> io::Result<()> {
     let text = io::read_to_string(rt.alloc(), rt.reader())?;
     let mut out = io::writer(rt);
     let text = text.strip_suffix('\n').unwrap_or(&text);
     for case in text.strip_prefix("== ").unwrap_or(text).split("\n== ") {
-        let told = told(rt.alloc(), &case_of(case))?;
+        let told = told(rt, rt.alloc(), &case_of(case))?;
         out.write_all(&told)?;
     }
     out.flush()

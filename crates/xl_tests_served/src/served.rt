@@ -7,36 +7,62 @@
 //! its lowest byte on, and `@` the place in decimal. From line to line the number rises by the step, the place by one. Above
 //! each message stand its words, as `tools/capture_from_words.py` has them.
 
+ghost use Rattle.std.specs.Prelude.{◌≡◌, vec_len};
+
 mod captures;
 mod house;
 mod lanes;
 mod limits;
+mod meeting;
+mod serving;
 mod sharing;
 mod transcripts;
 
 use std::alloc::{AllocError, Global};
 use std::fmt::Write;
-use xl_base::{MemorySink, MemorySource, Source};
-use xl_top::run;
+use std::sync::Wait;
+use std::thread::Threads;
+use xl_base::{
+    MemoryCaller, MemoryClock, MemoryKeeper, MemoryLane, MemorySink, MemorySource, Moment, Record,
+    Source,
+};
+use xl_top::{Outside, run};
+
+/// A keeper in memory, and no lanes and callers.
+fn nobody(alloc: Global) -> Outside<MemoryKeeper, MemoryLane, MemoryCaller, MemoryClock>
+    ensures { (vec_len result.lanes ≡ 0) × (vec_len result.callers ≡ 0) }
+{
+    Outside {
+        keeper: MemoryKeeper::new(alloc, Record::new(alloc), Vec::new(alloc)),
+        lanes: Vec::new(alloc),
+        callers: Vec::new(alloc),
+        clock: MemoryClock::new(alloc, Moment(0), Vec::new(alloc)),
+    }
+}
 
 /// The status of a replay, the number of the line, and how many entries its journal has.
-fn ended<I: Source>(
+fn ended<I: Source, R: Threads + Wait + Sync>(
+    rt: &R,
     alloc: Global,
     words: &[String],
     source: &mut I,
     sink: &mut MemorySink,
 ) -> (u8, u64, usize) {
-    let done = run(alloc, words, source, sink);
+    let done = run(rt, alloc, words, source, sink, nobody(alloc));
     (done.status, done.line, done.journal.entries.len())
 }
 
 /// What a replay of this source answers.
-fn replayed<I: Source>(alloc: Global, source: &mut I) -> Result<Vec<u8>, AllocError> {
+fn replayed<I: Source, R: Threads + Wait + Sync>(
+    rt: &R,
+    alloc: Global,
+    source: &mut I,
+) -> Result<Vec<u8>, AllocError> {
     let name = String::from_str(alloc, "xlockd")?;
     let command = String::from_str(alloc, "replay")?;
     let words = vec![in alloc; name, command]?;
     let mut sink = MemorySink::new(alloc, Vec::new(alloc));
-    let (status, line, entries) = ended(alloc, &words, source, &mut sink);
+    let (status, line, entries) = ended(rt, alloc, &words, source, &mut sink);
     let mut text = format!(in alloc; "{status} {line} {entries}\n")?.into_bytes();
     text.extend_from_slice(sink.bytes())?;
     Ok(text)
@@ -91,20 +117,28 @@ fn in_full(alloc: Global, lines: &str) -> Result<String, AllocError> {
 }
 
 /// Whether the capture before a case's arrow is answered by the text behind it.
-fn is_answered(alloc: Global, case: &str) -> Result<bool, AllocError> {
+fn is_answered<R: Threads + Wait + Sync>(
+    rt: &R,
+    alloc: Global,
+    case: &str,
+) -> Result<bool, AllocError> {
     let Some((lines, wanted)) = case.split_once("=>\n") else {
         return Ok(false);
     };
     let input = in_full(alloc, lines)?.into_bytes();
     let mut source = MemorySource::new(input, Vec::new(alloc));
     let wanted = in_full(alloc, wanted)?;
-    Ok(replayed(alloc, &mut source)?.as_slice() == wanted.as_bytes())
+    Ok(replayed(rt, alloc, &mut source)?.as_slice() == wanted.as_bytes())
 }
 
 /// The first case that is answered otherwise than it says; nothing if there is none.
-fn wrong_case<'a>(alloc: Global, cases: &'a str) -> Result<&'a str, AllocError> {
+fn wrong_case<'a, R: Threads + Wait + Sync>(
+    rt: &R,
+    alloc: Global,
+    cases: &'a str,
+) -> Result<&'a str, AllocError> {
     for case in cases.split("--\n") {
-        if !is_answered(alloc, case)? {
+        if !is_answered(rt, alloc, case)? {
             return Ok(case);
         }
     }

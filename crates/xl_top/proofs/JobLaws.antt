@@ -1,5 +1,5 @@
 -- A journal is its head and its entries.
-use Rattle.std.proofs.Common.{◌≡◌, ℕ, ◌<◌, true, false, List, [], ◌++◌, length, take, append-nil, Result, Ok, Err, OnOk, OnErr, refl, sym, subst, ap, ◌∙◌, arith}
+use Rattle.std.proofs.Common.{◌≡◌, ℕ, ◌<◌, true, false, List, length, take, Result, Ok, Err, OnOk, refl, sym, subst, ap, ◌∙◌, arith}
 use Rattle.xl_base.proofs.Members.{all_weaker}
 use Rattle.xl_base.specs.declared.event.Event.{Event}
 use Rattle.xl_base.specs.declared.event.Event.TheVariants.{Open, Message, End, Called, Tick, Restart}
@@ -11,9 +11,8 @@ use Rattle.xl_base.specs.declared.halt.Halt.TheVariants as halts
 use Rattle.xl_top.specs.Job.{is_done, is_full, AreSteps, transcript_from, whole_transcript, head_of, journal_of, no_journal, BeginsAs, IsReplayed, IsBegun, IsCutAt}
 use Rattle.xl_capture.specs.Capture.{captured}
 use Rattle.xl_capture.proofs.PlainLaws.{is_plain, captured_plain}
-use Rattle.xl_house.specs.Journals.{replay, entries_of, most_entries, is_restart}
+use Rattle.xl_house.specs.Journals.{entries_of, most_entries, is_restart}
 use Rattle.xl_house.specs.State.{start_of}
-use Rattle.xl_house.proofs.JournalLaws.{front}
 use Rattle.xl_capture.specs.declared.capture.Capture.{Capture}
 
 abbrev journal_with : Head → List Entry → Journal
@@ -27,14 +26,6 @@ same_transcript journal head es h e = ap (λ (x : Head). transcript_from x es) (
 
 pub begins : (c : Capture) (journal : Journal) → journal.head ≡ head_of c → take (length journal.entries) (entries_of (start_of (head_of c)) c.events) ≡ journal.entries → BeginsAs c journal
 begins c journal head entries = record { entries = entries; head = λ some. head }
-
--- what was stepped from a start is a beginning of what the capture gives, at an error too
-pub begins_stepped : (c : Capture) (head : Head) (old new : List Entry) (events : List Event) (ended : Result (Unit {0}) Halt) → head ≡ head_of c → old ≡ [] → events ≡ c.events
-    → OnOk ended (new ≡ old ++ entries_of (replay (start_of head) old) events) → OnErr ended (take (length new) (old ++ entries_of (replay (start_of head) old) events) ≡ new)
-    → take (length new) (entries_of (start_of (head_of c)) c.events) ≡ new
-begins_stepped c head old new events (Ok done) same none are ok err =
-    front new [] (entries_of (start_of (head_of c)) c.events) (append-nil new ∙ ok ∙ (λ i. none i ++ entries_of (replay (start_of (same i)) (none i)) (are i)))
-begins_stepped c head old new events (Err halt) same none are ok err = sym (λ i. take (length new) (none i ++ entries_of (replay (start_of (same i)) (none i)) (are i))) ∙ err
 
 -- what holds where all was stepped, and what holds where the journal is full
 pub done_gives : (ended : Result (Unit {0}) Halt) (P : Type 0) → is_done ended ≡ true → OnOk ended P → P

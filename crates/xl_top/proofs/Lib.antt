@@ -1,10 +1,12 @@
 pub mod CallLaws
 pub mod CountLaws
 pub mod DrawnLaws
+pub mod EnterLaws
 pub mod GroupLaws
 pub mod JobLaws
 pub mod MadeLaws
 pub mod ReadLaws
+pub mod ServeLaws
 pub mod StepLaws
 pub mod SumLaws
 pub mod WordLaws

@@ -24,7 +24,7 @@ front_of None left v took = absurd took
 front_of (Some rest) left v took = ap (λ (l : List ℕ). take (length v) l) took ∙ take-append_seam v rest
 
 -- what is read of an input to its end, or to one byte past the most, is what is looked at of it
-whole : (left new : Option (List ℕ)) (all v : List ℕ) → left ≡ Some all → Took left v new → length v ≤ most_bytes + 1 → (length v ≤ most_bytes → Ended new) → capped all ≡ v
+pub whole : (left new : Option (List ℕ)) (all v : List ℕ) → left ≡ Some all → Took left v new → length v ≤ most_bytes + 1 → (length v ≤ most_bytes → Ended new) → capped all ≡ v
 whole left new all v told took most ended =
     let taken : Took (Some all) v new = subst (λ (l : Option (List ℕ)). Took l v new) told took in
     elim (cases_lt most_bytes (length v)) [

@@ -17,7 +17,7 @@ use Rattle.xl_capture.specs.declared.capture.Capture.{Capture}
 
 -- the statuses that an ending has
 abbrev pub is_status : ℕ → Bool
-is_status n = n == 0 || n == 1 || n == 2 || n == 3 || n == 4 || n == 6 || n == 7
+is_status n = n == 0 || n == 1 || n == 2 || n == 3 || n == 4 || n == 5 || n == 6 || n == 7
 
 -- the statuses of a replay: done, a failed sink, no memory, a full journal
 abbrev pub is_stepped : ℕ → Bool

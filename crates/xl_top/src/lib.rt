@@ -3,9 +3,11 @@
 
 mod keeper;
 mod make;
+mod serve;
 mod start;
+mod step;
 mod top;
 mod words;
 
-pub use top::{Done, run};
-pub use words::{Job, ParseError, parse};
+pub use top::{Done, Outside, run};
+pub use words::{Job, ParseError, Serving, parse, record_path};

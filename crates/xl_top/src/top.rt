@@ -1,5 +1,5 @@
 //! The program's top call.
-ghost use Rattle.std.specs.Prelude.{◌≡◌, ◌≢◌, ℕ, ◌+◌, ◌<◌, ◌≤◌, ◌^◌, [], ◌∷◌, ◌++◌, length, take, map, true, false, List, Option, Some, None, Ok, Err, OnOk, OnErr, IfOk, IfErr, IfSome, ◌↔◌, string_bytes, codes, bytes_eq};
+ghost use Rattle.std.specs.Prelude.{◌≡◌, ◌≢◌, ℕ, ◌+◌, ◌<◌, ◌≤◌, ◌^◌, [], ◌∷◌, ◌++◌, length, take, map, true, false, List, Option, Some, None, Ok, Err, OnOk, OnErr, IfOk, IfErr, IfSome, ◌↔◌, string_bytes, codes, bytes_eq, vec_len};
 ghost use Rattle.std.specs.Result.{result_ok};
 ghost use Rattle.xl_base.specs.Outside.{Rose, Took, Ended, Added, Began};
 ghost use Rattle.xl_capture.specs.Capture.{captured, most_bytes};
@@ -14,7 +14,8 @@ ghost use Rattle.xl_house.specs.Notified.{IsNotified};
 ghost use Rattle.xl_house.specs.Asking.{IsAsking};
 ghost use Rattle.xl_house.specs.Meant.{IsMeant};
 ghost use Rattle.xl_house.specs.Free.{AlwaysFree};
-ghost use Rattle.xl_house.specs.Housed.{Housed, is_spoiled};
+ghost use Rattle.xl_house.specs.Housed.{Holds, Housed, is_spoiled};
+ghost use Rattle.xl_house.specs.Starts.{IsLoaded};
 ghost use Rattle.xl_house.specs.Journals.{replay, IsLegal, IsOrderly, entries_of, most_entries};
 ghost use Rattle.xl_house.specs.State.{start_of};
 ghost use Rattle.xl_top.specs.Job.{is_status, is_stepped, is_read, is_replay, is_shown, is_show, is_made, is_idle, AddsShown, BeginsShown, capped, head_of, journal_of, no_journal, IsReplayed, IsBegun, BeginsAs, IsCutAt, AreSteps, is_whole, is_done, is_full, transcript_from, whole_transcript};
@@ -22,35 +23,79 @@ ghost use Rattle.xl_capture.specs.Show.{shown};
 ghost use Rattle.xl_capture.specs.Summary.{granted, denied};
 ghost use Rattle.xl_capture.specs.Transcript.{transcript};
 ghost use Rattle.xl_top.specs.Made.{IsMadePart, made_journal, summary_from, whole_summary};
-ghost use Rattle.xl_top.specs.Words.{job, HasFit, is_reader, most_made};
+ghost use Rattle.xl_base.specs.Results.{GivesUnless};
+ghost use Rattle.xl_capture.specs.Capture.{bad_line};
+ghost use Rattle.xl_capture.specs.Written.{capture_of};
+ghost use Rattle.xl_work.specs.Crews.{tells_caller, tells_lane};
+ghost use Rattle.xl_top.specs.declared.words.Serving.{Serving as TheServing};
+ghost use Rattle.xl_top.specs.Serve.{AreIdle, HasRoom, IsServedBy, exported, is_exported, is_refused, is_serve, is_served};
+ghost use Rattle.xl_top.specs.Words.{job, HasFit, is_reader, is_server, most_made};
 
 use crate::keeper::SureKeeper;
 use crate::make::made_house;
+use crate::serve::{idle_lanes, serve};
 use crate::start::{exports_with, start};
-use crate::words::{Job, ParseError, parse};
+use crate::step::step_all;
+use crate::words::{Job, ParseError, Serving, parse};
 use std::alloc::{AllocError, AllocFailed, Global};
+use std::sync::Wait;
+use std::thread::Threads;
 use xl_base::{
-    Event, Exports, Halt, Head, Journal, Moment, ReadOutcome, Record, Sequence, Sink, Source,
-    WriteOutcome,
+    Caller, Clock, Event, Exports, Halt, Head, Journal, Keeper, Lane, Moment, ReadOutcome, Record,
+    Sequence, Sink, Source, WriteOutcome,
 };
-use xl_capture::{Capture, CaptureError, MOST_BYTES, read_capture, show_text, summary, transcript};
+use xl_capture::{
+    Capture, CaptureError, MOST_BYTES, read_capture, read_header, show_text, summary, transcript,
+};
 use xl_house::House;
+use xl_work::LaneDone;
 
-/// How a run ended.
+/// How a job ended.
 #[derive(Drop)]
-pub struct Done {
+pub(crate) struct Report {
+    /// As of `Done`.
+    pub status: u8,
+    pub line: u64,
+    pub journal: Journal,
+}
+
+/// What a served machine has of the outside: the keeper of its record, the lanes of its clients, and who calls them.
+#[derive(Drop)]
+pub struct Outside<K, L, C, T> {
+    /// Where the record is kept.
+    pub keeper: K,
+    /// Where connections come from, 64 lanes at most. The first has the clock.
+    pub lanes: Vec<L>,
+    /// Who makes the calls, 64 callers at most.
+    pub callers: Vec<C>,
+    /// The clock, which the first lane reads.
+    pub clock: T,
+}
+
+/// How a run ended, and what it hands back (SERVE-1).
+#[derive(Drop)]
+pub struct Done<K, L, C, T> {
     /// 0: the job was done to the end of the input. 1: the words ask for no job. 2: the source failed. 3: the sink
-    /// failed. 4: a line isn't in the capture's grammar. 6: memory ran out. 7: an event met a full journal.
+    /// failed. 4: a line isn't in its grammar. 5: the keeper failed at the start of what was to be served. 6: memory ran out. 7: an
+    /// event met a full journal.
     pub status: u8,
     /// At status 4 the number of the first such line, counted from 1; else 0.
     pub line: u64,
     /// The events that were stepped, each with what was sent for it.
     pub journal: Journal,
+    /// The keeper.
+    pub keeper: K,
+    /// The lanes, with what became of them. They may be missing at status 6 alone.
+    pub lanes: Vec<LaneDone<L>>,
+    /// The callers. They may be missing at status 6 alone.
+    pub callers: Vec<C>,
+    /// The clock.
+    pub clock: T,
 }
 
 /// Why an input was not read.
 #[derive(Clone, Copy)]
-enum Unread {
+pub(crate) enum Unread {
     NoMemory,
     Failed,
 }
@@ -91,7 +136,7 @@ fn read_more<I: Source>(
 }
 
 /// Reads the input to its end, or one byte past the most that a capture has.
-fn read_all<I: Source>(alloc: Global, input: &mut I) -> Result<Vec<u8>, Unread>
+pub(crate) fn read_all<I: Source>(alloc: Global, input: &mut I) -> Result<Vec<u8>, Unread>
     ensures took { IfOk result (λ v. Took (I.left input.old) v.items (I.left input.new)) }
     ensures most { IfOk result (λ v. length v.items ≤ most_bytes + 1) }
     ensures ended { IfOk result (λ v. length v.items ≤ most_bytes → Ended (I.left input.new)) }
@@ -111,30 +156,9 @@ fn read_all<I: Source>(alloc: Global, input: &mut I) -> Result<Vec<u8>, Unread>
     Ok(text)
 }
 
-/// Steps the events in order. After an error the house is halted, and its journal has the entries of the first of them.
-#[tactic(auto, using(xl_house::proofs::JournalLaws::stepped, xl_house::proofs::JournalLaws::front, xl_house::proofs::JournalLaws::some_left))]
-fn step_all(alloc: Global, house: &mut House<SureKeeper>, events: Vec<Event>) -> Result<(), Halt>
-    requires goes { house.old.halt ≡ None }
-    requires steps { AreSteps events.items }
-    ensures head { house.new.head ≡ house.old.head }
-    ensures ok { OnOk result (house.new.entries ≡ house.old.entries ++ entries_of (replay (start_of house.old.head) house.old.entries) events.items) }
-    ensures err { OnErr result (take (length house.new.entries) (house.old.entries ++ entries_of (replay (start_of house.old.head) house.old.entries) events.items) ≡ house.new.entries) }
-    ensures full { (count : ℕ) → result ≡ Err (Halt.JournalFull count) → (length house.new.entries ≡ most_entries) × (most_entries < length house.old.entries + length events.items) }
-    ensures unspoiled { OnOk result (is_spoiled house.new.halt ≡ false) }
-    ensures unspoiled_full { (count : ℕ) → result ≡ Err (Halt.JournalFull count) → is_spoiled house.new.halt ≡ false }
-    ensures started { (count : ℕ) → result ≡ Err (Halt.StartStore count) → ⊥ }
-{
-    for event in events {
-        if let Err(halt) = house.step(alloc, event) {
-            return Err(halt);
-        }
-    }
-    Ok(())
-}
-
 /// What became of the output.
 #[derive(Clone, Copy)]
-enum Written {
+pub(crate) enum Written {
     All,
     Failed,
     NoMemory,
@@ -174,7 +198,7 @@ fn journal_in(house: House<SureKeeper>) -> Journal
 }
 
 /// The ending of a run that stepped nothing.
-fn idle(alloc: Global, status: u8, line: u64) -> Done
+pub(crate) fn idle(alloc: Global, status: u8, line: u64) -> Report
     ensures { result ≡ record { status = status; line = line; journal = no_journal } }
 {
     let record = Record::new(alloc);
@@ -183,7 +207,7 @@ fn idle(alloc: Global, status: u8, line: u64) -> Done
         start: Moment(0),
         record,
     };
-    Done {
+    Report {
         status,
         line,
         journal: Journal {
@@ -194,8 +218,11 @@ fn idle(alloc: Global, status: u8, line: u64) -> Done
 }
 
 /// A house that stepped the events of a capture, and how the last step ended. None comes if memory runs out at the start.
-#[tactic(auto, using(crate::proofs::JobLaws::begins))]
-fn step_capture(alloc: Global, capture: Capture) -> Option<(House<SureKeeper>, Result<(), Halt>)>
+fn step_capture<R: Wait>(
+    rt: &R,
+    alloc: Global,
+    capture: Capture,
+) -> Option<(House<SureKeeper>, Result<(), Halt>)>
     requires { AreSteps capture.events }
     ensures head { IfSome result (λ r. r.0.head ≡ head_of capture) }
     ensures ok { IfSome result (λ r. OnOk r.1 (r.0.entries ≡ entries_of (start_of (head_of capture)) capture.events)) }
@@ -219,9 +246,8 @@ fn step_capture(alloc: Global, capture: Capture) -> Option<(House<SureKeeper>, R
         grace,
         break_time,
     };
-    let mut house = start(alloc, exports)?;
-    let ended = step_all(alloc, &mut house, events.into_vec());
-    Some((house, ended))
+    let house = start(alloc, exports)?;
+    Some(step_all(rt, alloc, house, events.into_vec()))
 }
 
 /// Writes the transcript of a house whose last step ended so, if it has one, and gives the status: at a full journal 7, also
@@ -261,7 +287,7 @@ fn write_ended<O: Sink>(
 }
 
 /// Replays a capture, and writes its transcript.
-fn replay<O: Sink>(alloc: Global, capture: Capture, out: &mut O) -> Done
+fn replay<O: Sink, R: Wait>(rt: &R, alloc: Global, capture: Capture, out: &mut O) -> Report
     requires { AreSteps capture.events }
     ensures known { is_stepped result.status ≡ true }
     ensures line { result.line ≡ 0 }
@@ -279,12 +305,12 @@ fn replay<O: Sink>(alloc: Global, capture: Capture, out: &mut O) -> Done
     ensures orderly { IsOrderly [] 0 result.journal.entries }
     ensures most { length result.journal.entries ≤ most_entries }
 {
-    let Some((house, ended)) = step_capture(alloc, capture) else {
+    let Some((house, ended)) = step_capture(rt, alloc, capture) else {
         return idle(alloc, 6, 0);
     };
     let status = write_ended(alloc, &house, ended, out);
     let journal = journal_in(house);
-    Done {
+    Report {
         status,
         line: 0,
         journal,
@@ -293,7 +319,7 @@ fn replay<O: Sink>(alloc: Global, capture: Capture, out: &mut O) -> Done
 
 /// Replays the capture that a text is, and writes its transcript.
 #[tactic(auto, using(crate::proofs::JobLaws::captured_steps, crate::proofs::JobLaws::replayed_as, crate::proofs::JobLaws::begun_as, crate::proofs::JobLaws::cut_as, crate::proofs::JobLaws::bad_as))]
-fn replay_text<O: Sink>(alloc: Global, text: &[u8], out: &mut O) -> Done
+fn replay_text<O: Sink, R: Wait>(rt: &R, alloc: Global, text: &[u8], out: &mut O) -> Report
     ensures known { is_read result.status ≡ true }
     ensures replayed { result.status ≡ 0 → IsReplayed (captured text.now) result.journal }
     ensures unwritten { result.status ≡ 3 → IsReplayed (captured text.now) result.journal }
@@ -313,7 +339,7 @@ fn replay_text<O: Sink>(alloc: Global, text: &[u8], out: &mut O) -> Done
     ensures most { length result.journal.entries ≤ most_entries }
 {
     match read_capture(alloc, text) {
-        Ok(capture) => replay(alloc, capture, out),
+        Ok(capture) => replay(rt, alloc, capture, out),
         Err(CaptureError::BadLine(line)) => idle(alloc, 4, line),
         Err(CaptureError::NoMemory) => idle(alloc, 6, 0),
     }
@@ -321,12 +347,17 @@ fn replay_text<O: Sink>(alloc: Global, text: &[u8], out: &mut O) -> Done
 
 /// Replays the capture that the input has, and writes its transcript.
 #[tactic(auto, using(crate::proofs::ReadLaws::read_whole, xl_capture::proofs::EndLaws::read_ended))]
-fn replay_input<I: Source, O: Sink>(alloc: Global, input: &mut I, out: &mut O) -> Done
+fn replay_input<I: Source, O: Sink, R: Wait>(
+    rt: &R,
+    alloc: Global,
+    input: &mut I,
+    out: &mut O,
+) -> Report
     ensures known { is_replay result.status ≡ true }
     ensures read { result.status ≡ 2 → Rose (I.faults input.old) (I.faults input.new) }
     ensures read_still { result.status ≢ 2 → I.faults input.new ≡ I.faults input.old }
     ensures write { result.status ≡ 3 → Rose (O.faults out.old) (O.faults out.new) }
-    ensures write_still { result.status ≢ 3 → result.status ≢ 7 → O.faults out.new ≡ O.faults out.old }
+    ensures write_still { result.status ≢ 3 → result.status ≢ 5 → result.status ≢ 7 → O.faults out.new ≡ O.faults out.old }
     ensures written_full { result.status ≡ 7 → (Rose (O.faults out.old) (O.faults out.new) → ⊥) → Added (O.held out.old) (whole_transcript result.journal) (O.held out.new) }
     ensures replayed { (all : List ℕ) → I.left input.old ≡ Some all → result.status ≡ 0 → IsReplayed (captured (capped all)) result.journal }
     ensures unwritten { (all : List ℕ) → I.left input.old ≡ Some all → result.status ≡ 3 → IsReplayed (captured (capped all)) result.journal }
@@ -348,12 +379,12 @@ fn replay_input<I: Source, O: Sink>(alloc: Global, input: &mut I, out: &mut O) -
         Err(Unread::Failed) => return idle(alloc, 2, 0),
         Err(Unread::NoMemory) => return idle(alloc, 6, 0),
     };
-    replay_text(alloc, &text, out)
+    replay_text(rt, alloc, &text, out)
 }
 
 /// Writes what the lines of a text show.
 #[tactic(auto, using(xl_capture::proofs::ShowLaws::shown_ended))]
-fn show_given<O: Sink>(alloc: Global, text: &[u8], out: &mut O) -> Done
+fn show_given<O: Sink>(alloc: Global, text: &[u8], out: &mut O) -> Report
     ensures known { is_shown result.status ≡ true }
     ensures nothing { result.journal ≡ no_journal }
     ensures line { result.status ≢ 4 → result.line ≡ 0 }
@@ -377,7 +408,7 @@ fn show_given<O: Sink>(alloc: Global, text: &[u8], out: &mut O) -> Done
 
 /// Shows what the lines of the input say.
 #[tactic(auto, using(crate::proofs::ReadLaws::shown_whole))]
-fn show_input<I: Source, O: Sink>(alloc: Global, input: &mut I, out: &mut O) -> Done
+fn show_input<I: Source, O: Sink>(alloc: Global, input: &mut I, out: &mut O) -> Report
     ensures known { is_show result.status ≡ true }
     ensures nothing { result.journal ≡ no_journal }
     ensures read { result.status ≡ 2 → Rose (I.faults input.old) (I.faults input.new) }
@@ -444,7 +475,7 @@ fn write_made<O: Sink>(alloc: Global, house: &House<SureKeeper>, all: bool, out:
 
 /// Makes so many calls by the draws of a seed, steps them, and writes the summary of their journal.
 #[tactic(auto, using(crate::proofs::MadeLaws::same_journal, crate::proofs::MadeLaws::no_part, crate::proofs::CountLaws::journal_counts))]
-fn make<O: Sink>(alloc: Global, seed: u32, count: u32, out: &mut O) -> Done
+fn make<O: Sink>(alloc: Global, seed: u32, count: u32, out: &mut O) -> Report
     requires seed { seed < 2 ^ 31 }
     requires few { count ≤ most_made }
     ensures known { is_made result.status ≡ true }
@@ -467,29 +498,265 @@ fn make<O: Sink>(alloc: Global, seed: u32, count: u32, out: &mut O) -> Done
     };
     let status = write_made(alloc, &house, all, out);
     let journal = journal_in(house);
-    Done {
+    Report {
         status,
         line: 0,
         journal,
     }
 }
 
-/// Does the job that the words name. `replay` reads a capture and writes the transcript of its replay, `show` reads messages
-/// and writes a line on each, `make` makes calls from a number and writes a summary of them.
-///
-/// The journal that comes back has each event that was stepped, with what was sent for it. The clauses from `legal` to
-/// `served` hold for it whatever the input is, and at every status.
-#[tactic(auto, using(xl_house::proofs::MachineLaws::begun_free, xl_house::proofs::LawfulLaws::always_lawful, xl_house::proofs::LawfulLaws::always_waiting, xl_house::proofs::LawfulLaws::always_kept, xl_house::proofs::LawfulLaws::always_complete, xl_house::proofs::FittingLaws::always_fitting, xl_house::proofs::LawfulLaws::always_caused, xl_house::proofs::LawfulLaws::always_told, xl_house::proofs::SteadyLaws::always_steady, xl_house::proofs::EntryLaws::always_wishing, xl_house::proofs::EntryLaws::always_breaking, xl_house::proofs::EntryLaws::always_keeping, xl_house::proofs::OwedLaws::always_owed, xl_house::proofs::ReplyingLaws::always_replied, xl_house::proofs::EntryLaws::always_partied, xl_house::proofs::AskingLaws::always_asking, xl_house::proofs::NotifiedLaws::always_notified, xl_house::proofs::MeantLaws::always_meant))]
-pub fn run<I: Source, O: Sink>(alloc: Global, words: &[String], input: &mut I, out: &mut O) -> Done
-    ensures known { is_status result.status ≡ true }
+/// The end of a run that finds no memory for the lanes.
+fn end_starved<K, L: Drop, C, T>(alloc: Global, outside: Outside<K, L, C, T>) -> Done<K, L, C, T>
+    ensures report { (result.status ≡ 6) × (result.line ≡ 0) × (result.journal ≡ no_journal) }
+    ensures keeper { result.keeper ≡ outside.keeper }
+    ensures callers { result.callers ≡ outside.callers }
+    ensures clock { result.clock ≡ outside.clock }
+{
+    let Report {
+        status,
+        line,
+        journal,
+    } = idle(alloc, 6, 0);
+    let Outside {
+        keeper,
+        lanes: _,
+        callers,
+        clock,
+    } = outside;
+    Done {
+        status,
+        line,
+        journal,
+        keeper,
+        lanes: Vec::new(alloc),
+        callers,
+        clock,
+    }
+}
 
-    // The status is 1 exactly if the words name no job, unless memory runs out. The source failed exactly if the status is 2.
-    // The sink failed if it is 3; it may have failed if it is 7, and did not at any other status.
+/// The exports that a text of header lines names. A line of another kind is bad.
+fn exports_in(alloc: Global, text: &[u8]) -> Result<Exports, CaptureError>
+    ensures { GivesUnless bad_line (λ e. e) result (exported text.now) }
+{
+    let Capture {
+        files,
+        addresses,
+        lease,
+        grace,
+        break_time,
+        events: _,
+    } = read_header(alloc, text)?;
+    Ok(Exports {
+        files,
+        addresses: addresses.into_sequence(),
+        lease,
+        grace,
+        break_time,
+    })
+}
+
+/// The exports that the input names. If it names none, how the run ends.
+#[tactic(auto, using(crate::proofs::ServeLaws::exported_short))]
+fn exports_of<I: Source>(alloc: Global, input: &mut I) -> Result<Exports, Report>
+    ensures idle { IfErr result (λ r. (r.journal ≡ no_journal) × (is_refused r.status ≡ true)) }
+    ensures line { IfErr result (λ r. r.status ≢ 4 → r.line ≡ 0) }
+    ensures read { IfErr result (λ r. r.status ≡ 2 → Rose (I.faults input.old) (I.faults input.new)) }
+    ensures read_still { IfErr result (λ r. r.status ≢ 2 → I.faults input.new ≡ I.faults input.old) }
+    ensures still { OnOk result (I.faults input.new ≡ I.faults input.old) }
+    ensures ended { OnOk result (Ended (I.left input.new)) }
+    ensures exported { (all : List ℕ) → I.left input.old ≡ Some all → IfOk result (λ e. exported (capped all) ≡ Ok e) }
+    ensures bad { (all : List ℕ) → I.left input.old ≡ Some all → IfErr result (λ r. r.status ≡ 4 → exported (capped all) ≡ Err r.line) }
+{
+    let text = match read_all(alloc, input) {
+        Ok(text) => text,
+        Err(Unread::Failed) => return Err(idle(alloc, 2, 0)),
+        Err(Unread::NoMemory) => return Err(idle(alloc, 6, 0)),
+    };
+    match exports_in(alloc, &text) {
+        Ok(exports) => Ok(exports),
+        Err(CaptureError::BadLine(line)) => Err(idle(alloc, 4, line)),
+        Err(CaptureError::NoMemory) => Err(idle(alloc, 6, 0)),
+    }
+}
+
+/// Serves the exports that the input names.
+#[tactic(auto, using(crate::proofs::ServeLaws::refused_serve, crate::proofs::ServeLaws::refused_exported, crate::proofs::ServeLaws::concluded_serve))]
+fn serve_input<
+    I: Source,
+    O: Sink,
+    K: Keeper + Send + Drop,
+    L: Lane + Send + Drop,
+    C: Caller + Send + Drop,
+    T: Clock + Send + Drop,
+    R: Threads + Wait + Sync,
+>(
+    rt: &R,
+    alloc: Global,
+    input: &mut I,
+    out: &mut O,
+    outside: (Outside<K, L, C, T>, Vec<LaneDone<L>>),
+    turns: u64,
+) -> Done<K, L, C, T>
+    requires room { HasRoom outside.0.lanes outside.1 }
+    requires few { (vec_len outside.0.lanes ≤ 64) × (vec_len outside.0.callers ≤ 64) }
+    ensures known { is_serve result.status ≡ true }
+    ensures line { result.status ≢ 4 → result.line ≡ 0 }
+    ensures read { result.status ≡ 2 → Rose (I.faults input.old) (I.faults input.new) }
+    ensures read_still { result.status ≢ 2 → I.faults input.new ≡ I.faults input.old }
+    ensures failed { result.status ≡ 3 → Rose (O.faults out.old) (O.faults out.new) }
+    ensures still { result.status ≢ 3 → result.status ≢ 5 → result.status ≢ 7 → O.faults out.new ≡ O.faults out.old }
+    ensures ended { is_exported result.status ≡ true → Ended (I.left input.new) }
+    ensures idle { is_idle result.status ≡ true → (result.journal ≡ no_journal) × (O.held out.new ≡ O.held out.old) × (result.keeper ≡ outside.0.keeper) × (result.callers ≡ outside.0.callers) × (result.clock ≡ outside.0.clock) × AreIdle outside.0.lanes.items result.lanes.items }
+    ensures exported { (all : List ℕ) → I.left input.old ≡ Some all → is_exported result.status ≡ true → exported (capped all) ≡ Ok result.journal.head.exports }
+    ensures begun { is_exported result.status ≡ true → result.journal.head.start ≡ record { 0 = 0 } }
+    ensures bad { (all : List ℕ) → I.left input.old ≡ Some all → result.status ≡ 4 → exported (capped all) ≡ Err result.line }
+    ensures written { is_exported result.status ≡ true → (Rose (O.faults out.old) (O.faults out.new) → ⊥) → Added (O.held out.old) (capture_of result.journal) (O.held out.new) }
+    ensures whole { result.status ≡ 0 → Added (O.held out.old) (capture_of result.journal) (O.held out.new) }
+    ensures began { is_exported result.status ≡ true → Began (O.held out.old) (capture_of result.journal) (O.held out.new) }
+    ensures began_starved { result.status ≡ 6 → Began (O.held out.old) (capture_of result.journal) (O.held out.new) }
+    ensures full { result.status ≡ 7 → length result.journal.entries ≡ most_entries }
+    ensures crew { is_served result.status ≡ true → IsServedBy (tells_lane L.told L.asked L.lost L.faults L.ended) (tells_caller C.told C.asked) (record { lanes = outside.0.lanes; callers = outside.0.callers; turns = turns }) (T.told outside.0.clock) (T.told result.clock) result.status result.journal.entries result.lanes.items result.callers.items }
+    ensures loaded { is_served result.status ≡ true → Holds (K.held outside.0.keeper) result.journal.head.«record» }
+    ensures holds { is_served result.status ≡ true → Holds (K.held result.keeper) (replay (start_of result.journal.head) result.journal.entries).core.stable }
+    ensures nobody { result.status ≡ 5 → (result.journal.entries ≡ []) × (result.callers ≡ outside.0.callers) × (result.clock ≡ outside.0.clock) × AreIdle outside.0.lanes.items result.lanes.items }
+    ensures unstored { result.status ≡ 5 → Rose (K.faults outside.0.keeper) (K.faults result.keeper) × (K.held result.keeper ≡ K.held outside.0.keeper) × IsLoaded (K.held outside.0.keeper) result.journal.head.«record» }
+    ensures legal { IsLegal (start_of result.journal.head) result.journal.entries }
+    ensures served { Always IsServed (start_of result.journal.head) result.journal.entries }
+    ensures orderly { IsOrderly [] 0 result.journal.entries }
+    ensures most { length result.journal.entries ≤ most_entries }
+{
+    match exports_of(alloc, input) {
+        Ok(exports) => serve(rt, alloc, exports, outside, turns, out),
+        Err(report) => {
+            let (outside, room) = outside;
+            let Outside {
+                keeper,
+                lanes,
+                callers,
+                clock,
+            } = outside;
+            let lanes = idle_lanes(alloc, lanes, room);
+            let Report {
+                status,
+                line,
+                journal,
+            } = report;
+            Done {
+                status,
+                line,
+                journal,
+                keeper,
+                lanes,
+                callers,
+                clock,
+            }
+        }
+    }
+}
+
+/// How lanes and callers are to be served, if that is asked for.
+fn serving_in(asked: Result<Job, ParseError>) -> Option<Serving>
+    ensures some { IfSome result (λ s. asked ≡ Ok (Job.Serve s)) }
+    ensures none { result ≡ None → IfOk asked (λ j. is_server (Some j) ≡ false) }
+{
+    match asked {
+        Ok(Job::Serve(serving)) => Some(serving),
+        _ => None,
+    }
+}
+
+/// Does a job that serves nobody. Memory ran out before at the words of an error other than `Usage`.
+fn work<I: Source, O: Sink, R: Wait>(
+    rt: &R,
+    alloc: Global,
+    words: &[String],
+    asked: Result<Job, ParseError>,
+    input: &mut I,
+    out: &mut O,
+) -> Report
+    requires ok { IfOk asked (λ j. job (map string_bytes words.now) ≡ Some j) }
+    requires fit { IfOk asked HasFit }
+    requires usage { asked ≡ Err ParseError.Usage → job (map string_bytes words.now) ≡ None }
+    requires alone { IfOk asked (λ j. is_server (Some j) ≡ false) }
+    ensures known { is_status result.status ≡ true }
     ensures words { (result.status ≡ 1 → job (map string_bytes words.now) ≡ None) × (job (map string_bytes words.now) ≡ None → result.status ≢ 6 → result.status ≡ 1) }
     ensures read { result.status ≡ 2 → Rose (I.faults input.old) (I.faults input.new) }
     ensures read_still { result.status ≢ 2 → I.faults input.new ≡ I.faults input.old }
     ensures write { result.status ≡ 3 → Rose (O.faults out.old) (O.faults out.new) }
-    ensures write_still { result.status ≢ 3 → result.status ≢ 7 → O.faults out.new ≡ O.faults out.old }
+    ensures write_still { result.status ≢ 3 → result.status ≢ 5 → result.status ≢ 7 → O.faults out.new ≡ O.faults out.old }
+    ensures line { result.status ≢ 4 → result.line ≡ 0 }
+    ensures ended { is_reader (job (map string_bytes words.now)) ≡ true → result.status ≡ 0 → Ended (I.left input.new) }
+    ensures idle { is_idle result.status ≡ true → (result.journal ≡ no_journal) × (O.held out.new ≡ O.held out.old) }
+    ensures untouched { job (map string_bytes words.now) ≡ None → (result.journal ≡ no_journal) × (input.new ≡ input.old) × (out.new ≡ out.old) }
+    ensures replayed { job (map string_bytes words.now) ≡ Some Job.Replay → (all : List ℕ) → I.left input.old ≡ Some all → result.status ≡ 0 → IsReplayed (captured (capped all)) result.journal }
+    ensures unwritten { job (map string_bytes words.now) ≡ Some Job.Replay → (all : List ℕ) → I.left input.old ≡ Some all → result.status ≡ 3 → IsReplayed (captured (capped all)) result.journal }
+    ensures full { job (map string_bytes words.now) ≡ Some Job.Replay → (all : List ℕ) → I.left input.old ≡ Some all → result.status ≡ 7 → IsCutAt most_entries (captured (capped all)) result.journal }
+    ensures bad { job (map string_bytes words.now) ≡ Some Job.Replay → (all : List ℕ) → I.left input.old ≡ Some all → result.status ≡ 4 → captured (capped all) ≡ Err result.line }
+    ensures begun { job (map string_bytes words.now) ≡ Some Job.Replay → (all : List ℕ) → I.left input.old ≡ Some all → result.status ≡ 6 → IsBegun (captured (capped all)) result.journal }
+    ensures written { job (map string_bytes words.now) ≡ Some Job.Replay → result.status ≡ 0 → Added (O.held out.old) (whole_transcript result.journal) (O.held out.new) }
+    ensures written_full { job (map string_bytes words.now) ≡ Some Job.Replay → result.status ≡ 7 → (Rose (O.faults out.old) (O.faults out.new) → ⊥) → Added (O.held out.old) (whole_transcript result.journal) (O.held out.new) }
+    ensures began { job (map string_bytes words.now) ≡ Some Job.Replay → Began (O.held out.old) (whole_transcript result.journal) (O.held out.new) }
+    ensures shown { job (map string_bytes words.now) ≡ Some Job.Show → (all : List ℕ) → I.left input.old ≡ Some all → result.status ≡ 0 → AddsShown (O.held out.old) (shown (capped all)) (O.held out.new) }
+    ensures shown_part { job (map string_bytes words.now) ≡ Some Job.Show → (all : List ℕ) → I.left input.old ≡ Some all → result.status ≡ 3 → BeginsShown (O.held out.old) (shown (capped all)) (O.held out.new) }
+    ensures shown_bad { job (map string_bytes words.now) ≡ Some Job.Show → (all : List ℕ) → I.left input.old ≡ Some all → result.status ≡ 4 → shown (capped all) ≡ Err result.line }
+    ensures shown_alone { job (map string_bytes words.now) ≡ Some Job.Show → (is_show result.status ≡ true) × (result.journal ≡ no_journal) × (result.status ≡ 6 → O.held out.new ≡ O.held out.old) }
+    ensures made { (seed count : ℕ) → job (map string_bytes words.now) ≡ Some (Job.Make seed count) → result.status ≡ 0 → result.journal ≡ made_journal seed count }
+    ensures made_unwritten { (seed count : ℕ) → job (map string_bytes words.now) ≡ Some (Job.Make seed count) → result.status ≡ 3 → result.journal ≡ made_journal seed count }
+    ensures made_part { (seed count : ℕ) → job (map string_bytes words.now) ≡ Some (Job.Make seed count) → result.status ≡ 6 → IsMadePart seed count result.journal }
+    ensures summed { (seed count : ℕ) → job (map string_bytes words.now) ≡ Some (Job.Make seed count) → result.status ≡ 0 → Added (O.held out.old) (whole_summary result.journal) (O.held out.new) }
+    ensures summed_part { (seed count : ℕ) → job (map string_bytes words.now) ≡ Some (Job.Make seed count) → Began (O.held out.old) (whole_summary result.journal) (O.held out.new) }
+    ensures numbers { (seed count : ℕ) → job (map string_bytes words.now) ≡ Some (Job.Make seed count) → result.status ≡ 0 → (length result.journal.entries ≡ count + 1) × (granted result.journal.entries + denied result.journal.entries ≡ count) }
+    ensures made_alone { (seed count : ℕ) → job (map string_bytes words.now) ≡ Some (Job.Make seed count) → (is_made result.status ≡ true) × (I.left input.new ≡ I.left input.old) }
+    ensures unserved { (s : TheServing) → job (map string_bytes words.now) ≡ Some (Job.Serve s) → (result.status ≡ 6) × (O.held out.new ≡ O.held out.old) }
+    ensures started { result.status ≢ 5 }
+    ensures legal { IsLegal (start_of result.journal.head) result.journal.entries }
+    ensures served { Always IsServed (start_of result.journal.head) result.journal.entries }
+    ensures orderly { IsOrderly [] 0 result.journal.entries }
+    ensures most { length result.journal.entries ≤ most_entries }
+{
+    match asked {
+        Ok(Job::Replay) => replay_input(rt, alloc, input, out),
+        Ok(Job::Show) => show_input(alloc, input, out),
+        Ok(Job::Make(seed, count)) => make(alloc, seed, count, out),
+        Ok(Job::Serve(_)) => unreachable!(),
+        Err(ParseError::Usage) => idle(alloc, 1, 0),
+        Err(ParseError::NoMemory) => idle(alloc, 6, 0),
+    }
+}
+
+/// Does the job that the words name. `replay` reads a capture and writes the transcript of its replay, `show` reads messages
+/// and writes a line on each, `make` makes calls from a number and writes a summary of them,
+/// `serve` reads what is exported, serves the lanes and the callers, and writes the capture of what was entered.
+///
+/// The journal that comes back has each event that was stepped, with what was sent for it. The clauses from `legal` to
+/// `served` hold for it whatever the input is, and at every status.
+#[tactic(auto, using(xl_house::proofs::MachineLaws::begun_free, xl_house::proofs::LawfulLaws::always_lawful, xl_house::proofs::LawfulLaws::always_waiting, xl_house::proofs::LawfulLaws::always_kept, xl_house::proofs::LawfulLaws::always_complete, xl_house::proofs::FittingLaws::always_fitting, xl_house::proofs::LawfulLaws::always_caused, xl_house::proofs::LawfulLaws::always_told, xl_house::proofs::SteadyLaws::always_steady, xl_house::proofs::EntryLaws::always_wishing, xl_house::proofs::EntryLaws::always_breaking, xl_house::proofs::EntryLaws::always_keeping, xl_house::proofs::OwedLaws::always_owed, xl_house::proofs::ReplyingLaws::always_replied, xl_house::proofs::EntryLaws::always_partied, xl_house::proofs::AskingLaws::always_asking, xl_house::proofs::NotifiedLaws::always_notified, xl_house::proofs::MeantLaws::always_meant))]
+pub fn run<
+    I: Source,
+    O: Sink,
+    K: Keeper + Send + Drop,
+    L: Lane + Send + Drop,
+    C: Caller + Send + Drop,
+    T: Clock + Send + Drop,
+    R: Threads + Wait + Sync,
+>(
+    rt: &R,
+    alloc: Global,
+    words: &[String],
+    input: &mut I,
+    out: &mut O,
+    outside: Outside<K, L, C, T>,
+) -> Done<K, L, C, T>
+    requires few { (vec_len outside.lanes ≤ 64) × (vec_len outside.callers ≤ 64) }
+    ensures known { is_status result.status ≡ true }
+
+    // The status is 1 exactly if the words name no job, unless memory runs out. The source failed exactly if the status is 2.
+    // The sink failed if it is 3; it may have failed if it is 5 or 7, and did not at any other status.
+    ensures words { (result.status ≡ 1 → job (map string_bytes words.now) ≡ None) × (job (map string_bytes words.now) ≡ None → result.status ≢ 6 → result.status ≡ 1) }
+    ensures read { result.status ≡ 2 → Rose (I.faults input.old) (I.faults input.new) }
+    ensures read_still { result.status ≢ 2 → I.faults input.new ≡ I.faults input.old }
+    ensures write { result.status ≡ 3 → Rose (O.faults out.old) (O.faults out.new) }
+    ensures write_still { result.status ≢ 3 → result.status ≢ 5 → result.status ≢ 7 → O.faults out.new ≡ O.faults out.old }
     ensures line { result.status ≢ 4 → result.line ≡ 0 }
     ensures ended { is_reader (job (map string_bytes words.now)) ≡ true → result.status ≡ 0 → Ended (I.left input.new) }
     ensures idle { is_idle result.status ≡ true → (result.journal ≡ no_journal) × (O.held out.new ≡ O.held out.old) }
@@ -505,7 +772,7 @@ pub fn run<I: Source, O: Sink>(alloc: Global, words: &[String], input: &mut I, o
     ensures bad { job (map string_bytes words.now) ≡ Some Job.Replay → (all : List ℕ) → I.left input.old ≡ Some all → result.status ≡ 4 → captured (capped all) ≡ Err result.line }
     ensures begun { job (map string_bytes words.now) ≡ Some Job.Replay → (all : List ℕ) → I.left input.old ≡ Some all → result.status ≡ 6 → IsBegun (captured (capped all)) result.journal }
     ensures written { job (map string_bytes words.now) ≡ Some Job.Replay → result.status ≡ 0 → Added (O.held out.old) (whole_transcript result.journal) (O.held out.new) }
-    ensures written_full { result.status ≡ 7 → (Rose (O.faults out.old) (O.faults out.new) → ⊥) → Added (O.held out.old) (whole_transcript result.journal) (O.held out.new) }
+    ensures written_full { job (map string_bytes words.now) ≡ Some Job.Replay → result.status ≡ 7 → (Rose (O.faults out.old) (O.faults out.new) → ⊥) → Added (O.held out.old) (whole_transcript result.journal) (O.held out.new) }
     ensures began { job (map string_bytes words.now) ≡ Some Job.Replay → Began (O.held out.old) (whole_transcript result.journal) (O.held out.new) }
 
     // `show` wrote all lines on the messages at 0, a beginning of them at 3, and nothing at any other status. At 4 the line is
@@ -525,6 +792,29 @@ pub fn run<I: Source, O: Sink>(alloc: Global, words: &[String], input: &mut I, o
     ensures summed_part { (seed count : ℕ) → job (map string_bytes words.now) ≡ Some (Job.Make seed count) → Began (O.held out.old) (whole_summary result.journal) (O.held out.new) }
     ensures numbers { (seed count : ℕ) → job (map string_bytes words.now) ≡ Some (Job.Make seed count) → result.status ≡ 0 → (length result.journal.entries ≡ count + 1) × (granted result.journal.entries + denied result.journal.entries ≡ count) }
     ensures made_alone { (seed count : ℕ) → job (map string_bytes words.now) ≡ Some (Job.Make seed count) → (is_made result.status ≡ true) × (I.left input.new ≡ I.left input.old) }
+
+    // `serve` served the exports that the input names if the status is 0, 3 or 7: until each lane ended or had its turns, or until the
+    // journal was full, which it is at 7. The entries are what the lanes, the first one's clock and the callers entered, and no others;
+    // each link was sent what they send to it, and the calls that they ask for were made. At 5 nobody was served: the keeper failed at
+    // the start, and holds what it held. The capture of the journal was written at 0, and at 5 and 7 unless the sink failed; a beginning
+    // of it was written at 3, 5, 6 and 7. At 4 the line is the first bad one.
+    ensures exported { (s : TheServing) → job (map string_bytes words.now) ≡ Some (Job.Serve s) → (all : List ℕ) → I.left input.old ≡ Some all → is_exported result.status ≡ true → exported (capped all) ≡ Ok result.journal.head.exports }
+    ensures exported_bad { (s : TheServing) → job (map string_bytes words.now) ≡ Some (Job.Serve s) → (all : List ℕ) → I.left input.old ≡ Some all → result.status ≡ 4 → exported (capped all) ≡ Err result.line }
+    ensures started { (s : TheServing) → job (map string_bytes words.now) ≡ Some (Job.Serve s) → is_exported result.status ≡ true → result.journal.head.start ≡ record { 0 = 0 } }
+    ensures loaded { (s : TheServing) → job (map string_bytes words.now) ≡ Some (Job.Serve s) → is_served result.status ≡ true → Holds (K.held outside.keeper) result.journal.head.«record» }
+    ensures holds { (s : TheServing) → job (map string_bytes words.now) ≡ Some (Job.Serve s) → is_served result.status ≡ true → Holds (K.held result.keeper) (replay (start_of result.journal.head) result.journal.entries).core.stable }
+    ensures crew { (s : TheServing) → job (map string_bytes words.now) ≡ Some (Job.Serve s) → is_served result.status ≡ true → IsServedBy (tells_lane L.told L.asked L.lost L.faults L.ended) (tells_caller C.told C.asked) (record { lanes = outside.lanes; callers = outside.callers; turns = s.turns }) (T.told outside.clock) (T.told result.clock) result.status result.journal.entries result.lanes.items result.callers.items }
+    ensures filled { (s : TheServing) → job (map string_bytes words.now) ≡ Some (Job.Serve s) → result.status ≡ 7 → length result.journal.entries ≡ most_entries }
+    ensures unstarted { result.status ≡ 5 → (is_server (job (map string_bytes words.now)) ≡ true) × (result.journal.entries ≡ []) × (result.callers ≡ outside.callers) × (result.clock ≡ outside.clock) × AreIdle outside.lanes.items result.lanes.items }
+    ensures unstored { result.status ≡ 5 → Rose (K.faults outside.keeper) (K.faults result.keeper) × (K.held result.keeper ≡ K.held outside.keeper) × IsLoaded (K.held outside.keeper) result.journal.head.«record» }
+    ensures captured { (s : TheServing) → job (map string_bytes words.now) ≡ Some (Job.Serve s) → result.status ≡ 0 → Added (O.held out.old) (capture_of result.journal) (O.held out.new) }
+    ensures captured_full { (s : TheServing) → job (map string_bytes words.now) ≡ Some (Job.Serve s) → is_exported result.status ≡ true → (Rose (O.faults out.old) (O.faults out.new) → ⊥) → Added (O.held out.old) (capture_of result.journal) (O.held out.new) }
+    ensures captured_part { (s : TheServing) → job (map string_bytes words.now) ≡ Some (Job.Serve s) → is_idle result.status ≡ false → Began (O.held out.old) (capture_of result.journal) (O.held out.new) }
+
+    // No other job calls the keeper, the lanes, the callers and the clock, nor does one that ends at 1, 2 or 4. Lanes are missing only
+    // at 6.
+    ensures alone { is_server (job (map string_bytes words.now)) ≡ false → (result.keeper ≡ outside.keeper) × (result.callers ≡ outside.callers) × (result.clock ≡ outside.clock) × (result.status ≢ 6 → AreIdle outside.lanes.items result.lanes.items) }
+    ensures unserved { is_idle result.status ≡ true → (result.keeper ≡ outside.keeper) × (result.callers ≡ outside.callers) × (result.clock ≡ outside.clock) × AreIdle outside.lanes.items result.lanes.items }
 
     // Each entry is what the machine's step gives. Nothing is sent to a connection before its opening or after its end.
     ensures legal { IsLegal (start_of result.journal.head) result.journal.entries }
@@ -585,11 +875,33 @@ pub fn run<I: Source, O: Sink>(alloc: Global, words: &[String], input: &mut I, o
     // nothing of the opens that were under it.
     ensures served { Always IsServed (start_of result.journal.head) result.journal.entries }
 {
-    match parse(alloc, words) {
-        Ok(Job::Replay) => replay_input(alloc, input, out),
-        Ok(Job::Show) => show_input(alloc, input, out),
-        Ok(Job::Make(seed, count)) => make(alloc, seed, count, out),
-        Err(ParseError::Usage) => idle(alloc, 1, 0),
-        Err(ParseError::NoMemory) => idle(alloc, 6, 0),
+    let Ok(room) = Vec::with_capacity(alloc, outside.lanes.len()) else {
+        return end_starved(alloc, outside);
+    };
+    let asked = parse(alloc, words);
+    if let Some(serving) = serving_in(asked) {
+        let outside = (outside, room);
+        return serve_input(rt, alloc, input, out, outside, u64::from(serving.turns));
+    }
+    let Report {
+        status,
+        line,
+        journal,
+    } = work(rt, alloc, words, asked, input, out);
+    let Outside {
+        keeper,
+        lanes,
+        callers,
+        clock,
+    } = outside;
+    let lanes = idle_lanes(alloc, lanes, room);
+    Done {
+        status,
+        line,
+        journal,
+        keeper,
+        lanes,
+        callers,
+        clock,
     }
 }

@@ -4,7 +4,9 @@ ghost use Rattle.std.specs.Prelude.{None};
 
 use super::{replayed, wrong_case};
 use std::alloc::{AllocError, Global};
+use std::sync::Wait;
 use std::test::Fail;
+use std::thread::Threads;
 use xl_base::{ReadOutcome, Source};
 
 /// The most files; the most entries, of openings, records and readings of the clock. A record without bytes is a message that
@@ -385,14 +387,14 @@ E 0
 
 #[test]
 fn most_entries(rt: HostRuntime) -> Result<(), Fail> {
-    let wrong = wrong_case(rt.alloc(), MOST_ENTRIES)?;
+    let wrong = wrong_case(&rt, rt.alloc(), MOST_ENTRIES)?;
     assert!(rt; wrong.is_empty(), "{wrong}");
     Ok(())
 }
 
 #[test]
 fn most_claims(rt: HostRuntime) -> Result<(), Fail> {
-    let wrong = wrong_case(rt.alloc(), MOST_CLAIMS)?;
+    let wrong = wrong_case(&rt, rt.alloc(), MOST_CLAIMS)?;
     assert!(rt; wrong.is_empty(), "{wrong}");
     Ok(())
 }
@@ -400,7 +402,7 @@ fn most_claims(rt: HostRuntime) -> Result<(), Fail> {
 #[test]
 fn most_owners_and_opens(rt: HostRuntime) -> Result<(), Fail> {
     for cases in [MOST_OWNERS, MOST_OPENS] {
-        let wrong = wrong_case(rt.alloc(), cases)?;
+        let wrong = wrong_case(&rt, rt.alloc(), cases)?;
         assert!(rt; wrong.is_empty(), "{wrong}");
     }
     Ok(())
@@ -433,13 +435,18 @@ impl Source for Comment {
 }
 
 /// Whether a replay of so many bytes answers so.
-fn is_read(alloc: Global, left: usize, wanted: &str) -> Result<bool, AllocError> {
-    Ok(replayed(alloc, &mut Comment { left })?.as_slice() == wanted.as_bytes())
+fn is_read<R: Threads + Wait + Sync>(
+    rt: &R,
+    alloc: Global,
+    left: usize,
+    wanted: &str,
+) -> Result<bool, AllocError> {
+    Ok(replayed(rt, alloc, &mut Comment { left })?.as_slice() == wanted.as_bytes())
 }
 
 #[test]
 fn most_bytes(rt: HostRuntime) -> Result<(), Fail> {
-    assert!(rt; is_read(rt.alloc(), 268_435_456, "0 0 0\n")?);
-    assert!(rt; is_read(rt.alloc(), 268_435_457, "4 1 0\n")?);
+    assert!(rt; is_read(&rt, rt.alloc(), 268_435_456, "0 0 0\n")?);
+    assert!(rt; is_read(&rt, rt.alloc(), 268_435_457, "4 1 0\n")?);
     Ok(())
 }

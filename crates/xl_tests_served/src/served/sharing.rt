@@ -101,9 +101,9 @@ fn shares_and_opens(rt: HostRuntime) -> Result<(), Fail> {
         let other = number >> 4 & 3;
         let deny = number >> 6;
         let shares = share_and_share(rt.alloc(), access, mode, other, deny)?;
-        assert!(rt; is_answered(rt.alloc(), &shares)?, "{shares}");
+        assert!(rt; is_answered(&rt, rt.alloc(), &shares)?, "{shares}");
         let opens = share_and_open(rt.alloc(), access, mode, other, deny)?;
-        assert!(rt; is_answered(rt.alloc(), &opens)?, "{opens}");
+        assert!(rt; is_answered(&rt, rt.alloc(), &opens)?, "{opens}");
     }
     Ok(())
 }
@@ -211,7 +211,7 @@ fn create_and_others(alloc: Global, number: u32) -> Result<String, AllocError> {
 fn creates_and_others(rt: HostRuntime) -> Result<(), Fail> {
     for number in 0..1024u32 {
         let case = create_and_others(rt.alloc(), number)?;
-        assert!(rt; is_answered(rt.alloc(), &case)?, "{number}: {case}");
+        assert!(rt; is_answered(&rt, rt.alloc(), &case)?, "{number}: {case}");
     }
     Ok(())
 }

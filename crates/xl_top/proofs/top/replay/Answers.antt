@@ -1,4 +1,4 @@
-use Rattle.std.proofs.Common.{◌≡◌, List, ℕ, subst}
+use Rattle.std.proofs.Common.{List, ℕ, subst}
 use Rattle.xl_base.specs.Outside.{Added}
 use Rattle.xl_top.proofs.JobLaws.{same_transcript, all_stepped, begun_stepped, full_stepped}
 use Rattle.xl_top.proofs.WriteLaws.{began_as}
