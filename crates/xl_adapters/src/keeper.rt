@@ -130,6 +130,8 @@ impl<R: Files> Keeper for FileKeeper<R> {
 
     ghost faults = { λ k. k.faults };
 
+    ghost left = { λ _. None };
+
     fn faults(&self) -> u64 {
         self.faults
     }

@@ -1,6 +1,5 @@
 pub mod CodecLaws
 pub mod FormatLaws
-pub mod KeeperLaws
 pub mod LeastLaws
 pub mod LinkLaws
 pub mod Members

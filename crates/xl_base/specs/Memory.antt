@@ -40,6 +40,14 @@ pub record MemoryStorage : Type 0 where
   pub calls : ℕ
   pub faults : ℕ
 
+-- a keeper in memory that is told how many stores succeed
+pub record BudgetStorage : Type 0 where
+  -- the record that is held
+  pub held : Stable
+  -- how many stores succeed from now on, and how many failed
+  pub left : ℕ
+  pub faults : ℕ
+
 -- a count of 64 bits after one more; it stops at its last value
 abbrev pub counted : ℕ → ℕ
 counted count = min (count + 1) (2 ^ 64 - 1)
@@ -65,3 +73,9 @@ abbrev pub after_store : StoreOutcome → Stable → MemoryStorage → MemorySto
 after_store store.Stored stable k = record { held = stable; given = k.given ++ stable ∷ []; failing = k.failing; calls = counted k.calls; faults = k.faults }
 after_store store.Failed stable k = record { held = k.held; given = k.given ++ stable ∷ []; failing = k.failing; calls = counted k.calls; faults = counted k.faults }
 after_store store.NoMemory stable k = record { held = k.held; given = k.given; failing = k.failing; calls = counted k.calls; faults = k.faults }
+
+-- a keeper that is told how many stores succeed, after a store of this record
+abbrev pub after_spent : StoreOutcome → Stable → BudgetStorage → BudgetStorage
+after_spent store.Stored stable k = record { held = stable; left = k.left - 1; faults = k.faults }
+after_spent store.Failed stable k = record { held = k.held; left = k.left; faults = counted k.faults }
+after_spent store.NoMemory stable k = k

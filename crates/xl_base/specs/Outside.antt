@@ -89,6 +89,9 @@ given_after store.Stored stable given = option_map (λ list. list ++ stable ∷ 
 given_after store.Failed stable given = option_map (λ list. list ++ stable ∷ []) given
 given_after store.NoMemory stable given = given
 
--- What a part of a step leaves of the keeper that it is handed: none gives it a record yet, so it is as it was.
-abbrev pub HandedOn : {K : Type 0} → K → K → Type 0
-HandedOn old new = new ≡ old
+-- What one store says of how many stores succeed, if it is told that so many did before it: it succeeds if there is one, and then
+-- there is one less; and it fails if there is none. Want of memory may leave any number.
+abbrev pub Spends : StoreOutcome → ℕ → Option ℕ → Type 0
+Spends store.Stored before left = (0 < before) × (left ≡ Some (before - 1))
+Spends store.Failed before left = (before ≡ 0) × (left ≡ Some 0)
+Spends store.NoMemory before left = Unit {0}

@@ -1,7 +1,7 @@
 //! Where the record is kept on stable storage (RFC 7530 9.6.2).
-ghost use Rattle.std.specs.Prelude.{◌≡◌, ℕ, ◌≤◌, List, [], Option, Some, IsTrue, ◌↔◌, true, false};
+ghost use Rattle.std.specs.Prelude.{◌≡◌, ℕ, ◌≤◌, List, [], Option, Some, None, IsTrue, ◌↔◌, true, false};
 ghost use Rattle.xl_base.specs.Memory.{is_failing, after_load, after_store};
-ghost use Rattle.xl_base.specs.Outside.{Loads, LoadCounts, StoreCounts, held_after, given_after};
+ghost use Rattle.xl_base.specs.Outside.{Loads, LoadCounts, StoreCounts, Spends, held_after, given_after};
 ghost use Rattle.xl_base.specs.Stable.{Stable};
 
 use crate::source::is_failing;
@@ -45,6 +45,9 @@ pub trait Keeper {
     /// How many loads and stores have failed; it stops at its last value.
     ghost faults: { Self → ℕ };
 
+    /// How many stores succeed from now on, before each one fails, if the keeper tells it. No load fails of one that does.
+    ghost left: { Self → Option ℕ };
+
     /// The count of failed loads and stores; it never falls.
     fn faults(&self) -> u64
         ensures { result ≡ faults self.now };
@@ -55,6 +58,8 @@ pub trait Keeper {
         ensures loaded { Loads result (held self.old) }
         ensures held { held self.new ≡ held self.old }
         ensures given { given self.new ≡ given self.old }
+        ensures left { left self.new ≡ left self.old }
+        ensures sure { (n : ℕ) → left self.old ≡ Some n → result ≡ LoadOutcome.Failed → ⊥ }
         ensures later { faults self.old ≤ faults self.new }
         ensures counts { LoadCounts result (faults self.old) (faults self.new) };
 
@@ -63,6 +68,7 @@ pub trait Keeper {
     fn store(&mut self, alloc: Global, stable: &Record) -> StoreOutcome
         ensures held { held self.new ≡ held_after result stable.now (held self.old) }
         ensures given { given self.new ≡ given_after result stable.now (given self.old) }
+        ensures left { (n : ℕ) → left self.old ≡ Some n → Spends result n (left self.new) }
         ensures later { faults self.old ≤ faults self.new }
         ensures counts { StoreCounts result (faults self.old) (faults self.new) };
 }
@@ -121,6 +127,8 @@ impl Keeper for MemoryKeeper {
     ghost given = { λ k. Some k.given };
 
     ghost faults = { λ k. k.faults };
+
+    ghost left = { λ _. None };
 
     fn faults(&self) -> u64 {
         self.faults

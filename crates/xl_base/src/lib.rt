@@ -2,6 +2,7 @@
 //! keeps them, names and record, file handles, and the outside as traits.
 #![tactic(auto)]
 
+mod budget;
 mod caller;
 mod clock;
 mod comparison;
@@ -24,6 +25,7 @@ mod source;
 mod stable;
 mod telling;
 
+pub use budget::{BudgetKeeper, Budgeted};
 pub use caller::{Asked, CallOutcome, Caller, MemoryCaller};
 pub use clock::{Clock, MemoryClock};
 pub use event::{Dest, Event, Kind, Moment, Out};

@@ -29,7 +29,7 @@ same_protocols Smb Nlm e = absurd (true≢false (sym e))
 same_protocols Smb Nfs e = absurd (true≢false (sym e))
 same_protocols Smb Smb e = refl
 
-same_names : (a b : Recorded) → same_name a b ≡ true → a ≡ b
+pub same_names : (a b : Recorded) → same_name a b ≡ true → a ≡ b
 same_names a b e =
     let parts = and_parts (same_protocol a.protocol b.protocol) (bytes_eq a.name b.name) e in
     ap₂ (λ (p : Protocol) (n : List ℕ). record { protocol = p; name = n }) (same_protocols a.protocol b.protocol parts.0) ((bytes_eq-Decides a.name b.name).0 parts.1)
