@@ -1,5 +1,7 @@
 -- A lock that is granted holds each byte of its range, and one that is unlocked none; all other bytes are as they were.
 use Rattle.std.proofs.Common.{◌≡◌, ℕ, ◌≤◌, Bool, true, false, List, [], ◌∷◌, Option, Some, None, refl, sym, ap, subst, ◌∙◌, inl, inr}
+use Rattle.xl_core.specs.Frames.{asks_to_hold}
+use Rattle.xl_core.proofs.ChangeLaws.{unheld_noted}
 use Rattle.std.proofs.lemmas.Bool.{cases_Bool}
 use Rattle.std.specs.Prelude.{◌&&◌, if◌then◌else◌}
 use Rattle.xl_base.specs.declared.name.Owner.{Owner}
@@ -133,6 +135,7 @@ unlocked_bytes n left s a first last c good fit named ends act granted = λ file
 pub unlock_stays : (n : ℕ) (left : Rooms) (s : CoreState) (a : Ask) (first last : ℕ) → IsGood s → IsFit a → is_named a.owner ≡ true → first ≤ last → a.act ≡ acts.Unlock (Bytes first last) → ((c : Claim) → (ask n left s a).0 ≡ answers.Granted c → ⊥) → (ask n left s a).2 ≡ s
 unlock_stays n left s a first last good fit named ends act fails =
     (ask_own n left s a good fit.party).refused fails (λ number e. (ask_unlock n left s a first last (answers.Queued number) act fit.party named ends good).0 e)
+    ∙ unheld_noted (way left s a).1 a (ask n left s a).0 (ap asks_to_hold act)
     ∙ ap (λ (w : List Effect × CoreState). w.1) (ask_way_none left s a (ap asked_whats act))
 
 pub unheld_bytes : (n : ℕ) (left : Rooms) (s : CoreState) (a : Ask) (first last : ℕ) → IsGood s → IsFit a → is_named a.owner ≡ true → first ≤ last → a.act ≡ acts.Unlock (Bytes first last) → (ask n left s a).0 ≡ answers.NotHeld

@@ -1,8 +1,8 @@
 -- Each answer of an ask is given exactly where its cause stands.
-use Rattle.std.proofs.Common.{◌≡◌, ℕ, ◌+◌, ◌≤◌, Bool, true, false, not, if◌then◌else◌, ◌&&◌, nat_le, leb, max, ◌⊎◌, inl, inr, List, [], ◌∷◌, length, Option, Some, None, option_map, refl, sym, ap, subst, ◌∙◌, ◌↔◌, arith, map, is_some}
+use Rattle.std.proofs.Common.{◌≡◌, ℕ, ◌+◌, ◌≤◌, Bool, true, false, not, if◌then◌else◌, ◌&&◌, nat_le, leb, max, ◌⊎◌, inl, inr, List, [], ◌∷◌, length, Option, Some, None, option_map, refl, sym, ap, subst, ◌∙◌, ◌↔◌, arith, map, is_some, ◌||◌}
 use Rattle.std.specs.List.{filter, list_any, AllByRecursion}
 use Rattle.std.proofs.lemmas.Bool.Decides.{nat_tests}
-use Rattle.std.proofs.lemmas.Bool.{cases_Bool, both_ways, and_from, and_right, or_parts, leb-true, le-leb, lt-leb, leb-false, and_parts}
+use Rattle.std.proofs.lemmas.Bool.{cases_Bool, both_ways, and_from, and_right, or_parts, or_left, or_right, leb-true, le-leb, lt-leb, leb-false, and_parts}
 use Rattle.xl_base.specs.Lists.{IsIn}
 use Rattle.xl_base.proofs.Members.{in_filter_from}
 use Rattle.xl_matrix.specs.declared.claim.CacheKind.{CacheKind}
@@ -26,10 +26,10 @@ use Rattle.xl_wait.specs.declared.waiter.Waiter.{Waiter}
 use Rattle.xl_core.specs.State.{CoreState}
 use Rattle.xl_core.specs.Askers.{both_entered, asked_whats, alone, asked_what, asked_claim, asked_claims, known_claim, is_client, is_named, may_hold, may_ask, IsFitAct, IsFit, IsOrdered, AreMore, may_hold_all, range_what, known_owner}
 use Rattle.xl_core.specs.Blockers.{test_blockers, blockers, is_stopped, cache_against}
-use Rattle.xl_core.specs.Causes.{limits_of_grant, limits_of_wait, may_wait, IsClaimDue, stands_against, IsTestDue, HasNoByte, HasByte, left_by_unlock, IsUnlockDue, IsElementDue, IsEachBehind, IsEachDue, IsWishBy, IsWishDue}
-use Rattle.xl_core.specs.Decide.{Answered, plea_of, answered, claims_asked, test_answered, tested, unlocked_claims, unlocked_bytes, unlocked, wish_by, wish_asked, acted, decided, unlocked_one, freed}
+use Rattle.xl_core.specs.Causes.{limits_of_grant, limits_of_wait, may_wait, IsWaiting, IsFree, IsAgainst, wanted, IsClaimDue, stands_against, IsTestDue, HasNoByte, HasByte, left_by_unlock, IsUnlockDue, IsElementDue, IsEachBehind, IsEachDue, last_answer, IsWishBy, IsWishDue}
+use Rattle.xl_core.specs.Decide.{Answered, beside_of, plea_of, answered, claims_asked, test_answered, tested_by, tested, unlocked_claims, unlocked_bytes, unlocked, wish_by, wish_graced, wish_asked, acted, decided, unlocked_one, freed}
 use Rattle.xl_core.specs.Good.{IsGood}
-use Rattle.xl_core.specs.Judge.{Ruled, judged, followed, stopped, check_held, kept_off, check_caches, full, check_room, held_with, waits, does_wait, at_once, or_else, first_stop}
+use Rattle.xl_core.specs.Judge.{Ruled, judged, graced, first_of, least_beside, reclaim_blocker, blocks_beside, blocks_its_cache, held_then, followed, stopped, check_held, kept_off, check_caches, full, check_room, held_with, waits, does_wait, at_once, or_else, first_stop}
 use Rattle.xl_core.specs.Limits.{first_passed, IsRoom, grant_limits, wish_limits}
 use Rattle.xl_core.specs.declared.ask.Act.{Act}
 use Rattle.xl_core.specs.declared.ask.Act.TheVariants.{Share, Ranges, Test, Unlock, Wish}
@@ -37,11 +37,16 @@ use Rattle.xl_core.specs.declared.ask.Answer.{Answer}
 use Rattle.xl_core.specs.declared.ask.Answer.TheVariants as answers
 use Rattle.xl_core.specs.declared.ask.Ask.{Ask}
 use Rattle.xl_core.specs.declared.ask.Who.{Who}
-use Rattle.xl_table.proofs.LeastLaws.{least_in, least_none, least_empty}
+use Rattle.xl_table.proofs.LeastLaws.{least_in, least_none, least_empty, none_passes}
 use Rattle.xl_core.proofs.DecideLaws.{blockers_none, none_blockers, blockers_some, some_stops, some_blocks, stops_some, cache_some, cache_blocked, free_unless, free_moves, free_clear, moves_cache}
 use Rattle.xl_core.proofs.KnownLaws.{known_posix}
 use Rattle.xl_core.proofs.LimitLaws.{IsFound, grant_found, wait_found, grant_least, wait_least, wish_found, wish_least}
-use Rattle.xl_core.proofs.RowLaws.{ruled_by, least_blocker, late, judged_stopped, judged_kept_off, judged_is, judged_row}
+use Rattle.xl_core.proofs.RowLaws.{ruled_by, reclaimed_by, least_blocker, ended, ended_by, judged_graced, judged_stopped, judged_kept_off, judged_conflicts, judged_is, judged_back, judged_row}
+use Rattle.xl_core.proofs.StandingLaws.{enters_cases, timely_asks, late_asks, alone_goes, late}
+use Rattle.xl_core.specs.Standings.{recorded_as, is_smb, standing, stands, stands_alone, refusal, enters}
+use Rattle.xl_core.specs.Stores.{may_record, bytes_with}
+use Rattle.xl_core.specs.declared.standings.Standing.{Standing}
+use Rattle.xl_core.specs.declared.standings.Standing.TheVariants.{Timely, Reclaims, Stays, Early, Late, Unrecorded}
 use Rattle.xl_matrix.specs.Owners.{posix}
 use Rattle.xl_core.specs.declared.judge.Ruling.{Ruling}
 use Rattle.xl_core.specs.declared.judge.Ruling.TheVariants.{Gets, Waits, Told}
@@ -75,42 +80,84 @@ unfolding decided claims_asked
 lock_is n left s a what e =
     by_act n left s a a.act what e ∙ ap (λ (asked : List What). claims_asked n left s a (asked_claims a asked s.names)) (same_list what (asked_whats a.act) e)
 
-lock_late : (n : ℕ) (left : Rooms) (s : CoreState) (a : Ask) (claim : Claim) → a.reclaim ≡ true → ruled a claim (judged n s.waiters left (plea_of left s a) (claim ∷ []) s) ≡ (answers.NoGrace s.clock, [], s)
-unfolding plea_of
-lock_late n left s a claim e = ap (ruled a claim) (late n s.waiters left (plea_of left s a) (claim ∷ []) s e)
+-- what one is told whose wait passes this limit, or none
+abbrev told_wait : CoreState → Option ℕ → Answer
+told_wait s None = answers.Queued (s.counter + 1)
+told_wait s (Some limit) = answers.Full limit
 
--- what a timely ask is told, by the least that blocks it for good, the cache that keeps it off, and the least limits that its
--- grant and its wait pass
-abbrev told_by : CoreState → Ask → Claim → Option Claim → Option Claim → Option ℕ → Bool → Bool → Option ℕ → Answer
-told_by s a claim (Some c) cache grant true awaiting (Some limit) = answers.Full limit
-told_by s a claim (Some c) cache grant true awaiting None = answers.Queued (s.counter + 1)
-told_by s a claim (Some c) cache grant false awaiting wait = answers.Conflict c
-told_by s a claim None (Some c) grant blocking true (Some limit) = answers.Full limit
-told_by s a claim None (Some c) grant blocking true None = answers.Queued (s.counter + 1)
-told_by s a claim None (Some c) grant blocking false wait = answers.Recall c
-told_by s a claim None None (Some limit) blocking awaiting wait = answers.Full limit
-told_by s a claim None None None blocking awaiting wait = answers.Granted claim
+-- what a timely ask is told, by the least that blocks it for good, the cache that keeps it off, the least limits that its
+-- grant and its wait pass, and whether its client is recorded or can be
+abbrev told_by : CoreState → Ask → Claim → Option Claim → Option Claim → Option ℕ → Bool → Bool → Option ℕ → Bool → Answer
+told_by s a claim (Some c) cache grant true awaiting wait may = told_wait s wait
+told_by s a claim (Some c) cache grant false awaiting wait may = answers.Conflict c
+told_by s a claim None (Some c) grant blocking true wait may = told_wait s wait
+told_by s a claim None (Some c) grant blocking false wait may = answers.Recall c
+told_by s a claim None None (Some limit) blocking awaiting wait may = answers.Full limit
+told_by s a claim None None None blocking awaiting wait may = last_answer may claim
+
+-- and a reclaim, by what blocks it
+abbrev told_back : Claim → Option Claim → Option ℕ → Bool → Answer
+told_back claim (Some c) grant may = answers.Conflict c
+told_back claim None (Some limit) may = answers.Full limit
+told_back claim None None may = last_answer may claim
 
 -- what is looked at
-abbrev told_now : Rooms → CoreState → Ask → Claim → Answer
-told_now left s a claim =
-    told_by s a claim (least_blocker s.waiters s claim) (cache_against s.claims claim) (first_passed (limits_of_grant left s a claim)) a.blocking a.awaits (first_passed (limits_of_wait left s a))
+abbrev told_timely : ℕ → Rooms → CoreState → Ask → Claim → Answer
+told_timely n left s a claim =
+    told_by s a claim (least_blocker s.waiters s claim) (cache_against s.claims claim) (first_passed (limits_of_grant left s a claim)) a.blocking a.awaits (first_passed (limits_of_wait left s a)) (may_record n s (wanted s a))
 
-lock_timely : (n : ℕ) (left : Rooms) (s : CoreState) (a : Ask) (claim : Claim) → a.reclaim ≡ false → (ruled a claim (judged n s.waiters left (plea_of left s a) (claim ∷ []) s)).0 ≡ told_now left s a claim
+abbrev told_reclaim : ℕ → Rooms → CoreState → Ask → Claim → Answer
+told_reclaim n left s a claim = told_back claim (reclaim_blocker (beside_of a.reclaim a.wish) claim s) (first_passed (limits_of_grant left s a claim)) (may_record n s (wanted s a))
+
+abbrev told_standing : ℕ → Rooms → CoreState → Ask → Claim → Standing → Answer
+told_standing n left s a claim Timely = told_timely n left s a claim
+told_standing n left s a claim Reclaims = told_reclaim n left s a claim
+told_standing n left s a claim Stays = told_wait s (first_passed (limits_of_wait left s a))
+told_standing n left s a claim (Early until) = answers.Grace until
+told_standing n left s a claim (Late clock) = answers.NoGrace clock
+told_standing n left s a claim Unrecorded = answers.NotRecorded
+
+waits_told : (s : CoreState) (a : Ask) (claim : Claim) (o : Option ℕ) → (ruled a claim (waits o, [], s)).0 ≡ told_wait s o
+waits_told s a claim None = refl
+waits_told s a claim (Some limit) = refl
+
+ended_told : (n : ℕ) (p : Plea) (s : CoreState) (a : Ask) (claim : Claim) → (ruled a claim (ended n p (claim ∷ []) s)).0 ≡ last_answer (may_record n s p.unrecorded) claim
+ended_told n p s a claim = by (may_record n s p.unrecorded) refl where
+  by : (b : Bool) → may_record n s p.unrecorded ≡ b → (ruled a claim (ended n p (claim ∷ []) s)).0 ≡ last_answer b claim
+  by true e = ap (λ (r : Ruled). (ruled a claim r).0) (ended_by n p (claim ∷ []) s true e)
+  by false e = ap (λ (r : Ruled). (ruled a claim r).0) (ended_by n p (claim ∷ []) s false e)
+
+lock_told : (n : ℕ) (left : Rooms) (s : CoreState) (a : Ask) (claim : Claim) → (ruled a claim (judged n s.waiters left (plea_of left s a) (claim ∷ []) s)).0 ≡ told_standing n left s a claim (stands s a)
 unfolding plea_of
-lock_timely n left s a claim e =
-    ap (λ (r : Ruled). (ruled a claim r).0) (judged_is n s.waiters left (plea_of left s a) claim s e)
-    ∙ go (least_blocker s.waiters s claim) (cache_against s.claims claim) (first_passed (limits_of_grant left s a claim)) a.blocking a.awaits (first_passed (limits_of_wait left s a)) refl refl refl
-  where
-    go : (o k : Option Claim) (l : Option ℕ) (b u : Bool) (w : Option ℕ) → a.blocking ≡ b → a.awaits ≡ u → first_passed (limits_of_wait left s a) ≡ w → (ruled a claim (ruled_by (plea_of left s a) s claim o k l)).0 ≡ told_by s a claim o k l b u w
-    go (Some c) k l true u (Some limit) e f g = rw (e, g) refl
-    go (Some c) k l true u None e f g = rw (e, g) refl
-    go (Some c) k l false u w e f g = rw e refl
-    go None (Some c) l b true (Some limit) e f g = rw (f, g) refl
-    go None (Some c) l b true None e f g = rw (f, g) refl
-    go None (Some c) l b false w e f g = rw f refl
-    go None None (Some limit) b u w e f g = refl
-    go None None None b u w e f g = refl
+lock_told n left s a claim = by (stands s a) refl where
+  p : Plea
+  p = plea_of left s a
+
+  go : (o k : Option Claim) (l : Option ℕ) (b u : Bool) (w : Option ℕ) → a.blocking ≡ b → a.awaits ≡ u → first_passed (limits_of_wait left s a) ≡ w → (ruled a claim (ruled_by n p s claim o k l)).0 ≡ told_by s a claim o k l b u w (may_record n s (wanted s a))
+  go (Some c) k l true u w e f g = ap (λ (x : Bool). (ruled a claim (if x then waits p.crowded else Told (answers.Conflict c), [], s)).0) e ∙ waits_told s a claim (first_passed (limits_of_wait left s a)) ∙ ap (told_wait s) g
+  go (Some c) k l false u w e f g = ap (λ (x : Bool). (ruled a claim (if x then waits p.crowded else Told (answers.Conflict c), [], s)).0) e
+  go None (Some c) l b true w e f g = ap (λ (x : Bool). (ruled a claim (if x then waits p.crowded else Told (answers.Recall c), [], s)).0) f ∙ waits_told s a claim (first_passed (limits_of_wait left s a)) ∙ ap (told_wait s) g
+  go None (Some c) l b false w e f g = ap (λ (x : Bool). (ruled a claim (if x then waits p.crowded else Told (answers.Recall c), [], s)).0) f
+  go None None (Some limit) b u w e f g = refl
+  go None None None b u w e f g = ended_told n p s a claim
+
+  back : (o : Option Claim) (l : Option ℕ) → (ruled a claim (reclaimed_by n p s claim o l)).0 ≡ told_back claim o l (may_record n s (wanted s a))
+  back (Some c) l = refl
+  back None (Some limit) = refl
+  back None None = ended_told n p s a claim
+
+  graced_told : (r : Ruling) (x : Answer) → graced p (stands s a) ≡ Some r → (ruled a claim (r, [], s)).0 ≡ x → (ruled a claim (judged n s.waiters left p (claim ∷ []) s)).0 ≡ x
+  graced_told r x e f = ap (λ (q : Ruled). (ruled a claim q).0) (judged_graced n s.waiters left p (claim ∷ []) s r e) ∙ f
+
+  by : (standing : Standing) → stands s a ≡ standing → (ruled a claim (judged n s.waiters left p (claim ∷ []) s)).0 ≡ told_standing n left s a claim standing
+  by Timely is =
+      ap (λ (r : Ruled). (ruled a claim r).0) (judged_is n s.waiters left p claim s is)
+      ∙ go (least_blocker s.waiters s claim) (cache_against s.claims claim) (first_passed (limits_of_grant left s a claim)) a.blocking a.awaits (first_passed (limits_of_wait left s a)) refl refl refl
+  by Reclaims is = ap (λ (r : Ruled). (ruled a claim r).0) (judged_back n s.waiters left p claim s is) ∙ back (reclaim_blocker (beside_of a.reclaim a.wish) claim s) (first_passed (limits_of_grant left s a claim))
+  by Stays is = graced_told (waits p.crowded) _ (ap (graced p) is) (waits_told s a claim (first_passed (limits_of_wait left s a)))
+  by (Early until) is = graced_told (Told (answers.Grace until)) _ (ap (graced p) is) refl
+  by (Late clock) is = graced_told (Told (answers.NoGrace clock)) _ (ap (graced p) is) refl
+  by Unrecorded is = graced_told (Told answers.NotRecorded) _ (ap (graced p) is) refl
 
 -- who is stopped for good may wait where it blocks, and who isn't where it awaits answers
 may_stopped : (earlier : List Waiter) (s : CoreState) (a : Ask) (claim : Claim) → is_stopped earlier s claim ≡ true → a.blocking ≡ true → may_wait earlier s a claim ≡ true
@@ -125,105 +172,209 @@ stopped_may earlier s a claim stops may = sym (ap (λ (b : Bool). if b then a.bl
 moves_may : (earlier : List Waiter) (s : CoreState) (a : Ask) (claim : Claim) → is_stopped earlier s claim ≡ false → may_wait earlier s a claim ≡ true → a.awaits ≡ true
 moves_may earlier s a claim moves may = sym (ap (λ (b : Bool). if b then a.blocking else a.awaits) moves) ∙ may
 
-lock_forth : (left : Rooms) (s : CoreState) (a : Ask) (claim : Claim) → a.reclaim ≡ false → IsClaimDue left s a claim (told_now left s a claim)
-lock_forth left s a claim timely =
-    go (least_blocker s.waiters s claim) (cache_against s.claims claim) (first_passed (limits_of_grant left s a claim)) a.blocking a.awaits (first_passed (limits_of_wait left s a)) refl refl refl refl refl refl
-  where
-    go : (o k : Option Claim) (l : Option ℕ) (b u : Bool) (w : Option ℕ) → least_blocker s.waiters s claim ≡ o → cache_against s.claims claim ≡ k → first_passed (limits_of_grant left s a claim) ≡ l → a.blocking ≡ b → a.awaits ≡ u → first_passed (limits_of_wait left s a) ≡ w
-        → IsClaimDue left s a claim (told_by s a claim o k l b u w)
-    go (Some c) k l true u (Some limit) is cache grant may answers wait =
-        (timely, inr (may_stopped s.waiters s a claim (some_stops s.waiters s claim c is) may, some_blocks s.waiters s claim c is, wait_found left a.rows (length s.waiters) (length (both_entered a s.names)) (Some limit) wait))
-    go (Some c) k l true u None is cache grant may answers wait =
-        (refl, timely, may_stopped s.waiters s a claim (some_stops s.waiters s claim c is) may, some_blocks s.waiters s claim c is, wait_found left a.rows (length s.waiters) (length (both_entered a s.names)) None wait)
-    go (Some c) k l false u w is cache grant may answers wait = let held = blockers_some s.waiters s claim c is in (timely, may, is, held.0, held.1)
-    go None (Some c) l b true (Some limit) is cache grant may answers wait =
-        (timely, inr (may_moves s.waiters s a claim (blockers_none s.waiters s claim is) answers, cache_blocked s.claims claim c cache, wait_found left a.rows (length s.waiters) (length (both_entered a s.names)) (Some limit) wait))
-    go None (Some c) l b true None is cache grant may answers wait =
-        (refl, timely, may_moves s.waiters s a claim (blockers_none s.waiters s claim is) answers, cache_blocked s.claims claim c cache, wait_found left a.rows (length s.waiters) (length (both_entered a s.names)) None wait)
-    go None (Some c) l b false w is cache grant may answers wait = let found = cache_some s.claims claim c cache in (timely, answers, blockers_none s.waiters s claim is, cache, found.0, found.1)
-    go None None (Some limit) b u w is cache grant may answers wait =
-        (timely, inl (free_unless s.waiters s claim (blockers_none s.waiters s claim is) cache, grant_found left a.rows (length (granted_claims claim s.claims)) (length (both_entered a s.names)) (Some limit) grant))
-    go None None None b u w is cache grant may answers wait =
-        (refl, timely, free_unless s.waiters s claim (blockers_none s.waiters s claim is) cache, grant_found left a.rows (length (granted_claims claim s.claims)) (length (both_entered a s.names)) None grant)
+-- nothing is asked for beside the claim of one who doesn't reclaim
+none_beside : (a : Ask) (claim : Claim) (cs : List Claim) → a.reclaim ≡ false → list_any (λ c. blocks_its_cache (beside_of a.reclaim a.wish) claim c) cs ≡ false
+none_beside a claim cs e = ap (λ (b : Bool). list_any (λ c. blocks_its_cache (beside_of b a.wish) claim c) cs) e ∙ none cs where
+  none : (cs : List Claim) → list_any (λ c. blocks_its_cache (beside_of false a.wish) claim c) cs ≡ false
+  none [] = refl
+  none (c ∷ cs) = none cs
 
--- a cause of another answer than that a reclaim comes too late brings it
-lock_back : (left : Rooms) (s : CoreState) (a : Ask) (claim : Claim) (answer : Answer) → a.reclaim ≡ false → IsClaimDue left s a claim answer → told_now left s a claim ≡ answer
-lock_back left s a claim answer timely due = go answer due where
-  at : (o k : Option Claim) (l : Option ℕ) (b u : Bool) (w : Option ℕ) → least_blocker s.waiters s claim ≡ o → cache_against s.claims claim ≡ k → first_passed (limits_of_grant left s a claim) ≡ l → a.blocking ≡ b → a.awaits ≡ u → first_passed (limits_of_wait left s a) ≡ w
-      → told_now left s a claim ≡ told_by s a claim o k l b u w
-  at o k l b u w e f g h i j = λ x. told_by s a claim (e x) (f x) (g x) (h x) (i x) (j x)
+timely_free : (s : CoreState) (a : Ask) (claim : Claim) → stands s a ≡ Timely → is_blocked s.claims claim ≡ false → IsFree s a claim
+timely_free s a claim timely free = (free, none_beside a claim s.claims (timely_asks s (recorded_as a.party) (is_smb a.party) a.reclaim timely))
+
+-- what blocks a reclaim, and what doesn't
+pub reclaim_some : (beside : Option CacheKind) (claim c : Claim) (s : CoreState) → reclaim_blocker beside claim s ≡ Some c → IsIn c s.claims × ((blocks claim c || blocks_its_cache beside claim c) ≡ true)
+reclaim_some beside claim c s e = first (least s.names (filter (λ held. blocks claim held) s.claims)) refl e where
+  later : (b : Option CacheKind) → least_beside b claim s ≡ Some c → IsIn c s.claims × ((blocks claim c || blocks_its_cache b claim c) ≡ true)
+  later None e = absurd cc
+  later (Some kind) e =
+      let held = in_filter_from (λ d. blocks_beside kind claim d) c s.claims (least_in s.names (filter (λ d. blocks_beside kind claim d) s.claims) c e) in
+      (held.0, or_right (blocks claim c) (blocks_beside kind claim c) held.1)
+
+  first : (o : Option Claim) → least s.names (filter (λ held. blocks claim held) s.claims) ≡ o → first_of o (least_beside beside claim s) ≡ Some c → IsIn c s.claims × ((blocks claim c || blocks_its_cache beside claim c) ≡ true)
+  first (Some d) is e =
+      let held = in_filter_from (λ d. blocks claim d) c s.claims (least_in s.names (filter (λ d. blocks claim d) s.claims) c (is ∙ e)) in
+      (held.0, or_left (blocks claim c) (blocks_its_cache beside claim c) held.1)
+  first None is e = later beside e
+
+pub reclaim_none : (beside : Option CacheKind) (claim : Claim) (s : CoreState) → reclaim_blocker beside claim s ≡ None → (is_blocked s.claims claim ≡ false) × (list_any (λ c. blocks_its_cache beside claim c) s.claims ≡ false)
+reclaim_none beside claim s e = first (least s.names (filter (λ held. blocks claim held) s.claims)) refl e where
+  nothing : (cs : List Claim) → list_any (λ c. blocks_its_cache None claim c) cs ≡ false
+  nothing [] = refl
+  nothing (c ∷ cs) = nothing cs
+
+  later : (b : Option CacheKind) → least_beside b claim s ≡ None → list_any (λ c. blocks_its_cache b claim c) s.claims ≡ false
+  later None e = nothing s.claims
+  later (Some kind) e = none_passes (λ d. blocks_beside kind claim d) s.claims (least_none s.names (filter (λ d. blocks_beside kind claim d) s.claims) e)
+
+  first : (o : Option Claim) → least s.names (filter (λ held. blocks claim held) s.claims) ≡ o → first_of o (least_beside beside claim s) ≡ None → (is_blocked s.claims claim ≡ false) × (list_any (λ c. blocks_its_cache beside claim c) s.claims ≡ false)
+  first (Some d) is e = absurd cc
+  first None is e = (none_passes (λ d. blocks claim d) s.claims (least_none s.names (filter (λ held. blocks claim held) s.claims) is), later beside e)
+
+none_filtered : (p : Claim → Bool) (cs : List Claim) → list_any p cs ≡ false → filter p cs ≡ []
+none_filtered p [] e = refl
+none_filtered p (c ∷ cs) e = let parts = or_parts (p c) (list_any p cs) e in rw parts.0 (none_filtered p cs parts.1)
+
+pub none_reclaim : (beside : Option CacheKind) (claim : Claim) (s : CoreState) → is_blocked s.claims claim ≡ false → list_any (λ c. blocks_its_cache beside claim c) s.claims ≡ false → reclaim_blocker beside claim s ≡ None
+none_reclaim beside claim s free clear =
+    ap (λ (o : Option Claim). first_of o (least_beside beside claim s)) (least_empty s.names (filter (λ held. blocks claim held) s.claims) (none_filtered (λ held. blocks claim held) s.claims free)) ∙ by beside clear
+  where
+    by : (b : Option CacheKind) → list_any (λ c. blocks_its_cache b claim c) s.claims ≡ false → least_beside b claim s ≡ None
+    by None e = refl
+    by (Some kind) e = least_empty s.names (filter (λ d. blocks_beside kind claim d) s.claims) (none_filtered (λ d. blocks_beside kind claim d) s.claims e)
+
+lock_forth : (n : ℕ) (left : Rooms) (s : CoreState) (a : Ask) (claim : Claim) → IsClaimDue n left s a claim (told_standing n left s a claim (stands s a))
+lock_forth n left s a claim = by (stands s a) refl where
+  kept : ℕ
+  kept = length (both_entered a s.names)
+
+  held : ℕ
+  held = held_then (beside_of a.reclaim a.wish) claim s.claims
+
+  bytes : ℕ
+  bytes = bytes_with (wanted s a) s.stable
+
+  waiting : (w : Option ℕ) → IsWaiting (stands s a) s.waiters s a claim → first_passed (limits_of_wait left s a) ≡ w → IsClaimDue n left s a claim (told_wait s w)
+  waiting None may wait = (refl, may, wait_found left a.rows (length s.waiters) kept None wait)
+  waiting (Some limit) may wait = inr (may, wait_found left a.rows (length s.waiters) kept (Some limit) wait)
+
+  last : (b : Bool) → enters (stands s a) ≡ true → IsFree s a claim → first_passed (limits_of_grant left s a claim) ≡ None → may_record n s (wanted s a) ≡ b → IsClaimDue n left s a claim (last_answer b claim)
+  last true in_time free grant may = (refl, in_time, free, grant_found left a.rows held bytes kept None grant, may)
+  last false in_time free grant may = (in_time, free, grant_found left a.rows held bytes kept None grant, may)
+
+  may_wait_so : stands s a ≡ Timely → may_wait s.waiters s a claim ≡ true → is_blocked s.claims claim ≡ true → IsWaiting (stands s a) s.waiters s a claim
+  may_wait_so timely may blocked = subst (λ (st : Standing). IsWaiting st s.waiters s a claim) (sym timely) (may, blocked)
+
+  go : stands s a ≡ Timely → (o k : Option Claim) (l : Option ℕ) (b u : Bool) → least_blocker s.waiters s claim ≡ o → cache_against s.claims claim ≡ k → first_passed (limits_of_grant left s a claim) ≡ l → a.blocking ≡ b → a.awaits ≡ u
+      → IsClaimDue n left s a claim (told_by s a claim o k l b u (first_passed (limits_of_wait left s a)) (may_record n s (wanted s a)))
+  go timely (Some c) k l true u is cache grant may answers =
+      waiting (first_passed (limits_of_wait left s a)) (may_wait_so timely (may_stopped s.waiters s a claim (some_stops s.waiters s claim c is) may) (some_blocks s.waiters s claim c is)) refl
+  go timely (Some c) k l false u is cache grant may answers = let found = blockers_some s.waiters s claim c is in subst (λ (st : Standing). IsAgainst st s a claim c) (sym timely) (may, is, found.0, found.1)
+  go timely None (Some c) l b true is cache grant may answers =
+      waiting (first_passed (limits_of_wait left s a)) (may_wait_so timely (may_moves s.waiters s a claim (blockers_none s.waiters s claim is) answers) (cache_blocked s.claims claim c cache)) refl
+  go timely None (Some c) l b false is cache grant may answers = let found = cache_some s.claims claim c cache in (timely, answers, blockers_none s.waiters s claim is, cache, found.0, found.1)
+  go timely None None (Some limit) b u is cache grant may answers =
+      inl (ap enters timely, timely_free s a claim timely (free_unless s.waiters s claim (blockers_none s.waiters s claim is) cache), grant_found left a.rows held bytes kept (Some limit) grant)
+  go timely None None None b u is cache grant may answers =
+      last (may_record n s (wanted s a)) (ap enters timely) (timely_free s a claim timely (free_unless s.waiters s claim (blockers_none s.waiters s claim is) cache)) grant refl
+
+  back : stands s a ≡ Reclaims → (o : Option Claim) (l : Option ℕ) → reclaim_blocker (beside_of a.reclaim a.wish) claim s ≡ o → first_passed (limits_of_grant left s a claim) ≡ l → IsClaimDue n left s a claim (told_back claim o l (may_record n s (wanted s a)))
+  back is (Some c) l e grant = let found = reclaim_some (beside_of a.reclaim a.wish) claim c s e in subst (λ (st : Standing). IsAgainst st s a claim c) (sym is) (e, found.0, found.1)
+  back is None (Some limit) e grant = inl (ap enters is, reclaim_none (beside_of a.reclaim a.wish) claim s e, grant_found left a.rows held bytes kept (Some limit) grant)
+  back is None None e grant = last (may_record n s (wanted s a)) (ap enters is) (reclaim_none (beside_of a.reclaim a.wish) claim s e) grant refl
+
+  by : (standing : Standing) → stands s a ≡ standing → IsClaimDue n left s a claim (told_standing n left s a claim standing)
+  by Timely is = go is (least_blocker s.waiters s claim) (cache_against s.claims claim) (first_passed (limits_of_grant left s a claim)) a.blocking a.awaits refl refl refl refl refl
+  by Reclaims is = back is (reclaim_blocker (beside_of a.reclaim a.wish) claim s) (first_passed (limits_of_grant left s a claim)) refl refl
+  by Stays is = waiting (first_passed (limits_of_wait left s a)) (subst (λ (st : Standing). IsWaiting st s.waiters s a claim) (sym is) tt) refl
+  by (Early until) is = is
+  by (Late clock) is = late_asks s (recorded_as a.party) (is_smb a.party) a.reclaim clock is
+  by Unrecorded is = is
+
+-- a reclaim out of grace comes too late
+pub stands_late : (s : CoreState) (a : Ask) (stays : Bool) → s.grace ≡ None → a.reclaim ≡ true → standing s (recorded_as a.party) stays a.reclaim ≡ Late s.clock
+stands_late s a stays none reclaim = ap (standing s (recorded_as a.party) stays) reclaim ∙ late s (recorded_as a.party) stays none
+
+-- a cause brings its answer
+lock_back : (n : ℕ) (left : Rooms) (s : CoreState) (a : Ask) (claim : Claim) (answer : Answer) → IsClaimDue n left s a claim answer → told_standing n left s a claim (stands s a) ≡ answer
+lock_back n left s a claim answer due = go answer due where
+  kept : ℕ
+  kept = length (both_entered a s.names)
+
+  held : ℕ
+  held = held_then (beside_of a.reclaim a.wish) claim s.claims
+
+  bytes : ℕ
+  bytes = bytes_with (wanted s a) s.stable
+
+  so : (standing : Standing) → stands s a ≡ standing → told_standing n left s a claim (stands s a) ≡ told_standing n left s a claim standing
+  so standing is = ap (told_standing n left s a claim) is
+
+  at : (o k : Option Claim) (l : Option ℕ) (b u : Bool) (w : Option ℕ) (m : Bool) → stands s a ≡ Timely → least_blocker s.waiters s claim ≡ o → cache_against s.claims claim ≡ k → first_passed (limits_of_grant left s a claim) ≡ l → a.blocking ≡ b → a.awaits ≡ u → first_passed (limits_of_wait left s a) ≡ w → may_record n s (wanted s a) ≡ m
+      → told_standing n left s a claim (stands s a) ≡ told_by s a claim o k l b u w m
+  at o k l b u w m timely e f g h i j y = so Timely timely ∙ (λ x. told_by s a claim (e x) (f x) (g x) (h x) (i x) (j x) (y x))
+
+  back : (o : Option Claim) (l : Option ℕ) (m : Bool) → stands s a ≡ Reclaims → reclaim_blocker (beside_of a.reclaim a.wish) claim s ≡ o → first_passed (limits_of_grant left s a claim) ≡ l → may_record n s (wanted s a) ≡ m → told_standing n left s a claim (stands s a) ≡ told_back claim o l m
+  back o l m is e f y = so Reclaims is ∙ (λ x. told_back claim (e x) (f x) (y x))
 
   clear : is_blocked s.claims claim ≡ false → (least_blocker s.waiters s claim ≡ None) × (cache_against s.claims claim ≡ None)
   clear free = (none_blockers s.waiters s claim (free_moves s.waiters s claim free), free_clear s.claims claim free)
 
-  told_wait : Option ℕ → Answer
-  told_wait None = answers.Queued (s.counter + 1)
-  told_wait (Some l) = answers.Full l
+  told_last : Option ℕ → Bool → Answer
+  told_last None m = last_answer m claim
+  told_last (Some limit) m = answers.Full limit
 
-  -- who waits, by what it waits for
-  waits : (limit : Option ℕ) → may_wait s.waiters s a claim ≡ true → is_blocked s.claims claim ≡ true → first_passed (limits_of_wait left s a) ≡ limit → told_now left s a claim ≡ told_wait limit
-  waits limit may blocked is = by (is_stopped s.waiters s claim) refl where
-    stopped_so : (c : Claim) (o : Option ℕ) → told_by s a claim (Some c) (cache_against s.claims claim) (first_passed (limits_of_grant left s a claim)) true a.awaits o ≡ told_wait o
-    stopped_so c None = refl
-    stopped_so c (Some l) = refl
+  -- what nothing blocks
+  unblocked : (l : Option ℕ) (m : Bool) → enters (stands s a) ≡ true → IsFree s a claim → first_passed (limits_of_grant left s a claim) ≡ l → may_record n s (wanted s a) ≡ m → told_standing n left s a claim (stands s a) ≡ told_last l m
+  unblocked l m in_time free grant may = elim (enters_cases (stands s a) in_time) [
+    | inl timely ↦ let none = clear free.0 in at None None l _ _ _ m timely none.0 none.1 grant refl refl refl may ∙ timely_last l
+    | inr is ↦ back None l m is (none_reclaim (beside_of a.reclaim a.wish) claim s free.0 free.1) grant may ∙ back_last l
+  ]
+    where
+      timely_last : (l : Option ℕ) → told_by s a claim None None l a.blocking a.awaits (first_passed (limits_of_wait left s a)) m ≡ told_last l m
+      timely_last None = refl
+      timely_last (Some limit) = refl
 
-    kept_so : (c : Claim) (o : Option ℕ) → told_by s a claim None (Some c) (first_passed (limits_of_grant left s a claim)) a.blocking true o ≡ told_wait o
-    kept_so c None = refl
-    kept_so c (Some l) = refl
+      back_last : (l : Option ℕ) → told_back claim None l m ≡ told_last l m
+      back_last None = refl
+      back_last (Some limit) = refl
 
-    by : (b : Bool) → is_stopped s.waiters s claim ≡ b → told_now left s a claim ≡ told_wait limit
-    by true stops = let found = stops_some s.waiters s claim stops in at (Some found.0) _ _ true _ limit found.1 refl refl (stopped_may s.waiters s a claim stops may) refl is ∙ stopped_so found.0 limit
-    by false moves = let found = moves_cache s.waiters s claim blocked moves in at None (Some found.0) _ _ true limit (none_blockers s.waiters s claim moves) found.1 refl refl (moves_may s.waiters s a claim moves may) is ∙ kept_so found.0 limit
+  -- who waits for what is in its way
+  held_up : (limit : Option ℕ) → stands s a ≡ Timely → may_wait s.waiters s a claim ≡ true → is_blocked s.claims claim ≡ true → first_passed (limits_of_wait left s a) ≡ limit → told_standing n left s a claim (stands s a) ≡ told_wait s limit
+  held_up limit timely may blocked is = by (is_stopped s.waiters s claim) refl where
+    by : (b : Bool) → is_stopped s.waiters s claim ≡ b → told_standing n left s a claim (stands s a) ≡ told_wait s limit
+    by true stops = let found = stops_some s.waiters s claim stops in at (Some found.0) _ _ true _ limit _ timely found.1 refl refl (stopped_may s.waiters s a claim stops may) refl is refl
+    by false moves = let found = moves_cache s.waiters s claim blocked moves in at None (Some found.0) _ _ true limit _ timely (none_blockers s.waiters s claim moves) found.1 refl refl (moves_may s.waiters s a claim moves may) is refl
 
-  go : (x : Answer) → IsClaimDue left s a claim x → told_now left s a claim ≡ x
-  go (answers.Granted c) due = let none = clear due.2 in at None None None _ _ _ none.0 none.1 (grant_least left a.rows (length (granted_claims claim s.claims)) (length (both_entered a s.names)) None due.3) refl refl refl ∙ ap answers.Granted (sym due.0)
-  go (answers.Conflict c) due = at (Some c) _ _ false _ _ due.2 refl refl due.1 refl refl
-  go (answers.Recall c) due = at None (Some c) _ _ false _ (none_blockers s.waiters s claim due.2) due.3 refl refl due.1 refl
-  go (answers.Queued number) due = waits None due.2 due.3 (wait_least left a.rows (length s.waiters) (length (both_entered a s.names)) None due.4) ∙ ap answers.Queued (sym due.0)
-  go (answers.NoGrace clock) due = absurd (both_ways a.reclaim timely due.1)
+  -- who waits
+  waits_so : (limit : Option ℕ) → IsWaiting (stands s a) s.waiters s a claim → first_passed (limits_of_wait left s a) ≡ limit → told_standing n left s a claim (stands s a) ≡ told_wait s limit
+  waits_so limit may wait = by (stands s a) refl may where
+    by : (standing : Standing) → stands s a ≡ standing → IsWaiting standing s.waiters s a claim → told_standing n left s a claim (stands s a) ≡ told_wait s limit
+    by Timely is may = held_up limit is may.0 may.1 wait
+    by Stays is may = so Stays is ∙ ap (told_wait s) wait
+    by Reclaims is may = absurd may
+    by (Early until) is may = absurd may
+    by (Late clock) is may = absurd may
+    by Unrecorded is may = absurd may
+
+  against : (c : Claim) → IsAgainst (stands s a) s a claim c → told_standing n left s a claim (stands s a) ≡ answers.Conflict c
+  against c due = by (stands s a) refl due where
+    by : (standing : Standing) → stands s a ≡ standing → IsAgainst standing s a claim c → told_standing n left s a claim (stands s a) ≡ answers.Conflict c
+    by Timely is due = at (Some c) _ _ false _ _ _ is due.1 refl refl due.0 refl refl refl
+    by Reclaims is due = back (Some c) _ _ is due.0 refl refl
+    by Stays is due = absurd due
+    by (Early until) is due = absurd due
+    by (Late clock) is due = absurd due
+    by Unrecorded is due = absurd due
+
+  go : (x : Answer) → IsClaimDue n left s a claim x → told_standing n left s a claim (stands s a) ≡ x
+  go (answers.Granted c) due = unblocked None true due.1 due.2 (grant_least left a.rows held bytes kept None due.3) due.4 ∙ ap answers.Granted (sym due.0)
+  go (answers.Conflict c) due = against c due
+  go (answers.Recall c) due = at None (Some c) _ _ false _ _ due.0 (none_blockers s.waiters s claim due.2) due.3 refl refl due.1 refl refl
+  go (answers.Queued number) due = waits_so None due.1 (wait_least left a.rows (length s.waiters) kept None due.2) ∙ ap answers.Queued (sym due.0)
+  go (answers.NoGrace clock) due = so (Late s.clock) (stands_late s a (is_smb a.party) due.1 due.2) ∙ ap answers.NoGrace (sym due.0)
   go (answers.Full limit) due =
-      elim due.1 [
-        | inl grants ↦ let none = clear grants.0 in at None None (Some limit) _ _ _ none.0 none.1 (grant_least left a.rows (length (granted_claims claim s.claims)) (length (both_entered a s.names)) (Some limit) grants.1) refl refl refl
-        | inr may ↦ waits (Some limit) may.0 may.1 (wait_least left a.rows (length s.waiters) (length (both_entered a s.names)) (Some limit) may.2)
+      elim due [
+        | inl grants ↦ unblocked (Some limit) _ grants.0 grants.1 (grant_least left a.rows held bytes kept (Some limit) grants.2) refl
+        | inr may ↦ waits_so (Some limit) may.0 (wait_least left a.rows (length s.waiters) kept (Some limit) may.1)
       ]
-  go (answers.Grace until) due = absurd due
-  go answers.NotRecorded due = absurd due
+  go (answers.Grace until) due = so (Early until) due
+  go answers.NotRecorded due = so Unrecorded due
   go answers.NotHeld due = absurd due
-  go answers.StoreFailed due = absurd due
-
--- a reclaim has no other cause
-late_back : (left : Rooms) (s : CoreState) (a : Ask) (claim : Claim) (answer : Answer) → a.reclaim ≡ true → IsClaimDue left s a claim answer → answers.NoGrace s.clock ≡ answer
-late_back left s a claim (answers.Granted c) late due = absurd (both_ways a.reclaim due.1 late)
-late_back left s a claim (answers.Conflict c) late due = absurd (both_ways a.reclaim due.0 late)
-late_back left s a claim (answers.Queued number) late due = absurd (both_ways a.reclaim due.1 late)
-late_back left s a claim (answers.NoGrace clock) late due = ap answers.NoGrace (sym due.0)
-late_back left s a claim (answers.Full limit) late due = absurd (both_ways a.reclaim due.0 late)
-late_back left s a claim (answers.Recall c) late due = absurd (both_ways a.reclaim due.0 late)
-late_back left s a claim (answers.Grace until) late due = absurd due
-late_back left s a claim answers.NotRecorded late due = absurd due
-late_back left s a claim answers.NotHeld late due = absurd due
-late_back left s a claim answers.StoreFailed late due = absurd due
+  go answers.StoreFailed due = unblocked None false due.0 due.1 (grant_least left a.rows held bytes kept None due.2) due.3
 
 -- an ask for one claim
-claim_exactly : (n : ℕ) (left : Rooms) (s : CoreState) (a : Ask) (claim : Claim) (r answer : Answer) → r ≡ (ruled a claim (judged n s.waiters left (plea_of left s a) (claim ∷ []) s)).0 → (r ≡ answer) ↔ IsClaimDue left s a claim answer
+claim_exactly : (n : ℕ) (left : Rooms) (s : CoreState) (a : Ask) (claim : Claim) (r answer : Answer) → r ≡ (ruled a claim (judged n s.waiters left (plea_of left s a) (claim ∷ []) s)).0 → (r ≡ answer) ↔ IsClaimDue n left s a claim answer
 claim_exactly n left s a claim r answer is =
-    elim (cases_Bool a.reclaim) [
-      | inl e ↦
-          let told = is ∙ ap first_is (lock_late n left s a claim e) in (
-            λ k. subst (λ (x : Answer). IsClaimDue left s a claim x) (sym told ∙ k) (refl, e),
-            λ due. told ∙ late_back left s a claim answer e due,
-          )
-      | inr e ↦
-          let told = is ∙ lock_timely n left s a claim e in (
-            λ k. subst (λ (x : Answer). IsClaimDue left s a claim x) (sym told ∙ k) (lock_forth left s a claim e),
-            λ due. told ∙ lock_back left s a claim answer e due,
-          )
-    ]
+    let told = is ∙ lock_told n left s a claim in (
+      λ k. subst (λ (x : Answer). IsClaimDue n left s a claim x) (sym told ∙ k) (lock_forth n left s a claim),
+      λ due. told ∙ lock_back n left s a claim answer due,
+    )
 
-claim_due : (n : ℕ) (left : Rooms) (s : CoreState) (a : Ask) (claim : Claim) (r : Answer) → r ≡ (ruled a claim (judged n s.waiters left (plea_of left s a) (claim ∷ []) s)).0 → IsClaimDue left s a claim r
+claim_due : (n : ℕ) (left : Rooms) (s : CoreState) (a : Ask) (claim : Claim) (r : Answer) → r ≡ (ruled a claim (judged n s.waiters left (plea_of left s a) (claim ∷ []) s)).0 → IsClaimDue n left s a claim r
 claim_due n left s a claim r is = (claim_exactly n left s a claim r r is).0 refl
 
-pub lock_due : (n : ℕ) (left : Rooms) (s : CoreState) (a : Ask) (what : What) (answer : Answer) → asked_what a.act ≡ Some what → ((decided n left s a).0 ≡ answer) ↔ IsClaimDue left s a (asked_claim a what s.names) answer
+pub lock_due : (n : ℕ) (left : Rooms) (s : CoreState) (a : Ask) (what : What) (answer : Answer) → asked_what a.act ≡ Some what → ((decided n left s a).0 ≡ answer) ↔ IsClaimDue n left s a (asked_claim a what s.names) answer
 lock_due n left s a what answer act = claim_exactly n left s a (asked_claim a what s.names) (decided n left s a).0 answer (ap first_is (lock_is n left s a what act))
 
 -- ---- why a test is
@@ -265,39 +416,46 @@ test_some s claim c e =
     let held = in_filter_from (λ d. blocks claim d) c s.claims ranges.0 in
     (held.0, and_from (is_range c.what) (blocks claim c) ranges.1 held.1)
 
-test_by : (s : CoreState) (a : Ask) (claim : Claim) (o : Option Claim) → a.reclaim ≡ false → least s.names (test_blockers s claim) ≡ o → tested s a claim ≡ test_answered claim o
+test_at : (s : CoreState) (a : Ask) (claim : Claim) (standing : Standing) → stands_alone s a ≡ standing → tested s a claim ≡ tested_by (refusal standing) s claim
 unfolding tested
-test_by s a claim o e is = ap (λ (b : Bool). if b then answers.NoGrace s.clock else test_answered claim (least s.names (test_blockers s claim))) e ∙ ap (λ (p : Option Claim). test_answered claim p) is
+test_at s a claim standing e = ap (λ (st : Standing). tested_by (refusal st) s claim) e
 
-test_late : (s : CoreState) (a : Ask) (claim : Claim) → a.reclaim ≡ true → tested s a claim ≡ answers.NoGrace s.clock
-unfolding tested
-test_late s a claim e = ap (λ (b : Bool). if b then answers.NoGrace s.clock else test_answered claim (least s.names (test_blockers s claim))) e
+test_by : (s : CoreState) (a : Ask) (claim : Claim) (o : Option Claim) → enters (stands_alone s a) ≡ true → least s.names (test_blockers s claim) ≡ o → tested s a claim ≡ test_answered claim o
+test_by s a claim o e is =
+    elim (enters_cases (stands_alone s a) e) [ inl timely ↦ test_at s a claim Timely timely | inr back ↦ test_at s a claim Reclaims back ] ∙ ap (λ (p : Option Claim). test_answered claim p) is
 
 pub option_cases : (o : Option Claim) → (o ≡ None) ⊎ ((c : Claim) × (o ≡ Some c))
 option_cases None = inl refl
 option_cases (Some c) = inr (c, refl)
 
 test_forth : (s : CoreState) (a : Ask) (claim : Claim) → IsTestDue s a claim (tested s a claim)
-test_forth s a claim =
-    elim (cases_Bool a.reclaim) [
-      | inl e ↦ subst (λ (x : Answer). IsTestDue s a claim x) (sym (test_late s a claim e)) (refl, e)
-      | inr e ↦ elim (option_cases (least s.names (test_blockers s claim))) [
-        | inl none ↦ subst (λ (x : Answer). IsTestDue s a claim x) (sym (test_by s a claim None e none)) (refl, e, test_none s claim none)
-        | inr found ↦
-            let held = test_some s claim found.0 found.1 in
-            subst (λ (x : Answer). IsTestDue s a claim x) (sym (test_by s a claim (Some found.0) e found.1)) (e, found.1, held.0, held.1)
-      ]
-    ]
+test_forth s a claim = by (stands_alone s a) refl where
+  due_at : (x : Answer) → tested s a claim ≡ x → IsTestDue s a claim x → IsTestDue s a claim (tested s a claim)
+  due_at x e due = subst (λ (y : Answer). IsTestDue s a claim y) (sym e) due
+
+  goes : enters (stands_alone s a) ≡ true → IsTestDue s a claim (tested s a claim)
+  goes e = elim (option_cases (least s.names (test_blockers s claim))) [
+    | inl none ↦ due_at (answers.Granted claim) (test_by s a claim None e none) (refl, e, test_none s claim none)
+    | inr found ↦ let held = test_some s claim found.0 found.1 in due_at (answers.Conflict found.0) (test_by s a claim (Some found.0) e found.1) (e, found.1, held.0, held.1)
+  ]
+
+  by : (standing : Standing) → stands_alone s a ≡ standing → IsTestDue s a claim (tested s a claim)
+  by Timely is = goes (ap enters is)
+  by Reclaims is = goes (ap enters is)
+  by Stays is = absurd (alone_goes s (recorded_as a.party) a.reclaim is)
+  by (Early until) is = due_at (answers.Grace until) (test_at s a claim (Early until) is) is
+  by (Late clock) is = due_at (answers.NoGrace clock) (test_at s a claim (Late clock) is) (late_asks s (recorded_as a.party) false a.reclaim clock is)
+  by Unrecorded is = due_at answers.NotRecorded (test_at s a claim Unrecorded is) is
 
 test_back : (s : CoreState) (a : Ask) (claim : Claim) (answer : Answer) → IsTestDue s a claim answer → tested s a claim ≡ answer
 test_back s a claim (answers.Granted c) due = test_by s a claim None due.1 (none_test s claim due.2) ∙ ap answers.Granted (sym due.0)
 test_back s a claim (answers.Conflict c) due = test_by s a claim (Some c) due.0 due.1
-test_back s a claim (answers.NoGrace clock) due = test_late s a claim due.1 ∙ ap answers.NoGrace (sym due.0)
+test_back s a claim (answers.NoGrace clock) due = test_at s a claim (Late s.clock) (stands_late s a false due.1 due.2) ∙ ap answers.NoGrace (sym due.0)
+test_back s a claim (answers.Grace until) due = test_at s a claim (Early until) due
+test_back s a claim answers.NotRecorded due = test_at s a claim Unrecorded due
 test_back s a claim (answers.Queued number) due = absurd due
 test_back s a claim (answers.Full limit) due = absurd due
 test_back s a claim (answers.Recall c) due = absurd due
-test_back s a claim (answers.Grace until) due = absurd due
-test_back s a claim answers.NotRecorded due = absurd due
 test_back s a claim answers.NotHeld due = absurd due
 test_back s a claim answers.StoreFailed due = absurd due
 
@@ -528,22 +686,22 @@ pub real_unlock : (a : Ask) (first last : ℕ) → IsFit a → a.act ≡ Unlock 
 real_unlock a first last fit e = subst (λ (act : Act). IsFitAct a.owner a.blocking act) e fit.act
 
 -- nothing stands against the claim, so it is granted
-pub lock_free : (n : ℕ) (left : Rooms) (s : CoreState) (a : Ask) (what : What) → asked_what a.act ≡ Some what → a.reclaim ≡ false → is_blocked s.claims (asked_claim a what s.names) ≡ false
-    → IsRoom (limits_of_grant left s a (asked_claim a what s.names)) → (decided n left s a).0 ≡ answers.Granted (asked_claim a what s.names)
-lock_free n left s a what act timely free room =
-    (lock_due n left s a what (answers.Granted (asked_claim a what s.names)) act).1 (refl, timely, free, room)
+pub lock_free : (n : ℕ) (left : Rooms) (s : CoreState) (a : Ask) (what : What) → asked_what a.act ≡ Some what → enters (stands s a) ≡ true → IsFree s a (asked_claim a what s.names)
+    → IsRoom (limits_of_grant left s a (asked_claim a what s.names)) → may_record n s (wanted s a) ≡ true → (decided n left s a).0 ≡ answers.Granted (asked_claim a what s.names)
+lock_free n left s a what act in_time free room may =
+    (lock_due n left s a what (answers.Granted (asked_claim a what s.names)) act).1 (refl, in_time, free, room, may)
 
 pub test_leaves : (n : ℕ) (left : Rooms) (s : CoreState) (a : Ask) (extent : Extent) (exclusive : Bool) → a.act ≡ Test extent exclusive → (decided n left s a).2 ≡ s
 test_leaves n left s a extent exclusive act = ap (λ (r : Answered). r.2) (test_is n left s a extent exclusive act)
 
 -- ---- several ranges
 
--- what is told if this stops one of several claims, of which this is the first
-abbrev pub tells : Claim → Option Ruling → Answer → Type 0
-tells first None answer = answer ≡ answers.Granted first
-tells first (Some Gets) answer = Unit {0}
-tells first (Some Waits) answer = Unit {0}
-tells first (Some (Told told)) answer = answer ≡ told
+-- what is told if this stops one of several claims, or the last answer
+abbrev pub tells : Answer → Option Ruling → Answer → Type 0
+tells last None answer = answer ≡ last
+tells last (Some Gets) answer = Unit {0}
+tells last (Some Waits) answer = Unit {0}
+tells last (Some (Told told)) answer = answer ≡ told
 
 -- the first of these isn't waited for
 abbrev IsJudgedNow : List Waiter → Plea → CoreState → List Claim → Type 0
@@ -558,30 +716,33 @@ judged_at_once earlier p s (c ∷ cs) = by (is_blocked s.claims c) (is_stopped e
   by true false = refl
   by false y = refl
 
-all_due : (earlier : List Waiter) (left : Rooms) (p : Plea) (first : Claim) (cs : List Claim) (s : CoreState) (answer : Answer) → IsJudgedNow earlier p s cs → tells first (first_stop earlier left p cs s) answer → IsEachBehind earlier left p.rows p.kept first cs s answer
+all_due : (earlier : List Waiter) (left : Rooms) (p : Plea) (last : Answer) (cs : List Claim) (s : CoreState) (answer : Answer) → p.beside ≡ None → IsJudgedNow earlier p s cs → tells last (first_stop earlier left p cs s) answer → IsEachBehind earlier left p.rows (bytes_with p.unrecorded s.stable) p.kept last cs s answer
 unfolding check_held check_caches check_room held_with
-all_due earlier left p first [] s answer now is = is
-all_due earlier left p first (c ∷ cs) s answer now is = (
+all_due earlier left p last [] s answer alone now is = is
+all_due earlier left p last (c ∷ cs) s answer alone now is = (
   λ d e. conflict d e,
   λ d moves e. recall d moves e,
-  λ limit free least. so None None (Some limit) (none_blockers earlier s c (free_moves earlier s c free)) (free_clear s.claims c free) (grant_least left p.rows (length (granted_claims c s.claims)) p.kept (Some limit) least),
-  λ free room. all_due earlier left (at_once p) first cs (record s { claims = granted_claims c s.claims }) answer (judged_at_once earlier p (record s { claims = granted_claims c s.claims }) cs) (rest free room),
+  λ limit free least. so None None (Some limit) (none_blockers earlier s c (free_moves earlier s c free)) (free_clear s.claims c free) (grant_least left p.rows (length (granted_claims c s.claims)) (bytes_with p.unrecorded s.stable) p.kept (Some limit) least),
+  λ free room. all_due earlier left (at_once p) last cs (record s { claims = granted_claims c s.claims }) answer refl (judged_at_once earlier p (record s { claims = granted_claims c s.claims }) cs) (rest free room),
 )
   where
     limits : List (ℕ × Bool)
-    limits = grant_limits left p.rows (length (granted_claims c s.claims)) p.kept
+    limits = grant_limits left p.rows (length (granted_claims c s.claims)) (bytes_with p.unrecorded s.stable) p.kept
 
     later : Option Ruling
     later = first_stop earlier left (at_once p) cs (record s { claims = granted_claims c s.claims })
 
+    looked_at : first_passed (grant_limits left p.rows (held_then p.beside c s.claims) (bytes_with p.unrecorded s.stable) p.kept) ≡ first_passed limits
+    looked_at = ap (λ (beside : Option CacheKind). first_passed (grant_limits left p.rows (held_then beside c s.claims) (bytes_with p.unrecorded s.stable) p.kept)) alone
+
     stop : Option Claim → Option Claim → Option ℕ → Option Ruling
     stop o k l = or_else (or_else (option_map (stopped p) o) (or_else (option_map (kept_off p) k) (option_map full l))) later
 
-    so : (o k : Option Claim) (l : Option ℕ) → least s.names (blockers earlier s c) ≡ o → cache_against s.claims c ≡ k → first_passed limits ≡ l → tells first (stop o k l) answer
+    so : (o k : Option Claim) (l : Option ℕ) → least s.names (blockers earlier s c) ≡ o → cache_against s.claims c ≡ k → first_passed limits ≡ l → tells last (stop o k l) answer
     so o k l e f g =
-        subst (λ (x : Option Claim). tells first (stop x k l) answer) e
-        (subst (λ (y : Option Claim). tells first (stop (least s.names (blockers earlier s c)) y l) answer) f
-        (subst (λ (z : Option ℕ). tells first (stop (least s.names (blockers earlier s c)) (cache_against s.claims c) z) answer) g is))
+        subst (λ (x : Option Claim). tells last (stop x k l) answer) e
+        (subst (λ (y : Option Claim). tells last (stop (least s.names (blockers earlier s c)) y l) answer) f
+        (subst (λ (z : Option ℕ). tells last (stop (least s.names (blockers earlier s c)) (cache_against s.claims c) z) answer) (looked_at ∙ g) is))
 
     hurries_so : (x y z u : Bool) → x ≡ true → y ≡ true → (x && (if y then z else u)) ≡ false → z ≡ false
     hurries_so x y z u e f g = rw (e, f) at g
@@ -592,96 +753,164 @@ all_due earlier left p first (c ∷ cs) s answer now is = (
     conflict : (d : Claim) → least s.names (blockers earlier s c) ≡ Some d → answer ≡ answers.Conflict d
     conflict d e =
         let hurries : p.blocking ≡ false = hurries_so (is_blocked s.claims c) (is_stopped earlier s c) p.blocking p.awaits (some_blocks earlier s c d e) (some_stops earlier s c d e) now in
-        subst (λ (b : Bool). tells first (Some (if b then waits p.crowded else Told (answers.Conflict d))) answer) hurries (so (Some d) (cache_against s.claims c) (first_passed limits) e refl refl)
+        subst (λ (b : Bool). tells last (Some (if b then waits p.crowded else Told (answers.Conflict d))) answer) hurries (so (Some d) (cache_against s.claims c) (first_passed limits) e refl refl)
 
     recall : (d : Claim) → is_stopped earlier s c ≡ false → cache_against s.claims c ≡ Some d → answer ≡ answers.Recall d
     recall d moves e =
         let hurries : p.awaits ≡ false = moves_so (is_blocked s.claims c) (is_stopped earlier s c) p.blocking p.awaits (cache_blocked s.claims c d e) moves now in
-        subst (λ (b : Bool). tells first (Some (if b then waits p.crowded else Told (answers.Recall d))) answer) hurries (so None (Some d) (first_passed limits) (none_blockers earlier s c moves) e refl)
+        subst (λ (b : Bool). tells last (Some (if b then waits p.crowded else Told (answers.Recall d))) answer) hurries (so None (Some d) (first_passed limits) (none_blockers earlier s c moves) e refl)
 
-    rest : is_blocked s.claims c ≡ false → IsRoom limits → tells first later answer
-    rest free room = so None None None (none_blockers earlier s c (free_moves earlier s c free)) (free_clear s.claims c free) (grant_least left p.rows (length (granted_claims c s.claims)) p.kept None room)
+    rest : is_blocked s.claims c ≡ false → IsRoom limits → tells last later answer
+    rest free room = so None None None (none_blockers earlier s c (free_moves earlier s c free)) (free_clear s.claims c free) (grant_least left p.rows (length (granted_claims c s.claims)) (bytes_with p.unrecorded s.stable) p.kept None room)
 
 -- each of these is judged beside those before it, where the first isn't waited for
-pub row_due : (earlier : List Waiter) (left : Rooms) (p : Plea) (first : Claim) (cs : List Claim) (s : CoreState) (answer : Answer) (c : Claim) (rest : List Claim) → cs ≡ c ∷ rest → does_wait earlier p s c ≡ false → tells first (first_stop earlier left p cs s) answer → IsEachBehind earlier left p.rows p.kept first cs s answer
-row_due earlier left p first cs s answer c rest e now is = all_due earlier left p first cs s answer (subst (λ (ds : List Claim). IsJudgedNow earlier p s ds) (sym e) now) is
+pub row_due : (earlier : List Waiter) (left : Rooms) (p : Plea) (last : Answer) (cs : List Claim) (s : CoreState) (answer : Answer) (c : Claim) (rest : List Claim) → cs ≡ c ∷ rest → p.beside ≡ None → does_wait earlier p s c ≡ false → tells last (first_stop earlier left p cs s) answer → IsEachBehind earlier left p.rows (bytes_with p.unrecorded s.stable) p.kept last cs s answer
+row_due earlier left p last cs s answer c rest e alone now is = all_due earlier left p last cs s answer alone (subst (λ (ds : List Claim). IsJudgedNow earlier p s ds) (sym e) now) is
 
 pub ranges_asked : (n : ℕ) (left : Rooms) (s : CoreState) (a : Ask) (ranges : List (Extent × Bool)) → a.act ≡ Ranges ranges → decided n left s a ≡ claims_asked n left s a (asked_claims a (map range_what ranges) s.names)
 unfolding decided
 ranges_asked n left s a ranges e = ap (λ (act : Act). acted n left s a act) e
 
--- the first is told so where something blocks it, whatever is asked for behind it
-pub first_due : (n : ℕ) (left : Rooms) (s : CoreState) (a : Ask) (c : Claim) (cs : List Claim) (r : Answered) → is_blocked s.claims c ≡ true → r ≡ claims_asked n left s a (c ∷ cs) → IsClaimDue left s a c r.0
-unfolding claims_asked plea_of
-first_due n left s a c cs r blocked is = subst (λ (x : Answer). IsClaimDue left s a c x) (sym (ap first_is (is ∙ (λ i. let x = same i in answered a (c ∷ cs) c x.0 x.1 x.2)) ∙ told)) due where
+-- what is answered isn't a grant of the last claim, so it is the same for one claim
+same_told : (a : Ask) (c : Claim) (cs : List Claim) (r : Ruled) → (answered a (c ∷ cs) c r.0 r.1 r.2).0 ≡ (ruled a c r).0
+same_told a c cs r = by r.0 where
+  by : (ruling : Ruling) → (answered a (c ∷ cs) c ruling r.1 r.2).0 ≡ (ruled a c (ruling, r.1, r.2)).0
+  by Gets = refl
+  by Waits = refl
+  by (Told x) = refl
+
+-- several are answered as one is where the first is ruled as it is alone
+as_one : (n : ℕ) (left : Rooms) (s : CoreState) (a : Ask) (c : Claim) (cs : List Claim) (r : Answered) → judged n s.waiters left (plea_of left s a) (c ∷ cs) s ≡ judged n s.waiters left (plea_of left s a) (c ∷ []) s → r ≡ claims_asked n left s a (c ∷ cs) → IsClaimDue n left s a c r.0
+unfolding claims_asked
+as_one n left s a c cs r same is =
+    claim_due n left s a c r.0 (ap first_is is ∙ ap (λ (x : Ruled). (answered a (c ∷ cs) c x.0 x.1 x.2).0) same ∙ same_told a c cs (judged n s.waiters left (plea_of left s a) (c ∷ []) s))
+
+pleads : (left : Rooms) (s : CoreState) (a : Ask) → ((plea_of left s a).standing ≡ stands s a) × ((plea_of left s a).beside ≡ beside_of a.reclaim a.wish)
+unfolding plea_of
+pleads left s a = (refl, refl)
+
+-- whom grace stops is told the same, whatever is asked for
+pub graced_due : (n : ℕ) (left : Rooms) (s : CoreState) (a : Ask) (c : Claim) (cs : List Claim) (r : Answered) → enters (stands s a) ≡ false → r ≡ claims_asked n left s a (c ∷ cs) → IsClaimDue n left s a c r.0
+graced_due n left s a c cs r out is = as_one n left s a c cs r (by p.standing refl) is where
   p : Plea
   p = plea_of left s a
 
-  alone : Ruled
-  alone = judged n s.waiters left p (c ∷ []) s
+  stops : (ruling : Ruling) → graced p p.standing ≡ Some ruling → judged n s.waiters left p (c ∷ cs) s ≡ judged n s.waiters left p (c ∷ []) s
+  stops ruling e = judged_graced n s.waiters left p (c ∷ cs) s ruling e ∙ sym (judged_graced n s.waiters left p (c ∷ []) s ruling e)
 
-  same : judged n s.waiters left p (c ∷ cs) s ≡ alone
-  same = elim (cases_Bool a.reclaim) [ inl late_one ↦ late n s.waiters left p (c ∷ cs) s late_one ∙ sym (late n s.waiters left p (c ∷ []) s late_one) | inr timely ↦ by timely (is_stopped s.waiters s c) refl ] where
-    by : a.reclaim ≡ false → (b : Bool) → is_stopped s.waiters s c ≡ b → judged n s.waiters left p (c ∷ cs) s ≡ alone
+  by : (standing : Standing) → p.standing ≡ standing → judged n s.waiters left p (c ∷ cs) s ≡ judged n s.waiters left p (c ∷ []) s
+  by Timely e = absurd (both_ways (enters (stands s a)) out (ap enters (sym (pleads left s a).0 ∙ e)))
+  by Reclaims e = absurd (both_ways (enters (stands s a)) out (ap enters (sym (pleads left s a).0 ∙ e)))
+  by Stays e = stops (waits p.crowded) (ap (graced p) e)
+  by (Early until) e = stops (Told (answers.Grace until)) (ap (graced p) e)
+  by (Late clock) e = stops (Told (answers.NoGrace clock)) (ap (graced p) e)
+  by Unrecorded e = stops (Told answers.NotRecorded) (ap (graced p) e)
+
+-- the first is told so where something blocks it, whatever is asked for behind it
+pub first_due : (n : ℕ) (left : Rooms) (s : CoreState) (a : Ask) (c : Claim) (cs : List Claim) (r : Answered) → is_blocked s.claims c ≡ true → r ≡ claims_asked n left s a (c ∷ cs) → IsClaimDue n left s a c r.0
+first_due n left s a c cs r blocked is = elim (cases_Bool (enters (stands s a))) [
+  | inr out ↦ graced_due n left s a c cs r out is
+  | inl in_time ↦ as_one n left s a c cs r (elim (enters_cases (stands s a) in_time) [ inl timely ↦ by ((pleads left s a).0 ∙ timely) (is_stopped s.waiters s c) refl | inr back ↦ reclaims ((pleads left s a).0 ∙ back) ]) is
+]
+  where
+    p : Plea
+    p = plea_of left s a
+
+    by : p.standing ≡ Timely → (b : Bool) → is_stopped s.waiters s c ≡ b → judged n s.waiters left p (c ∷ cs) s ≡ judged n s.waiters left p (c ∷ []) s
     by timely true stops = let found = stops_some s.waiters s c stops in judged_stopped n s.waiters left p c found.0 cs s timely found.1 ∙ sym (judged_stopped n s.waiters left p c found.0 [] s timely found.1)
     by timely false moves =
         let found = moves_cache s.waiters s c blocked moves in
         let none = none_blockers s.waiters s c moves in
         judged_kept_off n s.waiters left p c found.0 cs s timely none found.1 ∙ sym (judged_kept_off n s.waiters left p c found.0 [] s timely none found.1)
 
-  -- what is answered isn't a grant, so it is the same for one claim
-  told : (answered a (c ∷ cs) c alone.0 alone.1 alone.2).0 ≡ (ruled a c alone).0
-  told = by alone.0 where
-    by : (ruling : Ruling) → (answered a (c ∷ cs) c ruling alone.1 alone.2).0 ≡ (ruled a c (ruling, alone.1, alone.2)).0
-    by Gets = refl
-    by Waits = refl
-    by (Told x) = refl
-
-  due : IsClaimDue left s a c (ruled a c alone).0
-  due = claim_due n left s a c (ruled a c alone).0 refl
+    reclaims : p.standing ≡ Reclaims → judged n s.waiters left p (c ∷ cs) s ≡ judged n s.waiters left p (c ∷ []) s
+    reclaims back = so (reclaim_blocker p.beside c s) refl where
+      so : (o : Option Claim) → reclaim_blocker p.beside c s ≡ o → judged n s.waiters left p (c ∷ cs) s ≡ judged n s.waiters left p (c ∷ []) s
+      so None e = absurd (both_ways (is_blocked s.claims c) (reclaim_none p.beside c s e).0 blocked)
+      so (Some d) e = judged_conflicts n s.waiters left p c d cs s back e ∙ sym (judged_conflicts n s.waiters left p c d [] s back e)
 
 -- each of several is judged beside those before it, where nothing blocks the first
-pub each_due : (n : ℕ) (left : Rooms) (s : CoreState) (a : Ask) (c : Claim) (cs : List Claim) (r : Answered) → a.reclaim ≡ false → is_blocked s.claims c ≡ false → r ≡ claims_asked n left s a (c ∷ cs) → IsEachDue left a.rows (length (both_entered a s.names)) c (c ∷ cs) s r.0
+pub each_due : (n : ℕ) (left : Rooms) (s : CoreState) (a : Ask) (c d : Claim) (cs : List Claim) (r : Answered) → stands s a ≡ Timely → is_blocked s.claims c ≡ false → r ≡ claims_asked n left s a (c ∷ d ∷ cs) → IsEachDue left s a c (c ∷ d ∷ cs) r.0
 unfolding claims_asked plea_of
-each_due n left s a c cs r timely free is =
-    row_due s.waiters left p c (c ∷ cs) s r.0 c cs refl (ap (λ (b : Bool). b && (if is_stopped s.waiters s c then a.blocking else a.awaits)) free)
-    (subst (λ (x : Answer). tells c (first_stop s.waiters left p (c ∷ cs) s) x) (sym (ap first_is is ∙ ap (λ (x : Ruled). (answered a (c ∷ cs) c x.0 x.1 x.2).0) (judged_row n s.waiters left p (c ∷ cs) s timely))) (by (first_stop s.waiters left p (c ∷ cs) s)))
+each_due n left s a c d cs r timely free is =
+    row_due s.waiters left p (answers.Granted c) (c ∷ d ∷ cs) s r.0 c (d ∷ cs) refl (ap (λ (b : Bool). beside_of b a.wish) (timely_asks s (recorded_as a.party) (is_smb a.party) a.reclaim timely))
+    (ap (λ (b : Bool). b && (if is_stopped s.waiters s c then a.blocking else a.awaits)) free)
+    (subst (λ (x : Answer). tells (answers.Granted c) (first_stop s.waiters left p (c ∷ d ∷ cs) s) x) (sym (ap first_is is ∙ ap (λ (x : Ruled). (answered a (c ∷ d ∷ cs) c x.0 x.1 x.2).0) (judged_row n s.waiters left p (c ∷ d ∷ cs) s timely))) (by (first_stop s.waiters left p (c ∷ d ∷ cs) s)))
   where
     p : Plea
     p = plea_of left s a
 
-    by : (o : Option Ruling) → (let x = followed o [] s (λ t. (Gets, [], held_with (c ∷ cs) t)) in tells c o (answered a (c ∷ cs) c x.0 x.1 x.2).0)
-    by None = refl
+    by : (o : Option Ruling) → (let x = followed o [] s (ended n p (c ∷ d ∷ cs)) in tells (answers.Granted c) o (answered a (c ∷ d ∷ cs) c x.0 x.1 x.2).0)
+    by None = ap (λ (x : Ruled). (answered a (c ∷ d ∷ cs) c x.0 x.1 x.2).0) (ended_by n p (c ∷ d ∷ cs) s true refl)
     by (Some Gets) = tt
     by (Some Waits) = tt
     by (Some (Told x)) = refl
 
 -- ---- a wish by itself
 
-wish_by_due : (s : CoreState) (a : Ask) (claim : Claim) (limits : List (ℕ × Bool)) (answer : Answer) → IsFound limits (first_passed limits) → ((o : Option ℕ) → IsFound limits o → first_passed limits ≡ o) → ((wish_by s a claim (first_passed limits)).0 ≡ answer) ↔ IsWishBy limits claim answer
-wish_by_due s a claim limits answer found least = (there (first_passed limits) found answer, back answer) where
-  there : (o : Option ℕ) → IsFound limits o → (answer : Answer) → (wish_by s a claim o).0 ≡ answer → IsWishBy limits claim answer
-  there None found answer e = subst (IsWishBy limits claim) e (refl, found)
-  there (Some limit) found answer e = subst (IsWishBy limits claim) e found
+-- what a wish by itself is answered, by what grace makes of it
+abbrev wished_by : CoreState → Ask → Claim → Option ℕ → Option Answer → Answer
+wished_by s a claim o (Some answer) = answer
+wished_by s a claim o None = (wish_by s a claim o).0
 
-  back : (answer : Answer) → IsWishBy limits claim answer → (wish_by s a claim (first_passed limits)).0 ≡ answer
-  back (answers.Granted c) is = ap (λ (o : Option ℕ). (wish_by s a claim o).0) (least None is.1) ∙ ap (λ (d : Claim). answers.Granted d) (sym is.0)
-  back (answers.Full limit) is = ap (λ (o : Option ℕ). (wish_by s a claim o).0) (least (Some limit) is)
-  back (answers.Conflict c) is = absurd is
-  back (answers.Queued number) is = absurd is
-  back (answers.Recall c) is = absurd is
-  back (answers.Grace until) is = absurd is
-  back (answers.NoGrace clock) is = absurd is
-  back answers.NotRecorded is = absurd is
-  back answers.NotHeld is = absurd is
-  back answers.StoreFailed is = absurd is
+abbrev wished_so : CoreState → Ask → Claim → List (ℕ × Bool) → Standing → Answer
+wished_so s a claim limits standing = wished_by s a claim (first_passed limits) (refusal standing)
+
+wish_forth : (s : CoreState) (a : Ask) (claim : Claim) (limits : List (ℕ × Bool)) → IsFound limits (first_passed limits) → IsWishBy s a limits claim (wished_so s a claim limits (stands_alone s a))
+wish_forth s a claim limits found = by (stands_alone s a) refl where
+  goes : (o : Option ℕ) → enters (stands_alone s a) ≡ true → IsFound limits o → IsWishBy s a limits claim (wish_by s a claim o).0
+  goes None in_time found = (refl, in_time, found)
+  goes (Some limit) in_time found = (in_time, found)
+
+  by : (standing : Standing) → stands_alone s a ≡ standing → IsWishBy s a limits claim (wished_so s a claim limits standing)
+  by Timely is = goes (first_passed limits) (ap enters is) found
+  by Reclaims is = goes (first_passed limits) (ap enters is) found
+  by Stays is = absurd (alone_goes s (recorded_as a.party) a.reclaim is)
+  by (Early until) is = is
+  by (Late clock) is = late_asks s (recorded_as a.party) false a.reclaim clock is
+  by Unrecorded is = is
+
+wish_back : (s : CoreState) (a : Ask) (claim : Claim) (limits : List (ℕ × Bool)) → ((o : Option ℕ) → IsFound limits o → first_passed limits ≡ o) → (answer : Answer) → IsWishBy s a limits claim answer → wished_so s a claim limits (stands_alone s a) ≡ answer
+wish_back s a claim limits least answer due = go answer due where
+  so : (standing : Standing) → stands_alone s a ≡ standing → wished_so s a claim limits (stands_alone s a) ≡ wished_so s a claim limits standing
+  so standing is = ap (wished_so s a claim limits) is
+
+  goes : (o : Option ℕ) → enters (stands_alone s a) ≡ true → first_passed limits ≡ o → wished_so s a claim limits (stands_alone s a) ≡ (wish_by s a claim o).0
+  goes o in_time e = elim (enters_cases (stands_alone s a) in_time) [ inl timely ↦ so Timely timely | inr back ↦ so Reclaims back ] ∙ ap (λ (l : Option ℕ). (wish_by s a claim l).0) e
+
+  go : (x : Answer) → IsWishBy s a limits claim x → wished_so s a claim limits (stands_alone s a) ≡ x
+  go (answers.Granted c) is = goes None is.1 (least None is.2) ∙ ap (λ (d : Claim). answers.Granted d) (sym is.0)
+  go (answers.Full limit) is = goes (Some limit) is.0 (least (Some limit) is.1)
+  go (answers.Grace until) is = so (Early until) is
+  go (answers.NoGrace clock) is = so (Late s.clock) (stands_late s a false is.1 is.2) ∙ ap answers.NoGrace (sym is.0)
+  go answers.NotRecorded is = so Unrecorded is
+  go (answers.Conflict c) is = absurd is
+  go (answers.Queued number) is = absurd is
+  go (answers.Recall c) is = absurd is
+  go answers.NotHeld is = absurd is
+  go answers.StoreFailed is = absurd is
+
+wish_so : (left : Rooms) (s : CoreState) (a : Ask) (kind : CacheKind) (kinds : List CacheKind) → (wish_asked left s a (kind ∷ kinds)).0 ≡ wished_so s a (asked_claim a (whats.Cache kind None) s.names) (wish_limits left a.rows (length (both_entered a s.names))) (stands_alone s a)
+unfolding wish_asked
+wish_so left s a kind kinds = by (refusal (stands_alone s a)) where
+  claim : Claim
+  claim = asked_claim a (whats.Cache kind None) s.names
+
+  by : (r : Option Answer) → (wish_graced left s a claim r).0 ≡ wished_by s a claim (first_passed (wish_limits left a.rows (length (both_entered a s.names)))) r
+  by (Some answer) = refl
+  by None = refl
 
 pub wish_due : (n : ℕ) (left : Rooms) (s : CoreState) (a : Ask) (kind : CacheKind) (kinds : List CacheKind) (answer : Answer) → a.act ≡ Wish → a.wish ≡ kind ∷ kinds → ((decided n left s a).0 ≡ answer) ↔ IsWishDue left s a a.wish answer
-unfolding decided wish_asked
+unfolding decided
 wish_due n left s a kind kinds answer act wish =
+    let claim = asked_claim a (whats.Cache kind None) s.names in
+    let limits = wish_limits left a.rows (length (both_entered a s.names)) in
+    let told = wish_so left s a kind kinds in
     subst (λ (ks : List CacheKind). ((acted n left s a a.act).0 ≡ answer) ↔ IsWishDue left s a ks answer) (sym wish)
-    (subst (λ (x : Answered). (x.0 ≡ answer) ↔ IsWishDue left s a (kind ∷ kinds) answer) (sym (ap (acted n left s a) act ∙ ap (wish_asked left s a) wish))
-    (wish_by_due s a (asked_claim a (whats.Cache kind None) s.names) (wish_limits left a.rows (length (both_entered a s.names))) answer (wish_found left a.rows (length (both_entered a s.names)) _ refl) (wish_least left a.rows (length (both_entered a s.names)))))
+    (subst (λ (x : Answered). (x.0 ≡ answer) ↔ IsWishDue left s a (kind ∷ kinds) answer) (sym (ap (acted n left s a) act ∙ ap (wish_asked left s a) wish)) (
+      λ e. subst (IsWishBy s a limits claim) (sym told ∙ e) (wish_forth s a claim limits (wish_found left a.rows (length (both_entered a s.names)) _ refl)),
+      λ due. told ∙ wish_back s a claim limits (wish_least left a.rows (length (both_entered a s.names))) answer due,
+    ))
 
 pub wish_is_due : (n : ℕ) (left : Rooms) (s : CoreState) (a : Ask) → a.act ≡ Wish → IsWishDue left s a a.wish (decided n left s a).0
 wish_is_due n left s a act = by a.wish refl where

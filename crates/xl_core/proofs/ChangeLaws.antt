@@ -1,5 +1,10 @@
 -- An ask changes only what its owner has on its file, and only where it is granted.
 use Rattle.std.proofs.Common.{◌≡◌, ℕ, ◌+◌, ◌≤◌, Bool, true, false, length, if◌then◌else◌, List, [], ◌∷◌, ◌++◌, map, Option, Some, None, refl, sym, ap, subst, ◌∙◌, nat_le, inl, inr, find}
+use Rattle.xl_core.proofs.AsideLaws.{with_aside, noted_is, none_noted, by_aside}
+use Rattle.xl_core.specs.declared.standings.Standing.TheVariants.{Timely, Reclaims, Early, Late, Unrecorded}
+use Rattle.xl_core.specs.declared.standings.Standing.TheVariants as standings
+use Rattle.xl_core.specs.declared.standings.Standing.{Standing}
+use Rattle.xl_core.specs.Standings.{stands, stands_alone, refusal}
 use Rattle.std.specs.List.{AllByRecursion}
 use Rattle.std.proofs.lemmas.Bool.{both_ways, cases_Bool, and_parts}
 use Rattle.xl_base.proofs.Members.{in_append_left, all_in}
@@ -20,11 +25,11 @@ use Rattle.xl_table.specs.Relock.{most_claims, holds_byte, with_share, shares_of
 use Rattle.xl_table.proofs.ShareLaws.{not_united, shares_of-shared, shares_of-shared_apart, spans_of-shared, shares_of-relocked}
 use Rattle.xl_table.proofs.WriteBack.{spans_of-relocked, spans_of-relocked_apart, is_of-true}
 use Rattle.xl_wait.specs.declared.waiter.Rooms.{Rooms}
-use Rattle.xl_core.specs.State.{CoreState}
+use Rattle.xl_core.specs.State.{CoreState, aside_of}
 use Rattle.xl_core.specs.Askers.{asker, asking_party, both_entered, range_what, asked_whats, asked_what, asked_claim, asked_claims, known_claim, is_client, is_named}
 use Rattle.xl_core.specs.Blockers.{test_blockers}
-use Rattle.xl_core.specs.Causes.{may_wait, asks_share, left_by_unlock, IsOwn}
-use Rattle.xl_core.specs.Decide.{Answered, waiter_of, waiting, named, claims_asked, test_answered, tested, unlocked_claims, unlocked, wish_by, wish_asked, acted, decided, unlocked_one, unlocked_bytes, freed}
+use Rattle.xl_core.specs.Causes.{may_wait, asks_share, left_by_unlock, IsOwn, IsWaiting, asks_claims, noted_by}
+use Rattle.xl_core.specs.Decide.{Answered, waiter_of, waiting, named, claims_asked, test_answered, tested, unlocked_claims, unlocked, wish_by, wish_asked, acted, decided, unlocked_one, unlocked_bytes, freed, tested_by, wish_graced}
 use Rattle.xl_core.specs.Frames.{asks_to_hold}
 use Rattle.xl_core.specs.Good.{IsGood, are_kept, IsHeld, caches_of, caches_but, caches_beside}
 use Rattle.xl_core.specs.Limits.{wish_limits, first_passed}
@@ -162,29 +167,61 @@ holder_is s a extent first last good client holds =
 
 -- an ask is refused, finds a test free, has what it asks for, waits, or unlocks bytes or a range that its owner has
 pub data AskWay (s : CoreState) (a : Ask) (r : Answered) : Type 0 where
-  Stays : (answer : Answer) → is_refusal answer ≡ true → r ≡ (answer, [], s) → AskWay s a r
+  Stays : (answer : Answer) → is_refusal answer ≡ true → r ≡ (answer, [], with_aside (aside_of (noted_by s a answer)) s) → AskWay s a r
   Tests : (c : Claim) → asks_to_hold a.act ≡ false → r ≡ (answers.Granted c, [], s) → AskWay s a r
-  Holds : (c : Claim) (claims : List Claim) → claims ≡ asked_claims a (asked_whats a.act) s.names → asks_to_hold a.act ≡ true → r ≡ (answers.Granted c, [], named a (held_with claims s)) → AskWay s a r
-  Waits : (c : Claim) (cs : List Claim) → may_wait s.waiters s a c ≡ true → is_blocked s.claims c ≡ true → c ∷ cs ≡ asked_claims a (asked_whats a.act) s.names → asks_to_hold a.act ≡ true → r ≡ (answers.Queued (s.counter + 1), [], waiting a (c ∷ cs) s) → AskWay s a r
+  Holds : (c : Claim) (claims : List Claim) → claims ≡ asked_claims a (asked_whats a.act) s.names → asks_to_hold a.act ≡ true → r ≡ (answers.Granted c, [], with_aside (aside_of (noted_by s a (answers.Granted c))) (named a (held_with claims s))) → AskWay s a r
+  Waits : (c : Claim) (cs : List Claim) → IsWaiting (stands s a) s.waiters s a c → c ∷ cs ≡ asked_claims a (asked_whats a.act) s.names → asks_to_hold a.act ≡ true → r ≡ (answers.Queued (s.counter + 1), [], waiting a (c ∷ cs) s) → AskWay s a r
   Frees : (claim : Claim) (first last : ℕ) → asks_to_hold a.act ≡ false → asks_share a.act ≡ false → claim.file ≡ a.file → claim.owner ≡ asker a s.names → r ≡ (answers.Granted claim, [], record s { claims = unlocked_claims claim first last s.claims }) → AskWay s a r
   Gives : (claim d : Claim) → asks_to_hold a.act ≡ false → asks_share a.act ≡ false → d.file ≡ a.file → d.owner ≡ asker a s.names → is_range d.what ≡ true → r ≡ (answers.Granted claim, [], record s { claims = removed d s.claims }) → AskWay s a r
 
-asked_way : (n : ℕ) (left : Rooms) (s : CoreState) (a : Ask) (claims : List Claim) → claims ≡ asked_claims a (asked_whats a.act) s.names → asks_to_hold a.act ≡ true → AskWay s a (claims_asked n left s a claims)
+-- an ask for no claims, and one that holds nothing, leaves the record, the stores and the grace
+unheld : (act : Act) → asks_to_hold act ≡ false → (asked_whats act ≡ []) × (asks_claims act ≡ false)
+unheld (acts.Share access deny) h = absurd (both_ways true h refl)
+unheld (Ranges ranges) h = absurd (both_ways true h refl)
+unheld (Test extent exclusive) h = (refl, refl)
+unheld (Unlock extent) h = (refl, refl)
+unheld acts.Wish h = absurd (both_ways true h refl)
+
+pub unheld_noted : (s : CoreState) (a : Ask) (answer : Answer) → asks_to_hold a.act ≡ false → noted_by s a answer ≡ s
+unheld_noted s a answer h = let none = unheld a.act h in none_noted s a answer (ap (λ (ws : List What). asked_claims a ws s.names) none.0) none.1
+
+-- one that is refused so stays
+plainly : (s : CoreState) (a : Ask) (answer : Answer) → noted_by s a answer ≡ s → is_refusal answer ≡ true → AskWay s a (answer, [], s)
+plainly s a answer noted refused = Stays answer refused (λ i. (answer, [], with_aside (aside_of (sym noted i)) s))
+
+asked_way : (n : ℕ) (left : Rooms) (s : CoreState) (a : Ask) (claims : List Claim) → claims ≡ asked_claims a (asked_whats a.act) s.names → asks_to_hold a.act ≡ true → asks_claims a.act ≡ true → AskWay s a (claims_asked n left s a claims)
 unfolding claims_asked
-asked_way n left s a [] e holds = Stays answers.NotHeld refl refl
-asked_way n left s a (c ∷ cs) e holds = by (claims_asked n left s a (c ∷ cs)) (ask_case n left s a c cs) where
-  by : (r : Answered) → AskCase left s a (c ∷ cs) c r → AskWay s a r
-  by r (Goes pass is) = Holds c (c ∷ cs) e holds is
-  by r (Queues may blocked room is) = Waits c cs may blocked e holds is
-  by r (Refuses answer refused is) = Stays answer refused is
+asked_way n left s a [] e holds asks = plainly s a answers.NotHeld refl refl
+asked_way n left s a (c ∷ cs) e holds asks = by (claims_asked n left s a (c ∷ cs)) (ask_case n left s a c cs) where
+  by : (r : Answered) → AskCase n left s a (c ∷ cs) c r → AskWay s a r
+  by r (Goes in_time may pass is) = Holds c (c ∷ cs) e holds (is ∙ (λ i. (answers.Granted c, [], with_aside (aside_of (noted_is s a (c ∷ cs) (answers.Granted c) e asks i)) (named a (held_with (c ∷ cs) s)))))
+  by r (Queues why room is) = Waits c cs why e holds is
+  by r (Refuses answer refused is) = Stays answer refused (is ∙ (λ i. (answer, [], with_aside (aside_of (noted_is s a (c ∷ cs) answer e asks i)) s)))
+
+refusal_refuses : (standing : Standing) (answer : Answer) → refusal standing ≡ Some answer → is_refusal answer ≡ true
+refusal_refuses Timely answer e = absurd cc
+refusal_refuses Reclaims answer e = absurd cc
+refusal_refuses standings.Stays answer e = absurd cc
+refusal_refuses (Early until) answer e = ap is_refusal (same (answers.Grace until) answer e) where
+  same : (x y : Answer) → Some x ≡ Some y → y ≡ x
+  same x y e = cc
+refusal_refuses (Late clock) answer e = ap is_refusal (same (answers.NoGrace clock) answer e) where
+  same : (x y : Answer) → Some x ≡ Some y → y ≡ x
+  same x y e = cc
+refusal_refuses Unrecorded answer e = ap is_refusal (same answers.NotRecorded answer e) where
+  same : (x y : Answer) → Some x ≡ Some y → y ≡ x
+  same x y e = cc
 
 tested_way : (s : CoreState) (a : Ask) (claim : Claim) → asks_to_hold a.act ≡ false → AskWay s a (tested s a claim, [], s)
 unfolding tested
-tested_way s a claim holds = by a.reclaim (least s.names (test_blockers s claim)) where
-  by : (b : Bool) (o : Option Claim) → AskWay s a (if b then answers.NoGrace s.clock else test_answered claim o, [], s)
-  by true o = Stays (answers.NoGrace s.clock) refl refl
-  by false None = Tests claim holds refl
-  by false (Some c) = Stays (answers.Conflict c) refl refl
+tested_way s a claim holds = by (refusal (stands_alone s a)) (least s.names (test_blockers s claim)) (refusal_refuses (stands_alone s a)) where
+  so : (o : Option Claim) → AskWay s a (test_answered claim o, [], s)
+  so None = Tests claim holds refl
+  so (Some c) = plainly s a (answers.Conflict c) refl refl
+
+  by : (r : Option Answer) (o : Option Claim) → ((answer : Answer) → r ≡ Some answer → is_refusal answer ≡ true) → AskWay s a (tested_by r s claim, [], s)
+  by (Some answer) o refused = plainly s a answer (unheld_noted s a answer holds) (refused answer refl)
+  by None o refused = so (least s.names (test_blockers s claim))
 
 -- an element that is held is one of the owner's on the file, of just this range
 pub element_is_held : (claim : Claim) (extent : Extent) (cs : List Claim) (d : Claim) → element_held claim extent cs ≡ Some d → IsIn d cs × (exclusive : Bool) × (d.file ≡ claim.file) × (d.owner ≡ claim.owner) × (d.what ≡ Range extent exclusive)
@@ -206,7 +243,7 @@ freed_way s a extent act good client = by (element_held claim extent s.claims) r
   claim = known_claim a extent false s.names
 
   by : (o : Option Claim) → element_held claim extent s.claims ≡ o → AskWay s a (freed s claim o)
-  by None none = Stays answers.NotHeld refl refl
+  by None none = plainly s a answers.NotHeld refl refl
   by (Some d) e =
       let found = element_is_held claim extent s.claims d e in
       let kept : are_kept s.names d.owner d.party ≡ true = (all_in (IsHeld s.names) d s.claims good.known found.0).1 in
@@ -223,8 +260,8 @@ unlocked_way s a (Bytes first last) act good client =
     claim = known_claim a (Bytes first last) false s.names
 
     by : (h f : Bool) → holds_byte claim.file claim.owner first last s.claims ≡ h → AskWay s a (left_so s claim first last h f)
-    by false f none = Stays answers.NotHeld refl refl
-    by true false holds = Stays (answers.Full most_claims) refl refl
+    by false f none = plainly s a answers.NotHeld refl refl
+    by true false holds = plainly s a (answers.Full most_claims) refl refl
     by true true holds = Frees claim first last (ap asks_to_hold act) (ap asks_share act) refl (holder_is s a (Bytes first last) first last good client holds) refl
 
     go : (b : Bool) → AskWay s a (if b then unlocked_bytes s claim first last else unlocked_one s claim (Bytes first last))
@@ -236,23 +273,30 @@ held_none : (s : CoreState) → held_with [] s ≡ s
 unfolding held_with
 held_none s = refl
 
-wish_way : (left : Rooms) (s : CoreState) (a : Ask) (kinds : List CacheKind) → [] ≡ asked_claims a (asked_whats a.act) s.names → asks_to_hold a.act ≡ true → AskWay s a (wish_asked left s a kinds)
+wish_way : (left : Rooms) (s : CoreState) (a : Ask) (kinds : List CacheKind) → [] ≡ asked_claims a (asked_whats a.act) s.names → asks_claims a.act ≡ false → asks_to_hold a.act ≡ true → AskWay s a (wish_asked left s a kinds)
 unfolding wish_asked
-wish_way left s a [] none holds = Stays answers.NotHeld refl refl
-wish_way left s a (kind ∷ kinds) none holds = by (first_passed (wish_limits left a.rows (length (both_entered a s.names)))) where
+wish_way left s a [] none asks holds = plainly s a answers.NotHeld refl refl
+wish_way left s a (kind ∷ kinds) none asks holds = graced_so (refusal (stands_alone s a)) (refusal_refuses (stands_alone s a)) where
   claim : Claim
   claim = asked_claim a (Cache kind None) s.names
 
+  noted : (answer : Answer) → noted_by s a answer ≡ s
+  noted answer = none_noted s a answer (sym none) asks
+
   by : (o : Option ℕ) → AskWay s a (wish_by s a claim o)
-  by None = Holds claim [] none holds (λ i. (answers.Granted claim, [], named a (sym (held_none s) i)))
-  by (Some limit) = Stays (answers.Full limit) refl refl
+  by None = Holds claim [] none holds (λ i. (answers.Granted claim, [], with_aside (aside_of (sym (noted (answers.Granted claim)) i)) (named a (sym (held_none s) i))))
+  by (Some limit) = plainly s a (answers.Full limit) refl refl
+
+  graced_so : (r : Option Answer) → ((answer : Answer) → r ≡ Some answer → is_refusal answer ≡ true) → AskWay s a (wish_graced left s a claim r)
+  graced_so (Some answer) refused = plainly s a answer (noted answer) (refused answer refl)
+  graced_so None refused = by (first_passed (wish_limits left a.rows (length (both_entered a s.names))))
 
 acted_way : (n : ℕ) (left : Rooms) (s : CoreState) (a : Ask) (act : Act) → a.act ≡ act → IsGood s → is_client a.owner a.party ≡ true → AskWay s a (acted n left s a act)
-acted_way n left s a (acts.Share access deny) is good client = asked_way n left s a _ (ap (λ (x : Act). asked_claims a (asked_whats x) s.names) (sym is)) (ap asks_to_hold is)
-acted_way n left s a (Ranges ranges) is good client = asked_way n left s a _ (ap (λ (x : Act). asked_claims a (asked_whats x) s.names) (sym is)) (ap asks_to_hold is)
+acted_way n left s a (acts.Share access deny) is good client = asked_way n left s a _ (ap (λ (x : Act). asked_claims a (asked_whats x) s.names) (sym is)) (ap asks_to_hold is) (ap asks_claims is)
+acted_way n left s a (Ranges ranges) is good client = asked_way n left s a _ (ap (λ (x : Act). asked_claims a (asked_whats x) s.names) (sym is)) (ap asks_to_hold is) (ap asks_claims is)
 acted_way n left s a (Test extent exclusive) is good client = tested_way s a (known_claim a extent exclusive s.names) (ap asks_to_hold is)
 acted_way n left s a (Unlock extent) is good client = unlocked_way s a extent is good client
-acted_way n left s a acts.Wish is good client = wish_way left s a a.wish (ap (λ (x : Act). asked_claims a (asked_whats x) s.names) (sym is)) (ap asks_to_hold is)
+acted_way n left s a acts.Wish is good client = wish_way left s a a.wish (ap (λ (x : Act). asked_claims a (asked_whats x) s.names) (sym is)) (ap asks_claims is) (ap asks_to_hold is)
 
 pub decided_way : (n : ℕ) (left : Rooms) (s : CoreState) (a : Ask) → IsGood s → is_client a.owner a.party ≡ true → AskWay s a (decided n left s a)
 unfolding decided
@@ -305,13 +349,26 @@ asked_at a s acts.Wish = tt
 beside_same : (file : ℕ) (party : Party) (old new : List Claim) → caches_of new ≡ caches_of old → caches_beside file party new ≡ caches_beside file party old
 beside_same file party old new e = ap (caches_but file party) e
 
-same_own : (s : CoreState) (a : Ask) (answer : Answer) → IsOwn s a answer s
-same_own s a answer = record { claims = λ none. refl; waiters = λ none. refl; refused = λ none nobody. refl; spans = λ file owner apart. refl; shares = λ file owner apart. refl; caches = refl; unwished = λ none. refl; stay = λ w h. h; names = λ number name h. h }
+same_own : (s : CoreState) (a : Ask) (answer : Answer) → IsOwn s a answer (with_aside (aside_of (noted_by s a answer)) s)
+same_own s a answer = record {
+  claims = λ none. refl;
+  waiters = λ none. refl;
+  refused = λ none nobody. sym (by_aside s a answer);
+  noted = refl;
+  spans = λ file owner apart. refl;
+  shares = λ file owner apart. refl;
+  caches = refl;
+  unwished = λ none. refl;
+  stay = λ w h. h;
+  names = λ number name h. h;
+}
 
 way_own : (s : CoreState) (a : Ask) (r : Answered) → AskWay s a r → IsOwn s a r.0 r.2
 unfolding held_with
 way_own s a r (Stays answer refused e) = subst (λ (x : Answered). IsOwn s a x.0 x.2) (sym e) (same_own s a answer)
-way_own s a r (Tests c holds e) = subst (λ (x : Answered). IsOwn s a x.0 x.2) (sym e) (same_own s a (answers.Granted c))
+way_own s a r (Tests c holds e) =
+    subst (λ (x : Answered). IsOwn s a x.0 x.2) (sym e)
+    (subst (λ (t : CoreState). IsOwn s a (answers.Granted c) t) (sym (by_aside s a (answers.Granted c)) ∙ unheld_noted s a (answers.Granted c) holds) (same_own s a (answers.Granted c)))
 way_own s a r (Holds c claims is holds e) =
     let are : AreAt a.file (asker a s.names) (asks_share a.act) claims = subst (λ (cs : List Claim). AreAt a.file (asker a s.names) (asks_share a.act) cs) (sym is) (asked_at a s a.act) in
     subst (λ (x : Answered). IsOwn s a x.0 x.2) (sym e)
@@ -319,6 +376,7 @@ way_own s a r (Holds c claims is holds e) =
       claims = λ none. absurd (not_granted c none);
       waiters = λ none. refl;
       refused = λ none nobody. absurd (not_granted c none);
+      noted = refl;
       spans = λ at who apart. all_spans_apart a.file (asker a s.names) (asks_share a.act) claims s.claims at who are apart;
       shares = λ at who apart. all_shares_apart a.file (asker a s.names) (asks_share a.act) claims s.claims at who are apart;
       caches = beside_same a.file (asking_party a s.names) s.claims (all_granted claims s.claims) (all_granted_caches claims s.claims);
@@ -326,12 +384,13 @@ way_own s a r (Holds c claims is holds e) =
       stay = λ w h. h;
       names = both_go_on a s.names;
     })
-way_own s a r (Waits c cs may blocked is holds e) =
+way_own s a r (Waits c cs why is holds e) =
     subst (λ (x : Answered). IsOwn s a x.0 x.2) (sym e)
     (record {
       claims = λ none. refl;
       waiters = λ none. absurd (not_queued (s.counter + 1) none);
       refused = λ none nobody. absurd (not_queued (s.counter + 1) nobody);
+      noted = refl;
       spans = λ at who apart. refl;
       shares = λ at who apart. refl;
       caches = refl;
@@ -345,6 +404,7 @@ way_own s a r (Frees claim first last holds act file owner e) =
       claims = λ none. absurd (not_granted claim none);
       waiters = λ none. refl;
       refused = λ none nobody. absurd (not_granted claim none);
+      noted = ap aside_of (sym (unheld_noted s a (answers.Granted claim) holds));
       spans = λ at who apart. spans_of-relocked_apart claim.file claim.owner claim.party first last None s.claims at who (λ same. apart (same.0 ∙ file, same.1 ∙ owner, act));
       shares = λ at who apart. shares_of-relocked claim.file claim.owner claim.party first last None s.claims at who;
       caches = beside_same a.file (asking_party a s.names) s.claims (unlocked_claims claim first last s.claims) (relocked_caches claim.file claim.owner claim.party first last None s.claims);
@@ -358,6 +418,7 @@ way_own s a r (Gives claim d holds act file owner range e) =
       claims = λ none. absurd (not_granted claim none);
       waiters = λ none. refl;
       refused = λ none nobody. absurd (not_granted claim none);
+      noted = ap aside_of (sym (unheld_noted s a (answers.Granted claim) holds));
       spans = λ at who apart. spans_of-removed_apart at who d s.claims (other_of d at who (λ same. apart (same.0 ∙ file, same.1 ∙ owner, act)));
       shares = λ at who apart. shares_removed at who d s.claims range;
       caches = beside_same a.file (asking_party a s.names) s.claims (removed d s.claims) (removed_caches d s.claims (range_no_cache d.what range));
@@ -375,7 +436,7 @@ unfolding held_with
 caches_way s a r (Stays answer refused e) = ap (λ (x : Answered). caches_of x.2.claims) e
 caches_way s a r (Tests c holds e) = ap (λ (x : Answered). caches_of x.2.claims) e
 caches_way s a r (Holds c claims is holds e) = ap (λ (x : Answered). caches_of x.2.claims) e ∙ all_granted_caches claims s.claims
-caches_way s a r (Waits c cs may blocked is holds e) = ap (λ (x : Answered). caches_of x.2.claims) e
+caches_way s a r (Waits c cs why is holds e) = ap (λ (x : Answered). caches_of x.2.claims) e
 caches_way s a r (Frees claim first last holds act file owner e) = ap (λ (x : Answered). caches_of x.2.claims) e ∙ relocked_caches claim.file claim.owner claim.party first last None s.claims
 caches_way s a r (Gives claim d holds act file owner range e) = ap (λ (x : Answered). caches_of x.2.claims) e ∙ removed_caches d s.claims (range_no_cache d.what range)
 
@@ -395,7 +456,7 @@ granted_way s a what c r act holds (Stays answer refused e) at = absurd (refused
 granted_way s a what c r act holds (Tests d nothing e) at = absurd (both_ways (asks_to_hold a.act) nothing holds)
 granted_way s a what c r act holds (Holds d claims is held e) at =
     ap (λ (x : Answered). x.2.claims) e ∙ ap (λ (cs : List Claim). all_granted cs s.claims) (is ∙ ap (λ (w : List What). asked_claims a w s.names) (same_list what (asked_whats a.act) act))
-granted_way s a what c r act holds (Waits d ds may blocked is held e) at = let two : answers.Queued (s.counter + 1) ≡ answers.Granted c = sym (ap (λ (x : Answered). x.0) e) ∙ at in absurd cc
+granted_way s a what c r act holds (Waits d ds why is held e) at = let two : answers.Queued (s.counter + 1) ≡ answers.Granted c = sym (ap (λ (x : Answered). x.0) e) ∙ at in absurd cc
 granted_way s a what c r act holds (Frees claim first last nothing share file owner e) at = absurd (both_ways (asks_to_hold a.act) nothing holds)
 granted_way s a what c r act holds (Gives claim d nothing share file owner range e) at = absurd (both_ways (asks_to_hold a.act) nothing holds)
 
@@ -448,7 +509,7 @@ waits_way s a number r (Tests c holds e) at = let two : answers.Granted c ≡ an
 waits_way s a number r (Holds c claims is holds e) at = let two : answers.Granted c ≡ answers.Queued number = sym (ap (λ (x : Answered). x.0) e) ∙ at in absurd cc
 waits_way s a number r (Frees c first last holds act file owner e) at = let two : answers.Granted c ≡ answers.Queued number = sym (ap (λ (x : Answered). x.0) e) ∙ at in absurd cc
 waits_way s a number r (Gives c d holds act file owner range e) at = let two : answers.Granted c ≡ answers.Queued number = sym (ap (λ (x : Answered). x.0) e) ∙ at in absurd cc
-waits_way s a number r (Waits c cs may blocked is holds e) at =
+waits_way s a number r (Waits c cs why is holds e) at =
     ap (λ (x : Answered). x.2.waiters) e ∙ (λ i. s.waiters ++ waiter_of (same_number (s.counter + 1) number (sym (ap (λ (x : Answered). x.0) e) ∙ at) i) a (asking_party a s.names) (is i) ∷ [])
   where
     same_number : (x y : ℕ) → answers.Queued x ≡ answers.Queued y → x ≡ y

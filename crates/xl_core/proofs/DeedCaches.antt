@@ -24,11 +24,14 @@ use Rattle.xl_core.specs.Decide.{Answered, plea_of, way, before_wish, does_wish,
 use Rattle.xl_core.specs.Frames.{serves_none}
 use Rattle.xl_core.specs.Leases.{moment_after}
 use Rattle.xl_core.specs.Ways.{made_way}
-use Rattle.xl_core.specs.Wishes.{wish_of, wish_for, caches_wished}
+use Rattle.xl_core.specs.Wishes.{wish_of, wish_for, caches_wished, once_wished}
 use Rattle.xl_core.specs.declared.judge.Plea.{Plea}
 use Rattle.xl_core.specs.BreakAnswers.{with_rest, ack, client_of}
-use Rattle.xl_core.specs.Ticks.{advanced, renew, end_some, unleased, expire, lapsed_by, lapse}
-use Rattle.xl_core.specs.Deeds.{Deed, Asks, GivesBack, Weakens, Acks, Cancels, Ends, Serves, Draws, Advances, Lapses, Renews, Expires, Closes, turned, done, all_done, IsFitDeed, AreFit, wish_by_number, asked_by, once_served, caches_served, caches_asked, caches_without_party, caches_without, caches_after, all_caches_after, is_lapsed, ends_break, any_ends_break}
+use Rattle.xl_base.specs.Stable.{Stable}
+use Rattle.xl_core.specs.Stores.{store_failed}
+use Rattle.xl_core.specs.Ticks.{advanced, renew, end_some, unleased, expire, lapsed_by, lapse, end_grace}
+use Rattle.xl_core.proofs.AsideLaws.{with_aside, failed_aside, grace_aside, of_aside, of_expire}
+use Rattle.xl_core.specs.Deeds.{Deed, Asks, GivesBack, Weakens, Acks, Cancels, Ends, Serves, Draws, Advances, Lapses, Renews, Expires, Closes, FailsStore, EndsGrace, turned, done, all_done, IsFitDeed, AreFit, wish_by_number, asked_by, once_served, caches_served, caches_asked, caches_without_party, caches_without, caches_after, all_caches_after, is_lapsed, ends_break, any_ends_break}
 use Rattle.xl_core.specs.Good.{IsGood, are_apart, caches_of, holds_up}
 use Rattle.xl_table.specs.Leaving.{is_of_some, goes}
 use Rattle.xl_table.specs.declared.leaver.Leaver.TheVariants as leavers
@@ -42,7 +45,7 @@ use Rattle.xl_core.proofs.CacheLaws.{all_granted_caches, stayed_caches}
 use Rattle.xl_core.proofs.CachePlaces.{caches_removed, caches_rest, stays_rest}
 use Rattle.xl_core.proofs.ChangeLaws.{decided_caches}
 use Rattle.xl_core.proofs.AskBreaksLaws.{running_stand}
-use Rattle.xl_core.proofs.GoodLaws.{Turned, IsMoved, Answers, Rests, IsFirst, each_turn, asked_way_good, before_good, once_answered, served_good}
+use Rattle.xl_core.proofs.GoodLaws.{Turned, IsMoved, Answers, Rests, IsFirst, each_turn, asked_way_good, before_good, once_answered, served_good, clear_up, kind_once}
 use Rattle.xl_core.proofs.WayDeeds.{next_is, next_none}
 use Rattle.xl_core.proofs.WayLaws.{NoWay, Begins, way_is, way_serves, way_waiters}
 use Rattle.xl_core.proofs.DeedLaws.{asked_there, wished_there, deed_good}
@@ -106,8 +109,9 @@ some_caches s client None = refl
 some_caches s client (Some party) = ended_caches s party
 
 expired_caches : (s : CoreState) (client : List ℕ) → caches_of (expire s client).1.claims ≡ caches_without_party (party_named s.names (NfsParty client)) (caches_of s.claims)
-unfolding expire
-expired_caches s client = some_caches s client (party_named s.names (NfsParty client))
+expired_caches s client =
+    of_expire (λ (r : List Effect × CoreState). caches_of r.1.claims ≡ caches_without_party (party_named s.names (NfsParty client)) (caches_of s.claims)) s client
+    (λ x. some_caches (with_aside x s) client (party_named s.names (NfsParty client)))
 
 lapsed_caches : (s : CoreState) (cache : Claim) (client : Option (List ℕ)) → caches_of (lapsed_by s cache client).1.claims ≡ caches_without s.names cache client (caches_of s.claims)
 lapsed_caches s cache None = caches_removed cache s.claims
@@ -117,6 +121,12 @@ lapse_caches : (s : CoreState) (cache : Claim) → caches_of (lapse s cache).1.c
 unfolding lapse
 lapse_caches s cache = lapsed_caches s cache (client_of s.names cache.party)
 
+store_failed_caches : (s : CoreState) (stable : Stable) → caches_of (store_failed stable s).claims ≡ caches_of s.claims
+store_failed_caches s stable = of_aside (λ t. caches_of t.claims ≡ caches_of s.claims) s (store_failed stable s) (failed_aside stable s) (λ x. refl)
+
+end_grace_caches : (s : CoreState) → caches_of (end_grace s).claims ≡ caches_of s.claims
+end_grace_caches s = of_aside (λ t. caches_of t.claims ≡ caches_of s.claims) s (end_grace s) (grace_aside s) (λ x. refl)
+
 -- what is told before a grant is of breaks
 served_behind : (t : CoreState) (way effects : List Effect) (caches : List Claim) → serves_none way ≡ true → caches_served t (way ++ effects) caches ≡ caches_served t effects caches
 served_behind t [] effects caches none = refl
@@ -125,8 +135,20 @@ served_behind t (Begun c to call ∷ told) effects caches none = served_behind t
 served_behind t (Cancelled party id ∷ told) effects caches none = served_behind t told effects caches none
 served_behind t (Expired text ∷ told) effects caches none = served_behind t told effects caches none
 
-first_caches : (left : Rooms) (s : CoreState) (turn : Turned) → IsGood s → IsFirst left s [] s.waiters turn → caches_of turn.1.claims ≡ caches_served (next_way s).1 turn.0 (caches_of (next_way s).1.claims)
-first_caches left s turn good first =
+caches_once : (kinds : List CacheKind) (answer : Answer) (t : CoreState) (w : Waiter) (caches : List Claim) → caches_wished kinds answer (once_served t w.id answer) caches ≡ caches_wished kinds answer (once_answered t w (asked_by w.id t.waiters) answer) caches
+caches_once kinds (answers.Granted c) t w caches = ap (λ (o : Option CacheKind). once_wished (wish_of kinds c) o caches) (kind_once (wish_of kinds c) (answers.Granted c) t w)
+caches_once kinds (answers.Queued number) t w caches = refl
+caches_once kinds (answers.Conflict c) t w caches = refl
+caches_once kinds (answers.Recall c) t w caches = refl
+caches_once kinds (answers.Grace until) t w caches = refl
+caches_once kinds (answers.NoGrace clock) t w caches = refl
+caches_once kinds answers.NotRecorded t w caches = refl
+caches_once kinds (answers.Full limit) t w caches = refl
+caches_once kinds answers.NotHeld t w caches = refl
+caches_once kinds answers.StoreFailed t w caches = refl
+
+first_caches : (n : ℕ) (left : Rooms) (s : CoreState) (turn : Turned) → IsGood s → IsFirst n left s [] s.waiters turn → caches_of turn.1.claims ≡ caches_served (next_way s).1 turn.0 (caches_of (next_way s).1.claims)
+first_caches n left s turn good first =
     subst (λ (way : Turned). caches_of turn.1.claims ≡ caches_served way.1 turn.0 (caches_of way.1.claims)) (sym next) (by first.moved)
   where
     w : Waiter
@@ -142,7 +164,7 @@ first_caches left s turn good first =
     all = first.claim ∷ first.claims
 
     next : next_way s ≡ way
-    next = next_is s first.before w first.behind first.stood first.blocked (ap (holds_up first.before s w) first.asked ∙ first.free)
+    next = next_is s first.before w first.behind first.stood first.blocked (clear_up first.before s w first.claim first.claims first.calm first.asked first.free)
 
     stood : t.waiters ≡ first.before ++ w ∷ first.behind
     stood = way_waiters first.before (plea_again s w) w.asked s ∙ first.stood
@@ -156,14 +178,14 @@ first_caches left s turn good first =
     wishes : wish_by_number w.id t.waiters ≡ w.wish
     wishes = ap (wish_by_number w.id) stood ∙ wished_there first.before w first.behind apart
 
-    by : IsMoved left first.before s w first.claim first.claims turn → caches_of turn.1.claims ≡ caches_served t turn.0 (caches_of t.claims)
+    by : IsMoved n left first.before s w first.claim first.claims turn → caches_of turn.1.claims ≡ caches_served t turn.0 (caches_of t.claims)
     by (Answers answer told new due pass clear) =
         let u = once_answered t w all answer in
-        let once : once_served t w.id answer ≡ u = ap (λ (cs : List Claim). once_answered t w cs answer) there in
-        ap (λ (x : CoreState). caches_of x.claims) new ∙ wish_for_caches w.wish answer u (served_good left s turn first good answer pass).0
+        let once : once_answered t w (asked_by w.id t.waiters) answer ≡ u = ap (λ (cs : List Claim). once_answered t w cs answer) there in
+        ap (λ (x : CoreState). caches_of x.claims) new ∙ wish_for_caches w.wish answer u (served_good n left s turn first good answer pass).0
         ∙ ap (caches_wished w.wish answer u) (once_cases (λ cs. caches_of cs ≡ caches_of t.claims) all t.claims answer refl (all_granted_caches all t.claims))
         ∙ sym (ap (λ (effects : List Effect). caches_served t effects (caches_of t.claims)) told ∙ served_behind t way.0 (Served w.party w.id answer ∷ []) (caches_of t.claims) (way_serves first.before (plea_again s w) w.asked s)
-        ∙ (λ i. caches_wished (wishes i) answer (once i) (caches_of t.claims)))
+        ∙ caches_once (wish_by_number w.id t.waiters) answer t w (caches_of t.claims) ∙ (λ i. caches_wished (wishes i) answer (once i) (caches_of t.claims)))
     by (Rests e up) =
         ap (λ (x : Turned). caches_of x.1.claims) e
         ∙ sym (ap (λ (x : Turned). caches_served t x.0 (caches_of t.claims)) e ∙ ap (λ (effects : List Effect). caches_served t effects (caches_of t.claims)) (sym (append-nil way.0)) ∙ served_behind t way.0 [] (caches_of t.claims) (way_serves first.before (plea_again s w) w.asked s))
@@ -194,13 +216,15 @@ deed_caches n s (Weakens share access deny) good fit = weakened_caches s share a
 deed_caches n s (Acks cache to) good fit = acked_caches s cache to good
 deed_caches n s (Cancels id) good fit = cancelled_caches s id
 deed_caches n s (Ends party) good fit = ended_caches s party
-deed_caches n s (Serves left) good fit = turned_caches n left s (settle n left s) refl (each_turn n left s (λ r. caches_of r.1.claims ≡ caches_served (next_way s).1 r.0 (caches_of (next_way s).1.claims)) good (λ turn first. first_caches left s turn good first))
+deed_caches n s (Serves left) good fit = turned_caches n left s (settle n left s) refl (each_turn n left s (λ r. caches_of r.1.claims ≡ caches_served (next_way s).1 r.0 (caches_of (next_way s).1.claims)) good (λ turn first. first_caches n left s turn good first))
 deed_caches n s Draws good fit = drawn_caches s
 deed_caches n s (Advances now) good fit = advanced_caches s now
 deed_caches n s (Lapses cache) good fit = lapse_caches s cache
 deed_caches n s (Renews client) good fit = renewed_caches s client
 deed_caches n s (Expires client) good fit = expired_caches s client
 deed_caches n s (Closes number party) good fit = closed_caches s number party
+deed_caches n s (FailsStore stable) good fit = store_failed_caches s stable
+deed_caches n s EndsGrace good fit = end_grace_caches s
 
 -- those of deeds in a row
 pub deeds_caches : (n : ℕ) (s : CoreState) (ds : List Deed) → IsGood s → AreFit n s ds → caches_of (all_done n s ds).claims ≡ all_caches_after n s ds (caches_of s.claims)
@@ -267,8 +291,8 @@ ask_stays n left s a c good fit there runs = by (does_wish a.act) where
   by true = for_stays a.wish r.0 r.2 c still runs
   by false = still
 
-first_stays : (left : Rooms) (s : CoreState) (turn : Turned) (c : Claim) → IsFirst left s [] s.waiters turn → IsIn c (caches_of s.claims) → is_running c.what ≡ true → IsIn c turn.1.claims
-first_stays left s turn c first there runs = by first.moved where
+first_stays : (n : ℕ) (left : Rooms) (s : CoreState) (turn : Turned) (c : Claim) → IsFirst n left s [] s.waiters turn → IsIn c (caches_of s.claims) → is_running c.what ≡ true → IsIn c turn.1.claims
+first_stays n left s turn c first there runs = by first.moved where
   w : Waiter
   w = first.waiter
 
@@ -278,7 +302,7 @@ first_stays left s turn c first there runs = by first.moved where
   still : IsIn c (caches_of t.claims)
   still = way_stays first.before (plea_again s w) w.asked s c there runs
 
-  by : IsMoved left first.before s w first.claim first.claims turn → IsIn c turn.1.claims
+  by : IsMoved n left first.before s w first.claim first.claims turn → IsIn c turn.1.claims
   by (Answers answer told new due pass clear) =
       let all = first.claim ∷ first.claims in
       let u = once_answered t w all answer in
@@ -301,7 +325,7 @@ deed_keeps_break n s d c good fit there runs other = by d fit other where
 
   by : (e : Deed) → IsFitDeed s e → ends_break s c e ≡ false → IsIn c (done n s e).claims
   by (Asks left a) fit other = ask_stays n left s a c good fit among runs
-  by (Serves left) fit other = turn_stays s (settle n left s) c there (each_turn n left s (λ r. IsIn c r.1.claims) good (λ turn first. first_stays left s turn c first among runs))
+  by (Serves left) fit other = turn_stays s (settle n left s) c there (each_turn n left s (λ r. IsIn c r.1.claims) good (λ turn first. first_stays n left s turn c first among runs))
   by (GivesBack claim) fit other = left_so (GivesBack claim) fit (stays_rest claim c None (caches_of s.claims) among other)
   by (Weakens share access deny) fit other = left_so (Weakens share access deny) fit among
   by (Acks cache to) fit other = left_so (Acks cache to) fit (stays_rest cache c to (caches_of s.claims) among other)
@@ -313,6 +337,8 @@ deed_keeps_break n s d c good fit there runs other = by d fit other where
   by (Renews client) fit other = left_so (Renews client) fit among
   by (Expires client) fit other = left_so (Expires client) fit (stays_without (party_named s.names (NfsParty client)) c (caches_of s.claims) among other)
   by (Closes number party) fit other = left_so (Closes number party) fit (stays_without party c (caches_of s.claims) among other)
+  by (FailsStore stable) fit other = left_so (FailsStore stable) fit among
+  by EndsGrace fit other = left_so EndsGrace fit among
 
 -- a cache whose break runs stands as it is until a deed ends that
 pub deeds_keep_break : (n : ℕ) (s : CoreState) (ds : List Deed) (c : Claim) → IsGood s → AreFit n s ds → IsIn c s.claims → is_running c.what ≡ true → any_ends_break n s c ds ≡ false → IsIn c (all_done n s ds).claims

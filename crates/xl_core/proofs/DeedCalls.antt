@@ -1,5 +1,6 @@
 -- What the deeds' laws need of one ask and of one turn.
 use Rattle.std.proofs.Common.{◌≡◌, ℕ, ◌+◌, ◌≤◌, Bool, true, false, List, [], ◌∷◌, Option, Some, None, refl, sym, ap, subst, ◌∙◌, is_some, map, ◌&&◌, not, ◌==◌}
+use Rattle.xl_core.proofs.AsideLaws.{with_aside, noted_for}
 use Rattle.std.proofs.lemmas.Bool.{both_ways, le-leb, not-true}
 use Rattle.xl_matrix.specs.Equal.{same_owners}
 use Rattle.xl_base.proofs.Members.{all_in}
@@ -12,7 +13,7 @@ use Rattle.xl_matrix.specs.declared.claim.What.TheVariants.{Share, Range}
 use Rattle.xl_spans.specs.Spans.{relocked}
 use Rattle.xl_table.specs.Held.{spans_of, is_of, is_range, may_own}
 use Rattle.xl_wait.specs.declared.waiter.Rooms.{Rooms}
-use Rattle.xl_core.specs.State.{CoreState}
+use Rattle.xl_core.specs.State.{CoreState, aside_of}
 use Rattle.xl_core.specs.Askers.{asked_what, asked_claim, asked_claims, known_claim, IsFit, IsFitAct, is_named, range_what, known_owner, both_entered, may_hold_all, may_ask}
 use Rattle.xl_core.specs.Causes.{left_by_unlock}
 use Rattle.xl_core.specs.Deeds.{queue_with, KeepNames}
@@ -27,7 +28,7 @@ use Rattle.xl_core.specs.declared.ask.Act.TheVariants as acts
 use Rattle.xl_core.specs.declared.ask.Answer.{Answer}
 use Rattle.xl_core.specs.declared.ask.Answer.TheVariants as answers
 use Rattle.xl_core.specs.declared.ask.Ask.{Ask}
-use Rattle.xl_core.proofs.CauseLaws.{wish_is_due, unlock_by, unlock_is, is_holds, lock_due, lock_free, test_due, unlock_due, fit_what, fit_owned, first_due, each_due, real_unlock, element_due, element_is, empty_due, ranges_asked, own_ranges, fit_ranges, real_range}
+use Rattle.xl_core.proofs.CauseLaws.{wish_is_due, unlock_by, unlock_is, is_holds, lock_due, lock_free, test_due, unlock_due, fit_what, fit_owned, first_due, each_due, real_unlock, element_due, element_is, empty_due, ranges_asked, own_ranges, fit_ranges, real_range, graced_due}
 use Rattle.xl_core.proofs.ChangeLaws.{decided_way, granted_way, decided_own, decided_waits, element_is_held, spans_of-removed_apart, shares_removed}
 use Rattle.xl_core.proofs.KnownLaws.{asked_known, known_posix, known_named, asked_all_known, both_distinct, both_go_on}
 use Rattle.xl_table.proofs.ShareLaws.{shares_of-relocked}
@@ -100,9 +101,9 @@ ranges_enter n left s a range ranges c good fit act at = by (claims_asked n left
   same_claim : (x y : Claim) → answers.Granted x ≡ answers.Granted y → x ≡ y
   same_claim x y e = cc
 
-  by : (r : Answered) → AskCase left s a (first ∷ rest) first r → claims_asked n left s a (first ∷ rest) ≡ r → AreEntered left s a (range ∷ ranges) c (decided n left s a).2.claims
-  by r (Goes pass e) so =
-      let whole : decided n left s a ≡ (answers.Granted first, [], named a (held_with (first ∷ rest) s)) = is ∙ so ∙ e in
+  by : (r : Answered) → AskCase n left s a (first ∷ rest) first r → claims_asked n left s a (first ∷ rest) ≡ r → AreEntered left s a (range ∷ ranges) c (decided n left s a).2.claims
+  by r (Goes in_time may_store pass e) so =
+      let whole : decided n left s a ≡ (answers.Granted first, [], with_aside (aside_of (noted_for s a (first ∷ rest) (answers.Granted first))) (named a (held_with (first ∷ rest) s))) = is ∙ so ∙ e in
       record {
         claims = ap (λ (x : Answered). x.2.claims) whole;
         distinct = both_distinct a s.names good.distinct;
@@ -111,7 +112,7 @@ ranges_enter n left s a range ranges c good fit act at = by (claims_asked n left
         pass = pass;
         like = ap (λ (x : Claim). claims_like x (range ∷ ranges)) (same_claim c first (sym at ∙ ap (λ (x : Answered). x.0) whole)) ∙ all_like (range ∷ ranges);
       }
-  by r (ToWait may blocked room e) so = let two : answers.Queued (s.counter + 1) ≡ answers.Granted c = sym (ap (λ (x : Answered). x.0) (is ∙ so ∙ e)) ∙ at in absurd cc
+  by r (ToWait why room e) so = let two : answers.Queued (s.counter + 1) ≡ answers.Granted c = sym (ap (λ (x : Answered). x.0) (is ∙ so ∙ e)) ∙ at in absurd cc
   by r (Refuses answer refused e) so = absurd (both_ways (is_refusal answer) (ap is_refusal (sym (ap (λ (x : Answered). x.0) (is ∙ so ∙ e)) ∙ at)) refused)
 
 -- one that isn't granted leaves all
@@ -240,13 +241,13 @@ decided_names n left s a good fit = (decided_own n left s a good fit.party).name
 
 -- ---- what is due
 
-what_due : (n : ℕ) (left : Rooms) (s : CoreState) (a : Ask) (what : What) → IsFit a → asked_what a.act ≡ Some what → IsGrantDue left s a what (decided n left s a).0
+what_due : (n : ℕ) (left : Rooms) (s : CoreState) (a : Ask) (what : What) → IsFit a → asked_what a.act ≡ Some what → IsGrantDue n left s a what (decided n left s a).0
 what_due n left s a what fit act = record {
-  free = λ timely free room. lock_free n left s a what act timely free room;
+  free = λ in_time free room may. lock_free n left s a what act in_time free room may;
   cause = (lock_due n left s a what (decided n left s a).0 act).0 refl;
 }
 
-act_due : (n : ℕ) (left : Rooms) (s : CoreState) (a : Ask) (act : Act) → a.act ≡ act → IsFitAct a.owner a.blocking act → IsGood s → IsFit a → IsAnswerDue left s a act (decided n left s a).0
+act_due : (n : ℕ) (left : Rooms) (s : CoreState) (a : Ask) (act : Act) → a.act ≡ act → IsFitAct a.owner a.blocking act → IsGood s → IsFit a → IsAnswerDue n left s a act (decided n left s a).0
 act_due n left s a (acts.Share access deny) is real good fit = what_due n left s a (Share access deny) fit (ap asked_what is)
 act_due n left s a (acts.Ranges []) is real good fit = absurd real
 act_due n left s a (acts.Ranges (range ∷ [])) is real good fit = what_due n left s a (Range range.0 range.1) fit (ap asked_what is)
@@ -254,7 +255,12 @@ act_due n left s a (acts.Ranges (range ∷ more ∷ rest)) is real good fit =
     let first = asked_claim a (range_what range) s.names in
     let others = asked_claims a (map range_what (more ∷ rest)) s.names in
     let asked = ranges_asked n left s a (range ∷ more ∷ rest) is in
-    (λ blocked. first_due n left s a first others (decided n left s a) blocked asked, λ timely free. each_due n left s a first others (decided n left s a) timely free asked)
+    let next = asked_claim a (range_what more) s.names in
+    let behind = asked_claims a (map range_what rest) s.names in (
+      λ out. graced_due n left s a first others (decided n left s a) out asked,
+      λ blocked. first_due n left s a first others (decided n left s a) blocked asked,
+      λ timely free. each_due n left s a first next behind (decided n left s a) timely free asked,
+    )
 act_due n left s a (acts.Test extent exclusive) is real good fit = (test_due n left s a extent exclusive (decided n left s a).0 is).0 refl
 act_due n left s a (acts.Unlock (Bytes first last)) is real good fit = by (posix claim.owner) refl where
   claim : Claim
@@ -266,5 +272,5 @@ act_due n left s a (acts.Unlock (Bytes first last)) is real good fit = by (posix
 act_due n left s a acts.Wish is real good fit = wish_is_due n left s a is
 act_due n left s a (acts.Unlock (Empty offset)) is real good fit = (empty_due n left s a offset (decided n left s a).0 is).0 refl
 
-pub answer_is_due : (n : ℕ) (left : Rooms) (s : CoreState) (a : Ask) → IsGood s → IsFit a → IsAnswerDue left s a a.act (decided n left s a).0
+pub answer_is_due : (n : ℕ) (left : Rooms) (s : CoreState) (a : Ask) → IsGood s → IsFit a → IsAnswerDue n left s a a.act (decided n left s a).0
 answer_is_due n left s a good fit = act_due n left s a a.act refl fit.act good fit

@@ -34,13 +34,17 @@ use Rattle.xl_core.specs.Askers.{asked_what, asked_whats, asked_claim, known_cla
 use Rattle.xl_core.specs.Causes.{IsTurn, held_once}
 use Rattle.xl_core.specs.Askers.{asking_party, party_named}
 use Rattle.xl_core.specs.BreakAnswers.{may_be_left, ack, due, client_of}
-use Rattle.xl_core.specs.Ticks.{advanced, renew, end_some, unleased, expire, lapsed_by, lapse}
+use Rattle.xl_base.specs.Stable.{Stable}
+use Rattle.xl_core.specs.Stores.{store_failed}
+use Rattle.xl_core.specs.Ticks.{advanced, renew, end_some, unleased, expire, lapsed_by, lapse, end_grace}
+use Rattle.xl_core.proofs.AsideLaws.{with_aside, aside_good, failed_aside, grace_aside, of_aside, of_expire}
 use Rattle.xl_names.specs.declared.name.Name.TheVariants.{NfsParty}
 use Rattle.xl_base.specs.declared.event.Moment.{Moment}
-use Rattle.xl_core.specs.Deeds.{wish_by_number, asked_by, once_served, Deed, Asks, GivesBack, Weakens, Acks, Cancels, Ends, Serves, Draws, Advances, Lapses, Renews, Expires, Closes, queue_without_party, queue_without_client, turned, done, IsFitDeed, queue_without, waits_after, queue_with, KeepNames}
-use Rattle.xl_core.specs.Decide.{Answered, decided, plea_of, waiter_of, wish_by, wish_asked, acted, way, before_wish, does_wish, wish_after, ask}
+use Rattle.xl_core.specs.Deeds.{wish_by_number, asked_by, once_served, Deed, Asks, GivesBack, Weakens, Acks, Cancels, Ends, Serves, Draws, Advances, Lapses, Renews, Expires, Closes, FailsStore, EndsGrace, queue_without_party, queue_without_client, turned, done, IsFitDeed, queue_without, waits_after, queue_with, KeepNames}
+use Rattle.xl_core.specs.Decide.{Answered, decided, plea_of, waiter_of, wish_by, wish_graced, wish_asked, acted, way, before_wish, does_wish, wish_after, ask}
+use Rattle.xl_core.specs.Standings.{refusal, stands_alone}
 use Rattle.xl_core.specs.Limits.{wish_limits, first_passed}
-use Rattle.xl_core.specs.Wishes.{wish_granted, wish_of, wish_for}
+use Rattle.xl_core.specs.Wishes.{wish_granted, wish_of, wish_for, wished_kind, wished_at}
 use Rattle.xl_cache.specs.declared.wish.Wish.{Wish}
 use Rattle.xl_core.proofs.WishLaws.{wish_cache, wish_spans, wish_shares, wish_elements}
 use Rattle.xl_core.proofs.AskWishLaws.{wish_claims, after_claims}
@@ -65,7 +69,7 @@ use Rattle.xl_core.proofs.CauseLaws.{test_leaves, empty_due}
 use Rattle.xl_core.proofs.ChangeLaws.{spans_apart, shares_apart, granted_share, granted_spans, empty_spans}
 use Rattle.xl_core.proofs.DeedCalls.{Clears, decided_enters, decided_keeps_claims, decided_clears, answer_is_due, decided_queue, decided_names, Releases, decided_releases, ranges_enter, no_empty}
 use Rattle.xl_core.proofs.DeedLeaves.{spans_of-given, shares_of-given_apart, shares_of-given, none_gone, all_gone}
-use Rattle.xl_core.proofs.GoodLaws.{before_good, once_answered, served_good, ask_good, asked_way_good, again_named, IsMoved, Answers, Rests, settle_good, cancel_good, give_back_good, drawn_good, end_party_good, close_open_good, advanced_good, renew_good, expire_good, lapse_good, IsFirst, each_turn, good_claims}
+use Rattle.xl_core.proofs.GoodLaws.{before_good, once_answered, served_good, ask_good, asked_way_good, again_pleads, IsMoved, Answers, Rests, settle_good, cancel_good, give_back_good, drawn_good, end_party_good, close_open_good, advanced_good, renew_good, expire_good, lapse_good, store_failed_good, end_grace_good, IsFirst, each_turn, good_claims, clear_up, kind_once}
 use Rattle.xl_core.proofs.BreakAnswerLaws.{is_cache_left, ack_good}
 use Rattle.xl_core.proofs.CacheLaws.{removed_caches, granted_caches}
 use Rattle.xl_core.proofs.CachePlaces.{held_of_caches, rest_of_made}
@@ -180,7 +184,7 @@ all_entered_made left p names (c ∷ cs) held place distinct good known pass =
     ∙ by (entered_at held c place) (all_entered_at (granted_claims c held) cs place)
   where
     next : AreGood names (granted_claims c held)
-    next = granted_good names c held distinct good known.0 pass.0 (grant_room left p.rows (length (granted_claims c held)) p.kept pass.1).1
+    next = granted_good names c held distinct good known.0 pass.0 pass.1.1
 
     by : (first later : Option (List What)) → else_was later (else_was first (held_in held place)) ≡ else_was (then_entered first later) (held_in held place)
     by first None = refl
@@ -305,10 +309,14 @@ unfolding decided wish_asked
 wish_leaves n left s a is = ap (λ (act : Act). (acted n left s a act).2.claims) is ∙ by a.wish where
   by : (kinds : List CacheKind) → (wish_asked left s a kinds).2.claims ≡ s.claims
   by [] = refl
-  by (kind ∷ kinds) = one (first_passed (wish_limits left a.rows (length (both_entered a s.names)))) where
+  by (kind ∷ kinds) = graced (refusal (stands_alone s a)) where
     one : (o : Option ℕ) → (wish_by s a (asked_claim a (Cache kind None) s.names) o).2.claims ≡ s.claims
     one None = refl
     one (Some limit) = refl
+
+    graced : (o : Option Answer) → (wish_graced left s a (asked_claim a (Cache kind None) s.names) o).2.claims ≡ s.claims
+    graced None = one (first_passed (wish_limits left a.rows (length (both_entered a s.names))))
+    graced (Some answer) = refl
 
 act_made : (n : ℕ) (left : Rooms) (s : CoreState) (a : Ask) (act : Act) (p : Place) → a.act ≡ act → IsFitAct a.owner a.blocking act → IsGood s → IsFit a → held_at (decided n left s a).2 p ≡ else_was (answered_at s.claims act (decided n left s a).0 p) (held_at s p)
 act_made n left s a (acts.Share access deny) p is real good fit = claim_made n left s a (Share access deny) p good fit (ap asked_what is)
@@ -512,8 +520,26 @@ queue_behind (Expired text ∷ told) effects ws none = queue_behind told effects
 abbrev turn_makes : CoreState → List Effect × CoreState → List Effect → Place → Option (List What)
 turn_makes s way told p = then_entered (then_entered (broken_at s way.0 p) (told_at way.1 told p)) (wished_then way.1 told p)
 
-first_made : (left : Rooms) (s : CoreState) (turn : List Effect × CoreState) (p : Place) → IsGood s → IsFirst left s [] s.waiters turn → held_at turn.1 p ≡ else_was (turn_makes s (next_way s) turn.0 p) (held_at s p)
-first_made left s turn p good first =
+wish_alike : (wanted : Wish) (s t : CoreState) (p : Place) → wished_kind wanted s ≡ wished_kind wanted t → wish_at wanted s p ≡ wish_at wanted t p
+wish_alike wanted s t (CacheOf file party) e = ap (λ (o : Option CacheKind). wished_at wanted o file party) e
+wish_alike wanted s t (ByteOf file owner byte) e = refl
+wish_alike wanted s t (ShareOf file owner) e = refl
+wish_alike wanted s t (RangesOf file number) e = refl
+
+wished_once : (kinds : List CacheKind) (answer : Answer) (t : CoreState) (w : Waiter) (p : Place) → wished_for kinds answer (once_served t w.id answer) p ≡ wished_for kinds answer (once_answered t w (asked_by w.id t.waiters) answer) p
+wished_once kinds (answers.Granted c) t w p = wish_alike (wish_of kinds c) (once_served t w.id (answers.Granted c)) (once_answered t w (asked_by w.id t.waiters) (answers.Granted c)) p (kind_once (wish_of kinds c) (answers.Granted c) t w)
+wished_once kinds (answers.Queued number) t w p = refl
+wished_once kinds (answers.Conflict c) t w p = refl
+wished_once kinds (answers.Recall c) t w p = refl
+wished_once kinds (answers.Grace until) t w p = refl
+wished_once kinds (answers.NoGrace clock) t w p = refl
+wished_once kinds answers.NotRecorded t w p = refl
+wished_once kinds (answers.Full limit) t w p = refl
+wished_once kinds answers.NotHeld t w p = refl
+wished_once kinds answers.StoreFailed t w p = refl
+
+first_made : (n : ℕ) (left : Rooms) (s : CoreState) (turn : List Effect × CoreState) (p : Place) → IsGood s → IsFirst n left s [] s.waiters turn → held_at turn.1 p ≡ else_was (turn_makes s (next_way s) turn.0 p) (held_at s p)
+first_made n left s turn p good first =
     subst (λ (way : List Effect × CoreState). held_at turn.1 p ≡ else_was (turn_makes s way turn.0 p) (held_at s p)) (sym next) (by first.moved)
   where
     w : Waiter
@@ -529,7 +555,7 @@ first_made left s turn p good first =
     all = first.claim ∷ first.claims
 
     next : next_way s ≡ way
-    next = next_is s first.before w first.behind first.stood first.blocked (ap (holds_up first.before s w) first.asked ∙ first.free)
+    next = next_is s first.before w first.behind first.stood first.blocked (clear_up first.before s w first.claim first.claims first.calm first.asked first.free)
 
     sound : IsGood t
     sound = way_good first.before (plea_again s w) w.asked s good (known_no_cache s.names w.asked first.is.1)
@@ -560,16 +586,16 @@ first_made left s turn p good first =
         ∙ sym (then_else (then_entered (broken_at s way.0 p) later) wish (held_at s p) ∙ ap (else_was wish) (then_else (broken_at s way.0 p) later (held_at s p)))
         ∙ (λ i. else_was (then_entered (then_entered (broken_at s way.0 p) (sym told i)) (sym wished i)) (held_at s p))
 
-    by : IsMoved left first.before s w first.claim first.claims turn → held_at turn.1 p ≡ else_was (turn_makes s way turn.0 p) (held_at s p)
+    by : IsMoved n left first.before s w first.claim first.claims turn → held_at turn.1 p ≡ else_was (turn_makes s way turn.0 p) (held_at s p)
     by (Answers answer told new due pass clear) =
         let u = once_answered t w all answer in
-        let once : once_served t w.id answer ≡ u = ap (λ (cs : List Claim). once_answered t w cs answer) there in
+        let once : once_answered t w (asked_by w.id t.waiters) answer ≡ u = ap (λ (cs : List Claim). once_answered t w cs answer) there in
         let sole : List Effect = Served w.party w.id answer ∷ [] in
         whole (served_at t.claims all answer p) (wished_for w.wish answer u p)
-        (ap (λ (x : CoreState). held_at x p) new ∙ for_made w.wish answer u p (served_good left s turn first good answer pass).0
-        ∙ ap (else_was (wished_for w.wish answer u p)) (once_made left t w all answer p sound known (λ d e. subst (λ (plea : Plea). AllPass left plea t.claims all) (again_named s w t named) (pass d e).1)))
+        (ap (λ (x : CoreState). held_at x p) new ∙ for_made w.wish answer u p (served_good n left s turn first good answer pass).0
+        ∙ ap (else_was (wished_for w.wish answer u p)) (once_made left t w all answer p sound known (λ d e. subst (λ (plea : Plea). AllPass left plea t.claims all) (again_pleads first.before s w) (pass d e).1)))
         (ap (λ (effects : List Effect). told_at t effects p) told ∙ told_behind t way.0 sole p (way_serves first.before (plea_again s w) w.asked s) ∙ ap (λ (cs : List Claim). served_at t.claims cs answer p) there)
-        (ap (λ (effects : List Effect). wished_then t effects p) told ∙ wished_behind t way.0 sole p (way_serves first.before (plea_again s w) w.asked s) ∙ (λ i. wished_for (wishes i) answer (once i) p))
+        (ap (λ (effects : List Effect). wished_then t effects p) told ∙ wished_behind t way.0 sole p (way_serves first.before (plea_again s w) w.asked s) ∙ wished_once (wish_by_number w.id t.waiters) answer t w p ∙ (λ i. wished_for (wishes i) answer (once i) p))
     by (Rests e up) =
         whole None None (ap (λ (x : List Effect × CoreState). held_at x.1 p) e)
         (ap (λ (x : List Effect × CoreState). told_at t x.0 p) e ∙ ap (λ (effects : List Effect). told_at t effects p) (sym (append-nil way.0)) ∙ told_behind t way.0 [] p (way_serves first.before (plea_again s w) w.asked s))
@@ -580,8 +606,8 @@ turn_made : (n : ℕ) (left : Rooms) (s : CoreState) (p : Place) → (o : Option
 turn_made n left s p None e made = nothing_made s p ∙ ap (λ (told : List Effect). else_was (broken_at s told p) (held_at s p)) (sym (ap (λ (way : List Effect × CoreState). way.0) (next_none s (none_settled n left s e))))
 turn_made n left s p (Some r) e made = made
 
-first_queue : (left : Rooms) (s : CoreState) (turn : List Effect × CoreState) → IsGood s → IsFirst left s [] s.waiters turn → turn.1.waiters ≡ queue_without turn.0 s.waiters
-first_queue left s turn good first = by first.moved where
+first_queue : (n : ℕ) (left : Rooms) (s : CoreState) (turn : List Effect × CoreState) → IsGood s → IsFirst n left s [] s.waiters turn → turn.1.waiters ≡ queue_without turn.0 s.waiters
+first_queue n left s turn good first = by first.moved where
   w : Waiter
   w = first.waiter
 
@@ -591,7 +617,7 @@ first_queue left s turn good first = by first.moved where
   same : way.1.waiters ≡ s.waiters
   same = way_waiters first.before (plea_again s w) w.asked s
 
-  by : IsMoved left first.before s w first.claim first.claims turn → turn.1.waiters ≡ queue_without turn.0 s.waiters
+  by : IsMoved n left first.before s w first.claim first.claims turn → turn.1.waiters ≡ queue_without turn.0 s.waiters
   by (Answers answer told new due pass clear) =
       ap (λ (x : CoreState). x.waiters) (new ∙ wish_claims w.wish answer (once_answered way.1 w (first.claim ∷ first.claims) answer)) ∙ ap (λ (ws : List Waiter). cancelled w.id ws) same
       ∙ sym (ap (λ (effects : List Effect). queue_without effects s.waiters) told ∙ queue_behind way.0 (Served w.party w.id answer ∷ []) s.waiters (way_serves first.before (plea_again s w) w.asked s))
@@ -603,9 +629,9 @@ turn_queue : (s : CoreState) (o : Option (List Effect × CoreState)) → IfSome 
 turn_queue s None each = refl
 turn_queue s (Some r) each = each
 
-turn_names : (left : Rooms) (s : CoreState) (o : Option (List Effect × CoreState)) → IfSome o (λ r. IsTurn left s r.0 r.1) → KeepNames s.names (turned s o).2.names
-turn_names left s None turn = λ number name h. h
-turn_names left s (Some r) turn = λ number name h. subst (λ (names : List Name). slice_get names number ≡ Some name) (sym turn.names) h
+turn_names : (n : ℕ) (left : Rooms) (s : CoreState) (o : Option (List Effect × CoreState)) → IfSome o (λ r. IsTurn n left s r.0 r.1) → KeepNames s.names (turned s o).2.names
+turn_names n left s None turn = λ number name h. h
+turn_names n left s (Some r) turn = λ number name h. subst (λ (names : List Name). slice_get names number ≡ Some name) (sym turn.names) h
 
 turn_good : (s : CoreState) (o : Option (List Effect × CoreState)) → IsGood s → IfSome o (λ r. IsGood r.1) → IsGood (turned s o).2
 turn_good s None good each = good
@@ -635,6 +661,8 @@ deed_good n s (Lapses cache) good fit = lapse_good s cache good
 deed_good n s (Renews client) good fit = renew_good s client good
 deed_good n s (Expires client) good fit = expire_good s client good
 deed_good n s (Closes number party) good fit = close_open_good s number party good
+deed_good n s (FailsStore stable) good fit = store_failed_good stable s good
+deed_good n s EndsGrace good fit = end_grace_good s good
 
 -- the clock and leases change nothing that is held, nobody who waits and no name
 abbrev IsStill : CoreState → CoreState → Type 0
@@ -648,13 +676,21 @@ renew_still : (s : CoreState) (client : List ℕ) → IsStill s (renew s client)
 unfolding renew
 renew_still s client = (refl, refl, refl)
 
+-- nor do a store that fails and the end of grace
+store_failed_still : (s : CoreState) (stable : Stable) → IsStill s (store_failed stable s)
+store_failed_still s stable = of_aside (IsStill s) s (store_failed stable s) (failed_aside stable s) (λ x. (refl, refl, refl))
+
+end_grace_still : (s : CoreState) → IsStill s (end_grace s)
+end_grace_still s = of_aside (IsStill s) s (end_grace s) (grace_aside s) (λ x. (refl, refl, refl))
+
 expired_made : (s : CoreState) (client : List ℕ) (party : Option Party) (p : Place) → IsGood s → held_at (unleased client (end_some s party)).1 p ≡ else_was (ended_some s.claims party p) (held_at s p)
 expired_made s client None p good = refl
 expired_made s client (Some party) p good = end_party_made s party p good
 
 expire_made : (s : CoreState) (client : List ℕ) (p : Place) → IsGood s → held_at (expire s client).1 p ≡ else_was (ended_some s.claims (party_named s.names (NfsParty client)) p) (held_at s p)
-unfolding expire
-expire_made s client p good = expired_made s client (party_named s.names (NfsParty client)) p good
+expire_made s client p good =
+    of_expire (λ (r : List Effect × CoreState). held_at r.1 p ≡ else_was (ended_some s.claims (party_named s.names (NfsParty client)) p) (held_at s p)) s client
+    (λ x. expired_made (with_aside x s) client (party_named s.names (NfsParty client)) p (aside_good x s good))
 
 lapsed_made : (s : CoreState) (cache : Claim) (client : Option (List ℕ)) (p : Place) → IsGood s → IsIn cache s.claims → is_cache cache.what ≡ true → held_at (lapsed_by s cache client).1 p ≡ else_was (lapsed_at s cache client p) (held_at s p)
 lapsed_made s cache None p good there is = rest_of_made cache None s.claims p good.single there is
@@ -702,13 +738,15 @@ deed_makes n s (Weakens share access deny) p good fit = weaken_made s share acce
 deed_makes n s (Acks cache to) p good fit = ack_made s cache to p good fit.0 fit.1
 deed_makes n s (Cancels id) p good fit = ap (λ (cs : List Claim). held_in cs p) (cancel_is s id).0
 deed_makes n s (Ends party) p good fit = end_party_made s party p good
-deed_makes n s (Serves left) p good fit = turn_made n left s p (settle n left s) refl (each_turn n left s (λ r. held_at r.1 p ≡ else_was (turn_makes s (next_way s) r.0 p) (held_at s p)) good (λ turn first. first_made left s turn p good first))
+deed_makes n s (Serves left) p good fit = turn_made n left s p (settle n left s) refl (each_turn n left s (λ r. held_at r.1 p ≡ else_was (turn_makes s (next_way s) r.0 p) (held_at s p)) good (λ turn first. first_made n left s turn p good first))
 deed_makes n s Draws p good fit = ap (λ (cs : List Claim). held_in cs p) (drawn_is s).0
 deed_makes n s (Advances now) p good fit = ap (λ (cs : List Claim). held_in cs p) (advanced_still s now).0
 deed_makes n s (Lapses cache) p good fit = lapse_made s cache p good fit
 deed_makes n s (Renews client) p good fit = ap (λ (cs : List Claim). held_in cs p) (renew_still s client).0
 deed_makes n s (Expires client) p good fit = expire_made s client p good
 deed_makes n s (Closes number party) p good fit = close_open_made s number party p good
+deed_makes n s (FailsStore stable) p good fit = ap (λ (cs : List Claim). held_in cs p) (store_failed_still s stable).0
+deed_makes n s EndsGrace p good fit = ap (λ (cs : List Claim). held_in cs p) (end_grace_still s).0
 
 ended_queue : (s : CoreState) (party : Party) → (end_party s party).1.waiters ≡ waits_after 0 s (Ends party) s.waiters
 unfolding end_party
@@ -727,8 +765,9 @@ expired_queue s client None = refl
 expired_queue s client (Some party) = ended_queue s party
 
 expire_queue : (s : CoreState) (client : List ℕ) → (expire s client).1.waiters ≡ queue_without_party (party_named s.names (NfsParty client)) s.waiters
-unfolding expire
-expire_queue s client = expired_queue s client (party_named s.names (NfsParty client))
+expire_queue s client =
+    of_expire (λ (r : List Effect × CoreState). r.1.waiters ≡ queue_without_party (party_named s.names (NfsParty client)) s.waiters) s client
+    (λ x. expired_queue (with_aside x s) client (party_named s.names (NfsParty client)))
 
 ack_still : (s : CoreState) (cache : Claim) (to : Option CacheKind) → ((ack s cache to).1.waiters ≡ s.waiters) × ((ack s cache to).1.names ≡ s.names)
 unfolding ack
@@ -779,13 +818,15 @@ deed_queues n s (Weakens share access deny) good fit = weakened_queue s share ac
 deed_queues n s (Acks cache to) good fit = (ack_still s cache to).0
 deed_queues n s (Cancels id) good fit = (cancel_is s id).1
 deed_queues n s (Ends party) good fit = ended_queue s party
-deed_queues n s (Serves left) good fit = turn_queue s (settle n left s) (each_turn n left s (λ r. r.1.waiters ≡ queue_without r.0 s.waiters) good (λ turn first. first_queue left s turn good first))
+deed_queues n s (Serves left) good fit = turn_queue s (settle n left s) (each_turn n left s (λ r. r.1.waiters ≡ queue_without r.0 s.waiters) good (λ turn first. first_queue n left s turn good first))
 deed_queues n s Draws good fit = (drawn_is s).1
 deed_queues n s (Advances now) good fit = (advanced_still s now).1
 deed_queues n s (Lapses cache) good fit = lapse_queue s cache
 deed_queues n s (Renews client) good fit = (renew_still s client).1
 deed_queues n s (Expires client) good fit = expire_queue s client
 deed_queues n s (Closes number party) good fit = closed_queue s number party
+deed_queues n s (FailsStore stable) good fit = (store_failed_still s stable).1
+deed_queues n s EndsGrace good fit = (end_grace_still s).1
 
 closed_names : (s : CoreState) (number : ℕ) (party : Option Party) → (close_open s number party).1.names ≡ s.names
 unfolding close_open
@@ -807,8 +848,7 @@ expired_names s client None = refl
 expired_names s client (Some party) = ended_names s party
 
 expire_names : (s : CoreState) (client : List ℕ) → (expire s client).1.names ≡ s.names
-unfolding expire
-expire_names s client = expired_names s client (party_named s.names (NfsParty client))
+expire_names s client = of_expire (λ (r : List Effect × CoreState). r.1.names ≡ s.names) s client (λ x. expired_names (with_aside x s) client (party_named s.names (NfsParty client)))
 
 lapsed_names : (s : CoreState) (cache : Claim) (client : Option (List ℕ)) → (lapsed_by s cache client).1.names ≡ s.names
 lapsed_names s cache None = refl
@@ -825,13 +865,15 @@ deed_names n s (Weakens share access deny) good fit = same_names s.names (weaken
 deed_names n s (Acks cache to) good fit = same_names s.names (ack s cache to).1.names (ack_still s cache to).1
 deed_names n s (Cancels id) good fit = same_names s.names (cancel s id).1.names (cancel_is s id).2
 deed_names n s (Ends party) good fit = same_names s.names (end_party s party).1.names (ended_names s party)
-deed_names n s (Serves left) good fit = turn_names left s (settle n left s) (turn_is n left s good)
+deed_names n s (Serves left) good fit = turn_names n left s (settle n left s) (turn_is n left s good)
 deed_names n s Draws good fit = same_names s.names (drawn s).names (drawn_is s).2
 deed_names n s (Advances now) good fit = same_names s.names (advanced s now).names (advanced_still s now).2
 deed_names n s (Lapses cache) good fit = same_names s.names (lapse s cache).1.names (lapse_names s cache)
 deed_names n s (Renews client) good fit = same_names s.names (renew s client).1.names (renew_still s client).2
 deed_names n s (Expires client) good fit = same_names s.names (expire s client).1.names (expire_names s client)
 deed_names n s (Closes number party) good fit = same_names s.names (close_open s number party).1.names (closed_names s number party)
+deed_names n s (FailsStore stable) good fit = same_names s.names (store_failed stable s).names (store_failed_still s stable).2
+deed_names n s EndsGrace good fit = same_names s.names (end_grace s).names (end_grace_still s).2
 
 pub deed_due : (n : ℕ) (s : CoreState) (d : Deed) → IsGood s → IsFitDeed s d → IsDue n s d
 deed_due n s (Asks left a) good fit = ask_is_due n left s a good fit
@@ -847,3 +889,5 @@ deed_due n s (Lapses cache) good fit = fit
 deed_due n s (Renews client) good fit = tt
 deed_due n s (Expires client) good fit = fit
 deed_due n s (Closes number party) good fit = tt
+deed_due n s (FailsStore stable) good fit = tt
+deed_due n s EndsGrace good fit = fit

@@ -1,5 +1,6 @@
 -- What the code of an ask, of a turn and of the core's calls rests on.
 use Rattle.std.proofs.Common.{◌≡◌, ℕ, true, false, List, Option, Some, None, IfSome, option_map, refl, sym, ap, subst, ◌∙◌, map, [], ◌∷◌, Bool, ◌-◌, ◌<◌, ◌≤◌, length, take, drop, slice_index_or, arith, if◌then◌else◌}
+use Rattle.xl_core.proofs.StoreLaws.{may_be_made}
 use Rattle.std.specs.List.{AllByRecursion}
 use Rattle.xl_matrix.specs.declared.claim.Claim.{Claim}
 use Rattle.xl_matrix.specs.declared.claim.Extent.{Extent}
@@ -8,7 +9,7 @@ use Rattle.xl_matrix.specs.Owners.{posix}
 use Rattle.xl_table.specs.Held.{has_one_party, IsGrantable, IsShareOrLock, is_range, mode_of, IsKept}
 use Rattle.xl_wait.specs.declared.waiter.Rooms.{Rooms}
 use Rattle.xl_wait.specs.declared.waiter.Waiter.{Waiter}
-use Rattle.xl_core.specs.State.{CoreState}
+use Rattle.xl_core.specs.State.{CoreState, MayBe}
 use Rattle.xl_core.specs.Askers.{is_client, may_hold, asked_claim, known_claim, IsFit, range_what, asked_claims, may_hold_all, IsFitAct}
 use Rattle.xl_core.specs.Decide.{ask}
 use Rattle.xl_core.specs.Good.{IsGood, IsPled}
@@ -69,15 +70,15 @@ called_row p called good e = by called.asked (called_known (state_of p) [] p.que
   by [] none = absurd none
   by (c ∷ cs) some = some.0
 
-pub ask_keeps : (left : Rooms) (s t : CoreState) (a : Ask) (answer : Answer) (effects : List Effect) → ((n : ℕ) → ask n left s a ≡ (answer, effects, t)) → IsGood s → IsFit a → IsGood t
-ask_keeps left s t a answer effects e good fit = subst (λ (r : Answer × List Effect × CoreState). IsGood r.2) (e 0) (ask_good 0 left s a good fit)
+pub ask_keeps : (left : Rooms) (s t : CoreState) (a : Ask) (answer : Answer) (effects : List Effect) → ((n : ℕ) → MayBe n t → ask n left s a ≡ (answer, effects, t)) → IsGood s → IsFit a → IsGood t
+ask_keeps left s t a answer effects e good fit = subst (λ (r : Answer × List Effect × CoreState). IsGood r.2) (e t.made (may_be_made t)) (ask_good t.made left s a good fit)
 
 told_good : (s t : CoreState) (o : Option (List Effect × CoreState)) (r : Option (List Effect)) → IsGood s → o ≡ option_map (λ effects. (effects, t)) r → (r ≡ None → t ≡ s) → IfSome o (λ x. IsGood x.1) → IsGood t
 told_good s t o None good e same turned = subst (λ (x : CoreState). IsGood x) (sym (same refl)) good
 told_good s t o (Some effects) good e same turned = subst (λ (x : Option (List Effect × CoreState)). IfSome x (λ y. IsGood y.1)) e turned
 
-pub settle_keeps : (left : Rooms) (s t : CoreState) (r : Option (List Effect)) → ((n : ℕ) → settle n left s ≡ option_map (λ effects. (effects, t)) r) → (r ≡ None → t ≡ s) → IsGood s → IsGood t
-settle_keeps left s t r e same good = told_good s t (settle 0 left s) r good (e 0) same (settle_good 0 left s good)
+pub settle_keeps : (left : Rooms) (s t : CoreState) (r : Option (List Effect)) → ((n : ℕ) → MayBe n t → settle n left s ≡ option_map (λ effects. (effects, t)) r) → (r ≡ None → t ≡ s) → IsGood s → IsGood t
+settle_keeps left s t r e same good = told_good s t (settle t.made left s) r good (e t.made (may_be_made t)) same (settle_good t.made left s good)
 
 -- ---- several claims, one after another
 

@@ -1,4 +1,4 @@
--- Whose answers are due, and that a reading of the clock leaves none that is due.
+-- Whose answers are due.
 use Rattle.std.proofs.Common.{◌≡◌, ◌==◌, ℕ, Bool, true, false, not, ◌&&◌, inl, inr, List, [], ◌∷◌, map, Option, Some, None, option_map, slice_get, refl, sym, ap, subst, ◌∙◌}
 use Rattle.std.specs.Cmp.{IsStrictWeakOrder}
 use Rattle.std.specs.List.{AllByRecursion, filter}
@@ -29,13 +29,9 @@ use Rattle.xl_table.specs.Held.{is_cache}
 use Rattle.xl_core.specs.State.{CoreState}
 use Rattle.xl_core.specs.Askers.{party_named}
 use Rattle.xl_core.specs.BreakAnswers.{due_row, due_key, row_due_before, due_before, due, id_of, client_of}
-use Rattle.xl_core.specs.Good.{is_single_by, is_single, IsGood}
-use Rattle.xl_core.specs.Leases.{ended}
-use Rattle.xl_core.specs.Settle.{end_party}
-use Rattle.xl_core.specs.Ticks.{advanced, end_some, unleased, expire, is_still_held, is_lease_over, lapsed_by, lapse, lapse_all, expire_all, tick}
+use Rattle.xl_core.specs.Good.{is_single_by, is_single}
 use Rattle.xl_core.specs.declared.due.DueRow.{DueRow}
-use Rattle.xl_core.proofs.InTurnLaws.{in_turn_keeps, filter_turned, Takes, AreLeft, none_left}
-use Rattle.xl_core.proofs.GoodLaws.{lapse_good, advanced_good}
+use Rattle.xl_core.proofs.InTurnLaws.{filter_turned}
 
 -- ---- those that are due
 
@@ -88,7 +84,7 @@ party_is names (parties.Name Nlm number) client distinct e = absurd cc
 party_is names (parties.Name Smb number) client distinct e = absurd cc
 party_is names (parties.Open number) client distinct e = absurd cc
 
--- ---- none is left that is due
+-- ---- those that are due of claims that stay
 
 -- those that are due of these claims
 abbrev due_of : List Name → Moment → List Claim → List Claim
@@ -99,7 +95,7 @@ unfolding due
 due_is_of s = refl
 
 -- of claims that stay those are due that were
-due_stay : (s t : CoreState) (q : Claim → Bool) → t.claims ≡ filter q s.claims → t.names ≡ s.names → t.clock ≡ s.clock → due t ≡ filter q (due s)
+pub due_stay : (s t : CoreState) (q : Claim → Bool) → t.claims ≡ filter q s.claims → t.names ≡ s.names → t.clock ≡ s.clock → due t ≡ filter q (due s)
 due_stay s t q claims names clock =
     due_is_of t
     ∙ (λ i. due_of (names i) (clock i) (claims i))
@@ -108,7 +104,7 @@ due_stay s t q claims names clock =
     ∙ ap (λ (cs : List Claim). filter q cs) (sym (due_is_of s))
 
 -- a claim is held among those that stay where it is one that stays
-held_stay : (q : Claim → Bool) (d : Claim) (cs : List Claim) → is_held d (filter q cs) ≡ (is_held d cs && q d)
+pub held_stay : (q : Claim → Bool) (d : Claim) (cs : List Claim) → is_held d (filter q cs) ≡ (is_held d cs && q d)
 held_stay q d [] = refl
 held_stay q d (c ∷ cs) =
     elim (cases_Bool (same_claims c d)) [
@@ -126,7 +122,7 @@ held_stay q d (c ∷ cs) =
     and_false false = refl
 
 -- a cache is held once, so that none is left of it
-gone_once : (c : Claim) (cs : List Claim) → is_cache c.what ≡ true → Pairwise is_single cs → removed c cs ≡ filter (λ d. not (same_claims d c)) cs
+pub gone_once : (c : Claim) (cs : List Claim) → is_cache c.what ≡ true → Pairwise is_single cs → removed c cs ≡ filter (λ d. not (same_claims d c)) cs
 gone_once c [] cache single = refl
 gone_once c (d ∷ ds) cache single =
     elim (cases_Bool (same_claims d c)) [
@@ -149,73 +145,3 @@ gone_once c (d ∷ ds) cache single =
           | inl same ↦ absurd (both_ways (is_single c c) alone (subst (λ (x : Claim). is_single c x ≡ true) (same_claims-true e c same) all.0))
           | inr other ↦ rw other (ap (λ (rest : List Claim). e ∷ rest) (all_pass es all.1))
         ]
-
--- which claims stay, where not this one
-abbrev IsGone : CoreState → Claim → CoreState → Type 0
-IsGone s c t = (q : Claim → Bool) × (q c ≡ false) × (t.claims ≡ filter q s.claims) × (t.names ≡ s.names) × (t.clock ≡ s.clock)
-
--- what a party has goes, and nothing else
-ended_stay : (s : CoreState) (client : List ℕ) (party : Party) → (let t = (unleased client (end_some s (Some party))).1 in (t.claims ≡ filter (λ c. not (same_parties c.party party)) s.claims) × (t.names ≡ s.names) × (t.clock ≡ s.clock))
-unfolding end_party
-ended_stay s client party = (refl, refl, refl)
-
--- which claims stay
-abbrev Keeps : CoreState → CoreState → Type 0
-Keeps s t = (q : Claim → Bool) × (t.claims ≡ filter q s.claims) × (t.names ≡ s.names) × (t.clock ≡ s.clock)
-
-expire_stay : (s : CoreState) (client : List ℕ) → Keeps s (expire s client).1
-unfolding expire
-expire_stay s client = by (party_named s.names (NfsParty client)) where
-  all_stay : (cs : List Claim) → cs ≡ filter (λ c. true) cs
-  all_stay [] = refl
-  all_stay (c ∷ cs) = ap (λ (ds : List Claim). c ∷ ds) (all_stay cs)
-
-  by : (o : Option Party) → Keeps s (unleased client (end_some s o)).1
-  by None = ((λ c. true), all_stay s.claims, refl, refl)
-  by (Some party) = let stay = ended_stay s client party in ((λ c. not (same_parties c.party party)), stay.0, stay.1, stay.2)
-
-its_client_gone : (s : CoreState) (c : Claim) (client : List ℕ) → party_named s.names (NfsParty client) ≡ Some c.party → IsGone s c (expire s client).1
-unfolding expire
-its_client_gone s c client named =
-    let stay = ended_stay s client c.party in
-    subst (λ (o : Option Party). IsGone s c (unleased client (end_some s o)).1) (sym named) ((λ d. not (same_parties d.party c.party)), ap not (same_parties-self c.party), stay.0, stay.1, stay.2)
-
-lapse_gone : (s : CoreState) (c : Claim) → IsGood s → is_cache c.what ≡ true → IsGone s c (lapse s c).1
-unfolding lapse
-lapse_gone s c good cache = by (client_of s.names c.party) refl where
-  by : (o : Option (List ℕ)) → client_of s.names c.party ≡ o → IsGone s c (lapsed_by s c o).1
-  by None e = ((λ d. not (same_claims d c)), ap not (same_claims-self c), gone_once c s.claims cache good.single, refl, refl)
-  by (Some client) e = its_client_gone s c client (party_is s.names c.party client good.distinct e)
-
--- a break that is over takes its cache out, and maybe others
-pub lapses_take : Takes is_still_held lapse due IsGood
-lapses_take s c good here =
-    let gone = lapse_gone s c good (due_is s c here).1 in
-    let t = (lapse s c).1 in (
-      gone.0,
-      gone.1,
-      due_stay s t gone.0 gone.2 gone.3 gone.4,
-      (λ d. ap (λ (cs : List Claim). is_held d cs) gone.2 ∙ held_stay gone.0 d s.claims),
-      lapse_good s c good,
-    )
-
--- at first all are held
-pub all_are_held : (s : CoreState) → AreLeft is_still_held lapse due IsGood s (due s)
-all_are_held s = all (due s) (λ c here. test_from_held c s.claims (found_due s c here).0) where
-  all : (cs : List Claim) → ((c : Claim) → IsIn c cs → is_held c s.claims ≡ true) → cs ≡ filter (is_still_held s) cs
-  all [] held = refl
-  all (c ∷ cs) held = rw (held c (inl refl)) (ap (λ (ds : List Claim). c ∷ ds) (all cs (λ d here. held d (inr here))))
-
-none_lapses : (s : CoreState) → IsGood s → due (lapse_all s).1 ≡ []
-unfolding lapse_all
-none_lapses s good = none_left is_still_held lapse due IsGood lapses_take (due s) s good (all_are_held s)
-
-none_comes : (s : CoreState) → due s ≡ [] → due (expire_all s).1 ≡ []
-unfolding expire_all
-none_comes s none =
-    in_turn_keeps is_lease_over expire (λ t. due t ≡ []) (λ t client before. let stay = expire_stay t client in due_stay t (expire t client).1 stay.0 stay.1 stay.2 stay.3 ∙ ap (λ (cs : List Claim). filter stay.0 cs) before) (ended s.clock s.leases) s none
-
--- once the clock is read no deadline has come
-pub none_due : (s : CoreState) (now : Moment) → IsGood s → due (tick s now).1 ≡ []
-unfolding tick
-none_due s now good = none_comes (lapse_all (advanced s now)).1 (none_lapses (advanced s now) (advanced_good s now good))

@@ -1,5 +1,6 @@
 -- What each call leaves alone, and who leaves the queue by it.
 use Rattle.std.proofs.Common.{◌≡◌, ℕ, zero, suc, ◌+◌, ◌≤◌, nat_lt, length, Bool, true, false, if◌then◌else◌, ◌==◌, inl, inr, List, [], ◌∷◌, ◌++◌, map, Option, Some, None, IfSome, refl, sym, ap, subst, ◌∙◌, append-nil, arith}
+use Rattle.xl_core.specs.Causes.{noted_by, name_waiting}
 use Rattle.std.specs.List.{AllByRecursion, filter}
 use Rattle.std.proofs.lemmas.Bool.{cases_Bool, both_ways, eq-eqb, eqb-true}
 use Rattle.xl_base.specs.Lists.{Pairwise}
@@ -11,7 +12,12 @@ use Rattle.xl_names.specs.declared.name.Name.{Name}
 use Rattle.xl_wait.specs.Waiting.{is_waiting, cancelled}
 use Rattle.xl_wait.specs.declared.waiter.Rooms.{Rooms}
 use Rattle.xl_wait.specs.declared.waiter.Waiter.{Waiter}
-use Rattle.xl_core.specs.State.{CoreState, GoesOn, MayBe, drawn}
+use Rattle.xl_base.specs.Stable.{Stable, is_recorded}
+use Rattle.xl_grace.specs.Grace.{expired, is_over, shortened}
+use Rattle.xl_core.specs.State.{CoreState, GoesOn, aside_of, drawn, Aside}
+use Rattle.xl_core.specs.Stores.{may_store, stored, store_failed, client_name, without_name}
+use Rattle.xl_core.proofs.AsideLaws.{IsAside, aside_good, failed_aside, forgotten_aside, grace_aside, of_aside, with_aside, by_epoch, left_epoch}
+pub use Rattle.xl_core.proofs.StoreLaws.{stores_same, goes_on_same, goes_on_self, may_be_made}
 use Rattle.xl_core.specs.Askers.{asking_party, party_named, both_entered, asked_whats, asked_claims, is_client}
 use Rattle.xl_core.specs.Decide.{Answered, plea_of, waiter_of, decided, way, before_wish, wish_after, ask}
 use Rattle.xl_core.specs.Wishes.{wish_for}
@@ -24,7 +30,7 @@ use Rattle.xl_core.proofs.BreaksBegunLaws.{begun_leave}
 use Rattle.xl_core.proofs.WayLaws.{NoWay, Begins, way_is, way_names, way_waiters}
 use Rattle.xl_core.specs.Frames.{who_left, who_expired, all_unleased, calls_in, serves_none, AllLeave, IsFrame, IsRenewed, IsTicked, drawn_by, asks_to_hold, names_after, come_by}
 use Rattle.xl_core.specs.Good.{are_apart, IsGood}
-use Rattle.xl_core.specs.Judge.{held_with}
+use Rattle.xl_core.specs.Judge.{held_with, to_record}
 use Rattle.xl_table.specs.declared.leaver.Leaver.{Leaver}
 use Rattle.xl_table.specs.declared.leaver.Leaver.TheVariants as leavers
 use Rattle.xl_core.specs.Settle.{settle, plea_again, way_again, waits_with, numbers_with, gone, told_with, told_of_one, cancel, give_back, weaken, departed, end_party, close_open, all_cancelled}
@@ -37,10 +43,10 @@ use Rattle.xl_base.specs.declared.event.Moment.{Moment}
 use Rattle.xl_names.specs.declared.name.Name.TheVariants.{NfsParty}
 use Rattle.xl_core.specs.Leases.{Lease, later, without_lease, ended}
 use Rattle.xl_core.specs.BreakAnswers.{ack, due, client_of}
-use Rattle.xl_core.specs.Ticks.{advanced, renew, end_some, unleased, expire, behind_told, in_turn, lapsed_by, lapse, is_still_held, is_lease_over, lapse_all, expire_all, tick}
+use Rattle.xl_core.specs.Ticks.{advanced, renew, end_some, unleased, barred, gone_client, forgotten, expire, may_expire, try_expire, behind_told, in_turn, lapsed_by, try_lapsed_by, lapse, try_lapse, is_still_held, is_lease_over, lapse_all, expire_all, end_grace, try_end_grace, tick}
 use Rattle.xl_core.proofs.ChangeLaws.{AskWay, Stays, Tests, Holds, Waits, Frees, Gives, decided_way}
 use Rattle.xl_core.proofs.AskWishLaws.{wish_claims, after_claims}
-use Rattle.xl_core.proofs.GoodLaws.{once_answered, fewer_cancelled, Turned, IsMoved, Answers, Rests, IsFirst, each_turn, asked_way_good, advanced_good, expire_good, lapse_good, lapse_all_good}
+use Rattle.xl_core.proofs.GoodLaws.{once_answered, fewer_cancelled, Turned, IsMoved, Answers, Rests, IsFirst, each_turn, asked_way_good, advanced_good, try_expire_good, try_lapse_good, lapse_all_good, expire_all_good}
 use Rattle.xl_core.proofs.RowLaws.{is_refusal}
 use Rattle.xl_core.proofs.SettleLaws.{apart_ids, all_out}
 
@@ -55,33 +61,37 @@ abbrev AskFrame : CoreState → Ask → Answered → Type 0
 AskFrame s a r = IsFrame s r.1 r.2 (drawn_by r.0) (names_after a r.0 s.names) (come_by a r.0 s.names)
 
 still : (s : CoreState) → IsFrame s [] s 0 s.names []
-still s = record { stable = refl; clock = refl; made = refl; failed = refl; counter = omega arith; names = refl; leave = tt; waiters = nobody s.waiters; times = refl; leases = refl }
+still s = record { epoch = refl; clock = refl; counter = omega arith; names = refl; leave = tt; waiters = nobody s.waiters; times = refl; leases = refl }
 
-refused_frame : (s : CoreState) (a : Ask) (answer : Answer) → is_refusal answer ≡ true → AskFrame s a (answer, [], s)
-refused_frame s a (answers.Granted c) h = absurd (both_ways false refl h)
-refused_frame s a (answers.Queued number) h = absurd (both_ways false refl h)
-refused_frame s a (answers.Conflict c) h = still s
-refused_frame s a (answers.Recall c) h = still s
-refused_frame s a (answers.Grace until) h = still s
-refused_frame s a (answers.NoGrace clock) h = still s
-refused_frame s a answers.NotRecorded h = still s
-refused_frame s a (answers.Full limit) h = still s
-refused_frame s a answers.NotHeld h = still s
-refused_frame s a answers.StoreFailed h = still s
+-- the record, the stores and the grace may change, but the epoch
+noted_still : (s : CoreState) (x : Aside) → x.stable.epoch ≡ s.stable.epoch → IsFrame s [] (with_aside x s) 0 s.names []
+noted_still s x epoch = record { epoch = epoch; clock = refl; counter = omega arith; names = refl; leave = tt; waiters = nobody s.waiters; times = refl; leases = refl }
+
+refused_frame : (s : CoreState) (a : Ask) (answer : Answer) → is_refusal answer ≡ true → (x : Aside) → x.stable.epoch ≡ s.stable.epoch → AskFrame s a (answer, [], with_aside x s)
+refused_frame s a (answers.Granted c) h x epoch = absurd (both_ways false refl h)
+refused_frame s a (answers.Queued number) h x epoch = absurd (both_ways false refl h)
+refused_frame s a (answers.Conflict c) h x epoch = noted_still s x epoch
+refused_frame s a (answers.Recall c) h x epoch = noted_still s x epoch
+refused_frame s a (answers.Grace until) h x epoch = noted_still s x epoch
+refused_frame s a (answers.NoGrace clock) h x epoch = noted_still s x epoch
+refused_frame s a answers.NotRecorded h x epoch = noted_still s x epoch
+refused_frame s a (answers.Full limit) h x epoch = noted_still s x epoch
+refused_frame s a answers.NotHeld h x epoch = noted_still s x epoch
+refused_frame s a answers.StoreFailed h x epoch = noted_still s x epoch
 
 names_held : (a : Ask) (c : Claim) (names : List Name) (b : Bool) → asks_to_hold a.act ≡ b → names_after a (answers.Granted c) names ≡ (if b then both_entered a names else names)
 names_held a c names b e = ap (λ (x : Bool). if x then both_entered a names else names) e
 
 way_frame : (s : CoreState) (a : Ask) (r : Answered) → AskWay s a r → AskFrame s a r
 unfolding held_with
-way_frame s a r (Stays answer refused e) = subst (AskFrame s a) (sym e) (refused_frame s a answer refused)
-way_frame s a r (Tests c holds e) = subst (AskFrame s a) (sym e) (record { stable = refl; clock = refl; made = refl; failed = refl; counter = omega arith; names = sym (names_held a c s.names false holds); leave = tt; waiters = nobody s.waiters; times = refl; leases = refl })
-way_frame s a r (Holds c claims is holds e) = subst (AskFrame s a) (sym e) (record { stable = refl; clock = refl; made = refl; failed = refl; counter = omega arith; names = sym (names_held a c s.names true holds); leave = tt; waiters = nobody s.waiters; times = refl; leases = refl })
-way_frame s a r (Waits c cs may blocked is holds e) =
+way_frame s a r (Stays answer refused e) = subst (AskFrame s a) (sym e) (refused_frame s a answer refused (aside_of (noted_by s a answer)) (by_epoch s a answer))
+way_frame s a r (Tests c holds e) = subst (AskFrame s a) (sym e) (record { epoch = refl; clock = refl; counter = omega arith; names = sym (names_held a c s.names false holds); leave = tt; waiters = nobody s.waiters; times = refl; leases = refl })
+way_frame s a r (Holds c claims is holds e) = subst (AskFrame s a) (sym e) (record { epoch = by_epoch s a (answers.Granted c); clock = refl; counter = omega arith; names = sym (names_held a c s.names true holds); leave = tt; waiters = nobody s.waiters; times = refl; leases = refl })
+way_frame s a r (Waits c cs why is holds e) =
     subst (AskFrame s a) (sym e)
-    (record { stable = refl; clock = refl; made = refl; failed = refl; counter = refl; names = refl; leave = tt; waiters = ap (λ (ds : List Claim). s.waiters ++ waiter_of (s.counter + 1) a (asking_party a s.names) ds ∷ []) is; times = refl; leases = refl })
-way_frame s a r (Frees c first last holds act file owner e) = subst (AskFrame s a) (sym e) (record { stable = refl; clock = refl; made = refl; failed = refl; counter = omega arith; names = sym (names_held a c s.names false holds); leave = tt; waiters = nobody s.waiters; times = refl; leases = refl })
-way_frame s a r (Gives c d holds act file owner range e) = subst (AskFrame s a) (sym e) (record { stable = refl; clock = refl; made = refl; failed = refl; counter = omega arith; names = sym (names_held a c s.names false holds); leave = tt; waiters = nobody s.waiters; times = refl; leases = refl })
+    (record { epoch = refl; clock = refl; counter = refl; names = refl; leave = tt; waiters = ap (λ (ds : List Claim). s.waiters ++ waiter_of (s.counter + 1) a (asking_party a s.names) ds ∷ []) is; times = refl; leases = refl })
+way_frame s a r (Frees c first last holds act file owner e) = subst (AskFrame s a) (sym e) (record { epoch = refl; clock = refl; counter = omega arith; names = sym (names_held a c s.names false holds); leave = tt; waiters = nobody s.waiters; times = refl; leases = refl })
+way_frame s a r (Gives c d holds act file owner range e) = subst (AskFrame s a) (sym e) (record { epoch = refl; clock = refl; counter = omega arith; names = sym (names_held a c s.names false holds); leave = tt; waiters = nobody s.waiters; times = refl; leases = refl })
 
 pub decided_frame : (n : ℕ) (left : Rooms) (s : CoreState) (a : Ask) → IsGood s → is_client a.owner a.party ≡ true → AskFrame s a (decided n left s a)
 decided_frame n left s a good client = way_frame s a (decided n left s a) (decided_way n left s a good client)
@@ -93,7 +103,7 @@ decided_quiet n left s a good client = by (decided n left s a) (decided_way n le
   by r (Stays answer refused e) = ap (λ (x : Answered). x.1) e
   by r (Tests c holds e) = ap (λ (x : Answered). x.1) e
   by r (Holds c claims is holds e) = ap (λ (x : Answered). x.1) e
-  by r (Waits c cs may blocked is holds e) = ap (λ (x : Answered). x.1) e
+  by r (Waits c cs why is holds e) = ap (λ (x : Answered). x.1) e
   by r (Frees c first last holds act file owner e) = ap (λ (x : Answered). x.1) e
   by r (Gives c d holds act file owner range e) = ap (λ (x : Answered). x.1) e
 
@@ -131,10 +141,8 @@ told_calls last (b ∷ bs) =
 begun_frame : (c : Claim) (s : CoreState) → IsFrame s (breaks_begun c s).0 (breaks_begun c s).1 (calls_in (breaks_begun c s).0) s.names []
 unfolding breaks_begun
 begun_frame c s = record {
-  stable = refl;
+  epoch = refl;
   clock = refl;
-  made = refl;
-  failed = refl;
   counter = ap (λ (calls : ℕ). s.counter + calls) (sym (told_calls s.counter (breaks_in_order c s) ∙ recalls_sorted (told_before s.names) (planned c s.claims).breaks));
   names = refl;
   leave = subst (λ (ids : List ℕ). AllLeave ids s.waiters) (sym (begun_leave s c)) tt;
@@ -167,10 +175,8 @@ behind_frame earlier p asked s u told given known come frame quiet =
     let same : way.1.waiters ≡ s.waiters = way_waiters earlier p asked s in
     let ids : who_left (way.0 ++ told) ≡ who_left told = told_both way.0 told ∙ ap (λ (xs : List ℕ). xs ++ who_left told) (way_leaves earlier p asked s) in
     record {
-      stable = frame.stable ∙ first.stable;
+      epoch = frame.epoch ∙ first.epoch;
       clock = frame.clock ∙ first.clock;
-      made = frame.made ∙ first.made;
-      failed = frame.failed ∙ first.failed;
       counter = omega (arith, frame.counter, first.counter, calls_both way.0 told, quiet);
       names = frame.names;
       leave = subst (λ (xs : List ℕ). AllLeave xs s.waiters) (sym ids) (subst (λ (ws : List Waiter). AllLeave (who_left told) ws) same frame.leave);
@@ -183,7 +189,7 @@ behind_frame earlier p asked s u told given known come frame quiet =
 same_frame : (s t u : CoreState) (told : List Effect) (given : ℕ) (known : List Name) (come : List Waiter) → u ≡ record t { claims = u.claims } → IsFrame s told t given known come → IsFrame s told u given known come
 same_frame s t u told given known come is frame =
     subst (λ (x : CoreState). IsFrame s told x given known come) (sym is)
-    (record { stable = frame.stable; clock = frame.clock; made = frame.made; failed = frame.failed; counter = frame.counter; names = frame.names; leave = frame.leave; waiters = frame.waiters; times = frame.times; leases = frame.leases })
+    (record { epoch = frame.epoch; clock = frame.clock; counter = frame.counter; names = frame.names; leave = frame.leave; waiters = frame.waiters; times = frame.times; leases = frame.leases })
 
 for_frame : (kinds : List CacheKind) (answer : Answer) (s t : CoreState) (told : List Effect) (given : ℕ) (known : List Name) (come : List Waiter) → IsFrame s told t given known come → IsFrame s told (wish_for kinds answer t) given known come
 for_frame kinds answer s t told given known come frame = same_frame s t (wish_for kinds answer t) told given known come (wish_claims kinds answer t) frame
@@ -191,8 +197,8 @@ for_frame kinds answer s t told given known come frame = same_frame s t (wish_fo
 none_more : (n : ℕ) → 0 + n ≡ n
 none_more n = omega arith
 
-first_frame : (left : Rooms) (s : CoreState) (turn : Turned) → IsFirst left s [] s.waiters turn → IsFrame s turn.0 turn.1 (calls_in turn.0) s.names []
-first_frame left s turn first = by first.moved where
+first_frame : (n : ℕ) (left : Rooms) (s : CoreState) (turn : Turned) → IsFirst n left s [] s.waiters turn → IsFrame s turn.0 turn.1 (calls_in turn.0) s.names []
+first_frame n left s turn first = by first.moved where
   w : Waiter
   w = first.waiter
 
@@ -216,17 +222,17 @@ first_frame left s turn first = by first.moved where
       subst (λ (x : List Effect). IsFrame s x turn.1 (calls_in x) s.names []) (sym e)
       (subst (λ (x : CoreState). IsFrame s (way.0 ++ told) x (calls_in (way.0 ++ told)) s.names []) (sym f) (subst (λ (given : ℕ). IsFrame s (way.0 ++ told) u given s.names []) (none_more (calls_in (way.0 ++ told))) (behind_frame first.before (plea_again s w) w.asked s u told 0 s.names [] frame quiet)))
 
-  by : IsMoved left first.before s w first.claim first.claims turn → IsFrame s turn.0 turn.1 (calls_in turn.0) s.names []
+  by : IsMoved n left first.before s w first.claim first.claims turn → IsFrame s turn.0 turn.1 (calls_in turn.0) s.names []
   by (Answers answer told new due pass clear) =
       let u = once_answered t w (first.claim ∷ first.claims) answer in
       whole (Served w.party w.id answer ∷ []) (wish_for w.wish answer u) told new refl
-      (for_frame w.wish answer t u (Served w.party w.id answer ∷ []) 0 s.names [] (record { stable = refl; clock = refl; made = refl; failed = refl; counter = omega arith; names = named; leave = (waits, tt); waiters = nobody (cancelled w.id t.waiters); times = refl; leases = refl }))
+      (for_frame w.wish answer t u (Served w.party w.id answer ∷ []) 0 s.names [] (record { epoch = left_epoch (to_record (name_waiting t w) (first.claim ∷ first.claims)) answer t; clock = refl; counter = omega arith; names = named; leave = (waits, tt); waiters = nobody (cancelled w.id t.waiters); times = refl; leases = refl }))
   by (Rests e up) =
       whole [] t (ap (λ (x : Turned). x.0) e ∙ sym (append-nil way.0)) (ap (λ (x : Turned). x.1) e) refl
-      (record { stable = refl; clock = refl; made = refl; failed = refl; counter = omega arith; names = named; leave = tt; waiters = nobody t.waiters; times = refl; leases = refl })
+      (record { epoch = refl; clock = refl; counter = omega arith; names = named; leave = tt; waiters = nobody t.waiters; times = refl; leases = refl })
 
 pub turn_frame : (n : ℕ) (left : Rooms) (s : CoreState) → IsGood s → IfSome (settle n left s) (λ r. IsFrame s r.0 r.1 (calls_in r.0) s.names [])
-turn_frame n left s good = each_turn n left s (λ r. IsFrame s r.0 r.1 (calls_in r.0) s.names []) good (λ turn first. first_frame left s turn first)
+turn_frame n left s good = each_turn n left s (λ r. IsFrame s r.0 r.1 (calls_in r.0) s.names []) good (λ turn first. first_frame n left s turn first)
 
 -- ---- an ask, behind its way
 
@@ -266,10 +272,8 @@ unfolding cancel
 cancel_frame s id waits =
     let left = one_left id s.waiters waits in
     record {
-      stable = refl;
+      epoch = refl;
       clock = refl;
-      made = refl;
-      failed = refl;
       counter = omega arith;
       names = refl;
       leave = subst (λ (ids : List ℕ). AllLeave ids s.waiters) (sym left) (waits, tt);
@@ -280,19 +284,19 @@ cancel_frame s id waits =
 
 pub give_back_frame : (s : CoreState) (claim : Claim) → IsFrame s (give_back s claim).0 (give_back s claim).1 0 s.names []
 unfolding give_back
-give_back_frame s claim = record { stable = refl; clock = refl; made = refl; failed = refl; counter = omega arith; names = refl; leave = tt; waiters = nobody s.waiters; times = refl; leases = refl }
+give_back_frame s claim = record { epoch = refl; clock = refl; counter = omega arith; names = refl; leave = tt; waiters = nobody s.waiters; times = refl; leases = refl }
 
 pub weaken_frame : (s : CoreState) (share : Claim) (access deny : Rwd) → IsFrame s (weaken s share access deny).0 (weaken s share access deny).1 0 s.names []
 unfolding weaken
-weaken_frame s share access deny = record { stable = refl; clock = refl; made = refl; failed = refl; counter = omega arith; names = refl; leave = tt; waiters = nobody s.waiters; times = refl; leases = refl }
+weaken_frame s share access deny = record { epoch = refl; clock = refl; counter = omega arith; names = refl; leave = tt; waiters = nobody s.waiters; times = refl; leases = refl }
 
 pub ack_frame : (s : CoreState) (cache : Claim) (to : Option CacheKind) → IsFrame s (ack s cache to).0 (ack s cache to).1 0 s.names []
 unfolding ack
-ack_frame s cache to = record { stable = refl; clock = refl; made = refl; failed = refl; counter = omega arith; names = refl; leave = tt; waiters = nobody s.waiters; times = refl; leases = refl }
+ack_frame s cache to = record { epoch = refl; clock = refl; counter = omega arith; names = refl; leave = tt; waiters = nobody s.waiters; times = refl; leases = refl }
 
 pub drawn_frame : (s : CoreState) → IsFrame s [] (drawn s) 1 s.names []
 unfolding drawn
-drawn_frame s = record { stable = refl; clock = refl; made = refl; failed = refl; counter = refl; names = refl; leave = tt; waiters = nobody s.waiters; times = refl; leases = refl }
+drawn_frame s = record { epoch = refl; clock = refl; counter = refl; names = refl; leave = tt; waiters = nobody s.waiters; times = refl; leases = refl }
 
 told_left : (ws : List Waiter) → who_left (map gone ws) ≡ map (λ w. w.id) ws
 told_left [] = refl
@@ -321,10 +325,8 @@ leaver_leaves leaver ws apart = all_leave (waits_with leaver) ws apart
 
 departed_frame : (s : CoreState) (leaver : Leaver) → IsGood s → IsFrame s (departed s leaver).0 (departed s leaver).1 0 s.names []
 departed_frame s leaver good = record {
-  stable = refl;
+  epoch = refl;
   clock = refl;
-  made = refl;
-  failed = refl;
   counter = omega arith;
   names = refl;
   leave = subst (λ (ids : List ℕ). AllLeave ids s.waiters) (sym (leaver_left leaver s.waiters)) (leaver_leaves leaver s.waiters good.apart);
@@ -397,7 +399,7 @@ cancelled_both : (xs ys : List ℕ) (ws : List Waiter) → all_cancelled (xs ++ 
 cancelled_both [] ys ws = refl
 cancelled_both (id ∷ xs) ys ws = cancelled_both xs ys (cancelled id ws)
 
-expired_both : (xs ys : List Effect) → who_expired (xs ++ ys) ≡ who_expired xs ++ who_expired ys
+pub expired_both : (xs ys : List Effect) → who_expired (xs ++ ys) ≡ who_expired xs ++ who_expired ys
 expired_both [] ys = refl
 expired_both (Served party id answer ∷ xs) ys = expired_both xs ys
 expired_both (Cancelled party id ∷ xs) ys = expired_both xs ys
@@ -428,9 +430,7 @@ clock_stays now = elim (cases_Bool (nat_lt now.0 now.0)) [ inl e ↦ rw e refl |
 framed_ticked : (s t : CoreState) (told : List Effect) → who_expired told ≡ [] → IsFrame s told t 0 s.names [] → IsTicked s s.clock told t
 framed_ticked s t told none frame = record {
   clock = frame.clock ∙ sym (clock_stays s.clock);
-  stable = frame.stable;
-  made = frame.made;
-  failed = frame.failed;
+  epoch = frame.epoch;
   counter = omega (arith, frame.counter);
   names = frame.names;
   leave = frame.leave;
@@ -442,7 +442,7 @@ framed_ticked s t told none frame = record {
 left_so : (s : CoreState) → IsLeft s ([], s)
 left_so s = (λ good. framed_ticked s s [] refl (still s), refl)
 
-ended_expires : (s : CoreState) (party : Party) → who_expired (end_party s party).0 ≡ []
+pub ended_expires : (s : CoreState) (party : Party) → who_expired (end_party s party).0 ≡ []
 unfolding end_party
 ended_expires s party = none_expired (leavers.Party party) s.waiters
 
@@ -454,9 +454,7 @@ some_left s (Some party) = (λ good. framed_ticked s (end_party s party).1 (end_
 ticked_on : (s t u : CoreState) (now : Moment) (told more : List Effect) → IsTicked s now told t → IsTicked t t.clock more u → IsTicked s now (told ++ more) u
 ticked_on s t u now told more first next = record {
   clock = next.clock ∙ clock_stays t.clock ∙ first.clock;
-  stable = next.stable ∙ first.stable;
-  made = next.made ∙ first.made;
-  failed = next.failed ∙ first.failed;
+  epoch = next.epoch ∙ first.epoch;
   counter = next.counter ∙ first.counter;
   names = next.names ∙ first.names;
   leave = subst (λ (ids : List ℕ). AllLeave ids s.waiters) (sym (told_both told more)) (leave_both (who_left told) (who_left more) s.waiters first.leave (subst (λ (ws : List Waiter). AllLeave (who_left more) ws) first.waiters next.leave));
@@ -472,17 +470,52 @@ ticked_on s t u now told more first next = record {
 left_on : (s t : CoreState) (told : List Effect) (r : List Effect × CoreState) → IsLeft s (told, t) → (IsGood s → IsGood t) → IsLeft t r → IsLeft s (behind_told told r)
 left_on s t told r first sound next = (λ good. ticked_on s t r.1 s.clock told r.0 (first.0 good) (next.0 (sound good)), unserved_more told r.0 first.1 next.1)
 
+-- the record, the grace and the stores of the step alone change, and the epoch stays
+aside_left : (s t : CoreState) → IsAside s t → t.stable.epoch ≡ s.stable.epoch → IsLeft s ([], t)
+aside_left s t is epoch =
+    (λ good. subst (λ (u : CoreState). IsTicked s s.clock [] u) (sym is) (record { clock = sym (clock_stays s.clock); epoch = epoch; counter = refl; names = refl; leave = tt; waiters = refl; times = refl; leases = refl }), refl)
+
+epoch_failed : (stable : Stable) (s : CoreState) → (store_failed stable s).stable.epoch ≡ s.stable.epoch
+unfolding store_failed
+epoch_failed stable s = elim (cases_Bool s.failed) [ inl e ↦ rw e refl | inr e ↦ rw e refl ]
+
+pub failed_left : (s : CoreState) (stable : Stable) → IsLeft s ([], store_failed stable s)
+failed_left s stable = aside_left s (store_failed stable s) (failed_aside stable s) (epoch_failed stable s)
+
+epoch_forgotten : (s : CoreState) (client : List ℕ) → (forgotten s client).stable.epoch ≡ s.stable.epoch
+unfolding stored
+epoch_forgotten s client = elim (cases_Bool (is_recorded (client_name client) s.stable.names)) [ inl e ↦ rw e refl | inr e ↦ rw e refl ]
+
+forgotten_left : (s : CoreState) (client : List ℕ) → IsLeft s ([], forgotten s client)
+forgotten_left s client = aside_left s (forgotten s client) (forgotten_aside s client) (epoch_forgotten s client)
+
 -- the lease goes, which is told last
 lease_goes : (s t : CoreState) (client : List ℕ) (told : List Effect) → IsTicked s s.clock told t → (let r = unleased client (told, t) in IsTicked s s.clock r.0 r.1)
 lease_goes s t client told is = ticked_on s t (record t { leases = without_lease client t.leases }) s.clock told (Expired client ∷ []) is
-    (record { clock = sym (clock_stays t.clock); stable = refl; made = refl; failed = refl; counter = refl; names = refl; leave = tt; waiters = refl; times = refl; leases = refl })
+    (record { clock = sym (clock_stays t.clock); epoch = refl; counter = refl; names = refl; leave = tt; waiters = refl; times = refl; leases = refl })
+
+unleased_left : (s : CoreState) (client : List ℕ) (party : Option Party) → IsLeft s (unleased client (end_some s party))
+unleased_left s client party =
+    let r = end_some s party in
+    let is = some_left s party in
+    (λ good. lease_goes s r.1 client r.0 (is.0 good), unserved_more r.0 (Expired client ∷ []) is.1 refl)
+
+gone_left : (s : CoreState) (client : List ℕ) → IsLeft s (gone_client s client)
+unfolding gone_client barred
+gone_left s client =
+    let t = record s { grace = expired (client_name client) s.grace } in
+    left_on s t [] (unleased client (end_some t (party_named s.names (NfsParty client)))) (aside_left s t refl refl) (aside_good (record (aside_of s) { grace = expired (client_name client) s.grace }) s) (unleased_left t client (party_named s.names (NfsParty client)))
 
 pub expire_left : (s : CoreState) (client : List ℕ) → IsLeft s (expire s client)
 unfolding expire
 expire_left s client =
-    let r = end_some s (party_named s.names (NfsParty client)) in
-    let is = some_left s (party_named s.names (NfsParty client)) in
-    (λ good. lease_goes s r.1 client r.0 (is.0 good), unserved_more r.0 (Expired client ∷ []) is.1 refl)
+    let t = forgotten s client in
+    left_on s t [] (gone_client t client) (forgotten_left s client) (λ good. of_aside IsGood s t (forgotten_aside s client) (λ x. aside_good x s good)) (gone_left t client)
+
+try_expire_left : (n : ℕ) (s : CoreState) (client : List ℕ) → IsLeft s (try_expire n s client)
+unfolding try_expire
+try_expire_left n s client =
+    elim (cases_Bool (may_expire n s client)) [ inl may ↦ rw may (expire_left s client) | inr none ↦ rw none (failed_left s (without_name (client_name client) s.stable)) ]
 
 -- what is done in turn leaves the state as each of it does
 in_turn_left : {A : Type 0} (is_left : CoreState → A → Bool) (does : CoreState → A → List Effect × CoreState) → ((s : CoreState) (x : A) → IsLeft s (does s x)) → ((s : CoreState) (x : A) → IsGood s → IsGood (does s x).1) → (xs : List A) (s : CoreState) → IsLeft s (in_turn is_left does xs s)
@@ -502,29 +535,56 @@ pub lapse_left : (s : CoreState) (cache : Claim) → IsLeft s (lapse s cache)
 unfolding lapse
 lapse_left s cache = without_left s cache (client_of s.names cache.party)
 
-lapse_all_left : (s : CoreState) → IsLeft s (lapse_all s)
+try_without_left : (n : ℕ) (s : CoreState) (cache : Claim) (client : Option (List ℕ)) → IsLeft s (try_lapsed_by n s cache client)
+try_without_left n s cache None = without_left s cache None
+try_without_left n s cache (Some client) = try_expire_left n s client
+
+try_lapse_left : (n : ℕ) (s : CoreState) (cache : Claim) → IsLeft s (try_lapse n s cache)
+unfolding try_lapse
+try_lapse_left n s cache = try_without_left n s cache (client_of s.names cache.party)
+
+lapse_all_left : (n : ℕ) (s : CoreState) → IsLeft s (lapse_all n s)
 unfolding lapse_all
-lapse_all_left s = in_turn_left is_still_held lapse lapse_left lapse_good (due s) s
+lapse_all_left n s = in_turn_left is_still_held (try_lapse n) (try_lapse_left n) (try_lapse_good n) (due s) s
 
-expire_all_left : (s : CoreState) → IsLeft s (expire_all s)
+expire_all_left : (n : ℕ) (s : CoreState) → IsLeft s (expire_all n s)
 unfolding expire_all
-expire_all_left s = in_turn_left is_lease_over expire expire_left expire_good (ended s.clock s.leases) s
+expire_all_left n s = in_turn_left is_lease_over (try_expire n) (try_expire_left n) (try_expire_good n) (ended s.clock s.leases) s
 
-ticked_left : (s : CoreState) (now : Moment) → IsLeft (advanced s now) (tick s now)
+epoch_ended : (s : CoreState) → (end_grace s).stable.epoch ≡ s.stable.epoch
+unfolding end_grace stored
+epoch_ended s = refl
+
+pub end_grace_left : (s : CoreState) → IsLeft s ([], end_grace s)
+end_grace_left s = aside_left s (end_grace s) (grace_aside s) (epoch_ended s)
+
+end_left : (n : ℕ) (s : CoreState) → IsLeft s ([], try_end_grace n s)
+unfolding try_end_grace
+end_left n s =
+    elim (cases_Bool (is_over s.grace s.clock)) [
+      | inr runs ↦ rw runs (left_so s)
+      | inl over ↦ elim (cases_Bool (may_store n s)) [ inl may ↦ rw (over, may) (end_grace_left s) | inr none ↦ rw (over, none) (failed_left s (shortened s.grace s.stable)) ]
+    ]
+
+ticked_left : (n : ℕ) (s : CoreState) (now : Moment) → IsLeft (advanced s now) (tick n s now)
 unfolding tick
-ticked_left s now =
-    let r = lapse_all (advanced s now) in
-    left_on (advanced s now) r.1 r.0 (expire_all r.1) (lapse_all_left (advanced s now)) (lapse_all_good (advanced s now)) (expire_all_left r.1)
+ticked_left n s now =
+    let t = advanced s now in
+    let r = lapse_all n t in
+    let q = expire_all n r.1 in
+    let e = try_end_grace n q.1 in
+    left_on t r.1 r.0 (q.0, e) (lapse_all_left n t) (lapse_all_good n t)
+    (subst (λ (told : List Effect). IsLeft r.1 (told, e)) (append-nil q.0) (left_on r.1 q.1 q.0 ([], e) (expire_all_left n r.1) (expire_all_good n r.1) (end_left n q.1)))
 
 pub advanced_ticked : (s : CoreState) (now : Moment) → IsTicked s now [] (advanced s now)
 unfolding advanced
-advanced_ticked s now = record { clock = refl; stable = refl; made = refl; failed = refl; counter = refl; names = refl; leave = tt; waiters = refl; times = refl; leases = refl }
+advanced_ticked s now = record { clock = refl; epoch = refl; counter = refl; names = refl; leave = tt; waiters = refl; times = refl; leases = refl }
 
-pub tick_frame : (s : CoreState) (now : Moment) → IsGood s → IsTicked s now (tick s now).0 (tick s now).1
-tick_frame s now good = ticked_on s (advanced s now) (tick s now).1 now [] (tick s now).0 (advanced_ticked s now) ((ticked_left s now).0 (advanced_good s now good))
+pub tick_frame : (n : ℕ) (s : CoreState) (now : Moment) → IsGood s → IsTicked s now (tick n s now).0 (tick n s now).1
+tick_frame n s now good = ticked_on s (advanced s now) (tick n s now).1 now [] (tick n s now).0 (advanced_ticked s now) ((ticked_left n s now).0 (advanced_good s now good))
 
-pub tick_unserved : (s : CoreState) (now : Moment) → serves_none (tick s now).0 ≡ true
-tick_unserved s now = (ticked_left s now).1
+pub tick_unserved : (n : ℕ) (s : CoreState) (now : Moment) → serves_none (tick n s now).0 ≡ true
+tick_unserved n s now = (ticked_left n s now).1
 
 pub renew_unserved : (s : CoreState) (client : List ℕ) → serves_none (renew s client).0 ≡ true
 unfolding renew
@@ -532,15 +592,7 @@ renew_unserved s client = refl
 
 pub renew_frame : (s : CoreState) (client : List ℕ) → IsRenewed s client (renew s client).0 (renew s client).1
 unfolding renew
-renew_frame s client = record { silent = refl; claims = refl; waiters = refl; names = refl; stable = refl; clock = refl; times = refl; leases = refl; counter = refl; made = refl; failed = refl }
-
--- ---- the stores of a step
-
-pub goes_on_self : (s : CoreState) → GoesOn s s
-goes_on_self s = record { made = omega arith; failed = λ f. (f, refl) }
-
-pub may_be_made : (s : CoreState) → MayBe s.made s
-may_be_made s = record { enough = omega arith; spent = λ _. refl }
+renew_frame s client = record { silent = refl; claims = refl; waiters = refl; names = refl; clock = refl; times = refl; leases = refl; counter = refl; aside = refl }
 
 -- ---- what a frame leaves, where nobody comes
 
@@ -548,9 +600,45 @@ fewer_left : (ids : List ℕ) (ws : List Waiter) → length (all_cancelled ids w
 fewer_left [] ws = omega arith
 fewer_left (id ∷ ids) ws = omega (arith, fewer_left ids (cancelled id ws), fewer_cancelled id ws)
 
-pub frame_goes_on : (s t : CoreState) (told : List Effect) (given : ℕ) (known : List Name) → IsFrame s told t given known [] → GoesOn s t × (length t.waiters ≤ length s.waiters)
-frame_goes_on s t told given known frame =
-    let queue : t.waiters ≡ all_cancelled (who_left told) s.waiters = frame.waiters ∙ append-nil (all_cancelled (who_left told) s.waiters) in (
-      record { made = omega (arith, frame.made); failed = λ f. (frame.failed ∙ f, frame.made) },
-      omega (arith, ap (λ (ws : List Waiter). length ws) queue, fewer_left (who_left told) s.waiters),
-    )
+pub frame_goes_on : (s t : CoreState) (told : List Effect) (given : ℕ) (known : List Name) → aside_of t ≡ aside_of s → IsFrame s told t given known [] → GoesOn s t × (length t.waiters ≤ length s.waiters)
+frame_goes_on s t told given known same frame =
+    let queue : t.waiters ≡ all_cancelled (who_left told) s.waiters = frame.waiters ∙ append-nil (all_cancelled (who_left told) s.waiters) in
+    (goes_on_same s t (stores_same s t same), omega (arith, ap (λ (ws : List Waiter). length ws) queue, fewer_left (who_left told) s.waiters))
+
+-- ---- what stores nothing
+
+pub cancel_aside : (s : CoreState) (id : ℕ) → aside_of (cancel s id).1 ≡ aside_of s
+unfolding cancel
+cancel_aside s id = refl
+
+pub give_back_aside : (s : CoreState) (claim : Claim) → aside_of (give_back s claim).1 ≡ aside_of s
+unfolding give_back
+give_back_aside s claim = refl
+
+pub weaken_aside : (s : CoreState) (share : Claim) (access deny : Rwd) → aside_of (weaken s share access deny).1 ≡ aside_of s
+unfolding weaken
+weaken_aside s share access deny = refl
+
+pub ack_aside : (s : CoreState) (cache : Claim) (to : Option CacheKind) → aside_of (ack s cache to).1 ≡ aside_of s
+unfolding ack
+ack_aside s cache to = refl
+
+pub end_party_aside : (s : CoreState) (party : Party) → aside_of (end_party s party).1 ≡ aside_of s
+unfolding end_party
+end_party_aside s party = refl
+
+pub close_open_aside : (s : CoreState) (number : ℕ) (party : Option Party) → aside_of (close_open s number party).1 ≡ aside_of s
+unfolding close_open
+close_open_aside s number party = refl
+
+pub drawn_aside : (s : CoreState) → aside_of (drawn s) ≡ aside_of s
+unfolding drawn
+drawn_aside s = refl
+
+pub renew_aside : (s : CoreState) (client : List ℕ) → aside_of (renew s client).1 ≡ aside_of s
+unfolding renew
+renew_aside s client = refl
+
+pub advanced_aside : (s : CoreState) (now : Moment) → aside_of (advanced s now) ≡ aside_of s
+unfolding advanced
+advanced_aside s now = refl

@@ -1,7 +1,19 @@
 -- The state stays good: by each ask, each turn, each cancel, and when a party leaves.
-use Rattle.std.proofs.Common.{◌≡◌, ℕ, ◌+◌, ◌≤◌, Bool, true, false, not, ◌&&◌, ◌||◌, ◌==◌, nat_le, inl, inr, List, [], ◌∷◌, ◌++◌, length, append-nil, append_assoc, Option, Some, None, IfSome, refl, sym, ap, subst, ◌∙◌, arith, map, if◌then◌else◌}
+use Rattle.std.proofs.Common.{◌≡◌, ℕ, ◌+◌, ◌≤◌, Bool, true, false, not, ◌&&◌, ◌||◌, ◌==◌, nat_le, inl, inr, List, [], ◌∷◌, ◌++◌, length, append-nil, append_assoc, Option, Some, None, IfSome, refl, sym, ap, subst, ◌∙◌, arith, map, if◌then◌else◌, ◌⊎◌, is_some, find}
+use Rattle.xl_cache.specs.Wishing.{is_its_cache, granted_kind}
+use Rattle.xl_cache.specs.declared.wish.Wish.{Wish as CacheWish}
+use Rattle.xl_core.specs.Deeds.{asked_by, once_served}
+use Rattle.xl_core.specs.BreaksBegun.{breaks_begun}
+use Rattle.xl_core.proofs.StandingLaws.{stays_asks}
+use Rattle.xl_core.specs.declared.standings.Standing.TheVariants.{Timely, Reclaims, Stays, Early, Late, Unrecorded}
+use Rattle.xl_core.specs.declared.standings.Standing.{Standing}
+use Rattle.xl_core.specs.Standings.{recorded_as, is_smb, stands, stands_alone, refusal, enters}
+use Rattle.xl_core.specs.declared.ask.Who.TheVariants.{Named, Open}
+use Rattle.xl_matrix.specs.declared.claim.CacheKind.TheVariants.{R, RH, RW, RWH, ReadDeleg, WriteDeleg}
+use Rattle.xl_grace.specs.Grace.{reclaimed, Running}
+use Rattle.xl_base.specs.declared.stable.Recorded.{Recorded}
 use Rattle.std.specs.List.{AllByRecursion, filter, list_any}
-use Rattle.std.proofs.lemmas.Bool.{cases_Bool, both_ways, and_parts, ne_eqb, not-true, not_from_false, leb-true}
+use Rattle.std.proofs.lemmas.Bool.{cases_Bool, both_ways, and_parts, ne_eqb, not-true, not_from_false, leb-true, or_parts}
 use Rattle.std.proofs.lemmas.List.{length-append}
 use Rattle.xl_base.specs.Lists.{IsIn, Pairwise}
 use Rattle.xl_base.proofs.Members.{all_in, all_from, all_append, in_filter_from, pairwise_append, pairwise_filter}
@@ -14,13 +26,13 @@ use Rattle.xl_matrix.specs.Owners.{posix}
 use Rattle.xl_matrix.specs.declared.claim.CacheKind.{CacheKind}
 use Rattle.xl_matrix.specs.declared.claim.Claim.{Claim}
 use Rattle.xl_matrix.specs.declared.claim.Rwd.{Rwd}
-use Rattle.xl_cache.specs.Parties.{is_kind_of}
+use Rattle.xl_cache.specs.Parties.{is_kind_of, is_oplock_kind}
 use Rattle.xl_cache.specs.Targets.{is_delegation}
 use Rattle.xl_matrix.specs.declared.claim.Extent.{Extent}
 use Rattle.xl_matrix.specs.declared.claim.Extent.TheVariants.{Bytes, Empty}
 use Rattle.xl_matrix.specs.declared.claim.What.{What}
 use Rattle.xl_matrix.specs.declared.claim.What.TheVariants as whats
-use Rattle.xl_names.specs.Names.{AreDistinct, most_names}
+use Rattle.xl_names.specs.Names.{AreDistinct, most_names, same_name}
 use Rattle.xl_names.specs.declared.name.Name.{Name}
 use Rattle.xl_spans.specs.Spans.{meets}
 use Rattle.xl_spans.specs.declared.span.Span.{Span}
@@ -33,31 +45,34 @@ use Rattle.xl_table.specs.Relock.{most_claims, holds_byte, granted_claims}
 use Rattle.xl_table.proofs.FlatLaws.{all_removed, pairwise_removed}
 use Rattle.xl_table.proofs.KeptLaws.{kept_empty, kept_removed}
 use Rattle.xl_table.proofs.WriteBack.{is_of-true, one_party_open, all_one_party, kept_filter}
-use Rattle.xl_wait.specs.Waiting.{cancelled}
+use Rattle.xl_wait.specs.Waiting.{cancelled, waits_on}
 use Rattle.xl_wait.specs.declared.waiter.Rooms.{Rooms}
 use Rattle.xl_wait.specs.declared.waiter.Waiter.{Waiter}
-use Rattle.xl_core.specs.State.{CoreState, started, step_begun, drawn}
-use Rattle.xl_core.specs.Leases.{Lease, moment_after, later, with_lease, without_lease, ended}
+use Rattle.xl_core.specs.State.{CoreState, started, step_begun, drawn, aside_of}
+use Rattle.xl_core.specs.Leases.{Lease, moment_after, later, with_lease, without_lease, ended as ended_leases}
 use Rattle.xl_core.specs.BreakAnswers.{due, client_of}
-use Rattle.xl_core.specs.Ticks.{advanced, renew, end_some, unleased, expire, lapsed_by, lapse, is_still_held, is_lease_over, lapse_all, expire_all, tick}
-use Rattle.xl_core.specs.Askers.{party_named, who_entered, asking_party, may_have, may_wish_for, IsFitWish, IsOrdered, range_what, known_owner}
+use Rattle.xl_core.specs.Stores.{store_failed, client_name, without_name, may_record, recorded, unstored, record_left, stored, bytes_with}
+use Rattle.xl_core.specs.Ticks.{advanced, renew, end_some, unleased, expire, may_expire, try_expire, lapsed_by, try_lapsed_by, lapse, try_lapse, is_still_held, is_lease_over, lapse_all, expire_all, end_grace, tick}
+use Rattle.xl_core.proofs.AsideLaws.{with_aside, aside_good, failed_aside, grace_aside, of_aside, of_end, of_expire, noted_for, noted_aside, left_aside, left_grace}
+use Rattle.xl_core.specs.Askers.{party_named, who_entered, asking_party, may_have, may_wish_for, IsFitWish, IsOrdered, range_what, known_owner, is_name, client_of as client_behind}
 use Rattle.xl_core.specs.declared.lease.Times.{Times}
-use Rattle.xl_names.specs.declared.name.Name.TheVariants.{NfsParty}
+use Rattle.xl_names.specs.declared.name.Name.TheVariants.{NfsParty, NlmRange, NlmShare, NlmParty, NfsRange, NfsShare, SmbLease}
 use Rattle.xl_core.specs.Askers.{both_entered, asked_whats, asked_claim, asked_claims, known_claim, is_client, may_ask, IsFitAct, IsFit}
-use Rattle.xl_core.specs.Causes.{limits_of_wait, may_wait, left_by_unlock, IsEachBehind, held_once}
-use Rattle.xl_core.specs.Decide.{Answered, plea_of, waiter_of, waiting, named, answered, claims_asked, unlocked_claims, unlocked_bytes, unlocked, wish_by, wish_asked, acted, decided, way, before_wish, does_wish, ask, freed, unlocked_one}
-use Rattle.xl_core.specs.Good.{are_kept, IsKnown, IsHeld, is_single, are_apart, IsPled, IsWished, IsWaiter, IsGood, AllBehind, is_held_up, holds_up, IsUp}
+use Rattle.xl_core.specs.Causes.{limits_of_wait, may_wait, left_by_unlock, IsEachBehind, held_once, IsWaiting, wanted, name_waiting, last_answer}
+use Rattle.xl_core.specs.Decide.{Answered, plea_of, waiter_of, waiting, named, answered, claims_asked, unlocked_claims, unlocked_bytes, unlocked, wish_by, wish_asked, acted, decided, way, before_wish, does_wish, ask, freed, unlocked_one, is_back, wish_graced}
+use Rattle.xl_core.specs.Good.{are_kept, IsKnown, IsHeld, is_single, are_apart, IsPled, IsWished, IsWaiter, IsGood, AllBehind, is_held_up, holds_up, IsUp, of_first}
 use Rattle.xl_core.specs.Blockers.{is_stopped, all_run}
 use Rattle.xl_core.specs.Ways.{made_way}
-use Rattle.xl_core.specs.Wishes.{wish_for}
+use Rattle.xl_core.specs.Wishes.{wish_for, has_room, wished_kind}
 use Rattle.xl_core.specs.declared.ask.Who.{Who}
 use Rattle.xl_core.proofs.InTurnLaws.{in_turn_keeps}
 use Rattle.xl_core.proofs.AskWishLaws.{refused_wish, MayWish, wish_for_good, after_good, same_kinds}
-use Rattle.xl_core.specs.Judge.{Ruled, followed, all_granted, held_with, does_wait, judged, first_stop}
+use Rattle.xl_core.specs.Judge.{Ruled, followed, all_granted, held_with, does_wait, judged, first_stop, to_record}
 use Rattle.xl_core.specs.Limits.{most_waiters, wish_limits, first_passed}
 use Rattle.xl_core.specs.Settle.{plea_again, rests, all_of, turned, way_again, again, turn_or, first_turn, settle, waits_with, cancel, give_back, departed, end_party, close_open}
 use Rattle.xl_core.specs.declared.ask.Act.{Act}
-use Rattle.xl_core.specs.declared.ask.Act.TheVariants.{Share, Ranges, Test, Unlock, Wish}
+use Rattle.xl_core.specs.declared.ask.Act.TheVariants.{Share, Ranges, Test, Unlock}
+use Rattle.xl_core.specs.declared.ask.Act.TheVariants as acts
 use Rattle.xl_core.specs.declared.ask.Answer.{Answer}
 use Rattle.xl_core.specs.declared.ask.Answer.TheVariants as answers
 use Rattle.xl_core.specs.declared.ask.Ask.{Ask}
@@ -72,9 +87,9 @@ pub use Rattle.xl_core.proofs.StateLaws.{good_claims, good_from}
 use Rattle.xl_core.proofs.ClaimLaws.{AreGood, relocked_good, granted_good}
 use Rattle.xl_core.proofs.KnownLaws.{GoOn, both_go_on, both_distinct, held_on, waiters_on, one_party, asker_kept, asked_known, kept_on, known_party_is, asked_all_known}
 use Rattle.xl_core.proofs.LimitLaws.{grant_room, wait_room, wish_room}
-use Rattle.xl_core.proofs.RowLaws.{AllPass, is_refusal, IsRuled, judged_ruled, judged_row}
-use Rattle.xl_core.proofs.TurnLaws.{waits_now, held_rests, rests_held, free_moves, move_first}
-use Rattle.xl_core.proofs.WayLaws.{way_stopped, way_runs, AsksNoCache, known_no_cache, way_good, way_names}
+use Rattle.xl_core.proofs.RowLaws.{AllPass, is_refusal, IsRuled, judged_ruled, judged_row, Waiting, ended, ended_by}
+use Rattle.xl_core.proofs.TurnLaws.{waits_now, held_rests, rests_held, free_moves, move_first, up_rests}
+use Rattle.xl_core.proofs.WayLaws.{way_stopped, way_runs, AsksNoCache, known_no_cache, way_good, way_names, way_keeps}
 use Rattle.xl_table.specs.Elements.{element_held}
 
 -- ---- a good state, part by part
@@ -89,7 +104,7 @@ started_good stable clock times = record { kept = kept_empty; compatible = tt; s
 
 pub begun_good : (s : CoreState) → IsGood s → IsGood (step_begun s)
 unfolding step_begun
-begun_good s good = good_from (record s { made = 0; failed = false }) (good_claims s good) good.distinct good.few good.waiters good.apart good.crowd
+begun_good s good = good_from (record s { made = 0; failed = false; given = [] }) (good_claims s good) good.distinct good.few good.waiters good.apart good.crowd
 
 pub advanced_good : (s : CoreState) (now : Moment) → IsGood s → IsGood (advanced s now)
 unfolding advanced
@@ -141,31 +156,65 @@ unlocked_one_party s a extent exclusive good client =
 -- ---- a share or a lock
 
 -- what becomes of an ask for these claims: it has all of them, it waits, or it is refused
-pub data AskCase (left : Rooms) (s : CoreState) (a : Ask) (claims : List Claim) (first : Claim) (r : Answered) : Type 0 where
-  Goes : AllPass left (plea_of left s a) s.claims claims → r ≡ (answers.Granted first, [], named a (held_with claims s)) → AskCase left s a claims first r
-  Queues : may_wait s.waiters s a first ≡ true → is_blocked s.claims first ≡ true → first_passed (limits_of_wait left s a) ≡ None → r ≡ (answers.Queued (s.counter + 1), [], waiting a claims s) → AskCase left s a claims first r
-  Refuses : (answer : Answer) → is_refusal answer ≡ true → r ≡ (answer, [], s) → AskCase left s a claims first r
+pub data AskCase (n : ℕ) (left : Rooms) (s : CoreState) (a : Ask) (claims : List Claim) (first : Claim) (r : Answered) : Type 0 where
+  Goes : enters (stands s a) ≡ true → may_record n s (to_record (wanted s a) claims) ≡ true → AllPass left (plea_of left s a) s.claims claims
+      → r ≡ (answers.Granted first, [], with_aside (aside_of (noted_for s a claims (answers.Granted first))) (named a (held_with claims s))) → AskCase n left s a claims first r
+  Queues : IsWaiting (stands s a) s.waiters s a first → first_passed (limits_of_wait left s a) ≡ None → r ≡ (answers.Queued (s.counter + 1), [], waiting a claims s) → AskCase n left s a claims first r
+  Refuses : (answer : Answer) → is_refusal answer ≡ true → r ≡ (answer, [], with_aside (aside_of (noted_for s a claims answer)) s) → AskCase n left s a claims first r
 
-pub ask_case : (n : ℕ) (left : Rooms) (s : CoreState) (a : Ask) (c : Claim) (cs : List Claim) → AskCase left s a (c ∷ cs) c (claims_asked n left s a (c ∷ cs))
+-- the state once the claims are granted
+granted_state : (s : CoreState) (a : Ask) (claims : List Claim) (first : Claim) → named a (is_back a (held_with claims (recorded (to_record (wanted s a) claims) s))) ≡ with_aside (aside_of (noted_for s a claims (answers.Granted first))) (named a (held_with claims s))
+unfolding held_with stored
+granted_state s a claims first = by (to_record (wanted s a) claims) a.reclaim where
+  back : Bool → CoreState → CoreState
+  back b t = if b then record t { grace = reclaimed (recorded_as a.party) t.grace } else t
+
+  by : (name : Option Recorded) (b : Bool) → named a (back b (held_with claims (recorded name s))) ≡ with_aside (aside_of (back b (recorded name s))) (named a (held_with claims s))
+  by None true = refl
+  by None false = refl
+  by (Some name) true = refl
+  by (Some name) false = refl
+
+refused_noted : (s : CoreState) (a : Ask) (claims : List Claim) (answer : Answer) → is_refusal answer ≡ true → record_left (to_record (wanted s a) claims) answer s ≡ noted_for s a claims answer
+refused_noted s a claims (answers.Granted c) h = absurd (both_ways false refl h)
+refused_noted s a claims (answers.Queued number) h = refl
+refused_noted s a claims (answers.Conflict c) h = refl
+refused_noted s a claims (answers.Recall c) h = refl
+refused_noted s a claims (answers.Grace until) h = refl
+refused_noted s a claims (answers.NoGrace clock) h = refl
+refused_noted s a claims answers.NotRecorded h = refl
+refused_noted s a claims (answers.Full limit) h = refl
+refused_noted s a claims answers.NotHeld h = refl
+refused_noted s a claims answers.StoreFailed h = refl
+
+pub ask_case : (n : ℕ) (left : Rooms) (s : CoreState) (a : Ask) (c : Claim) (cs : List Claim) → AskCase n left s a (c ∷ cs) c (claims_asked n left s a (c ∷ cs))
 unfolding claims_asked plea_of
 ask_case n left s a c cs = by r.0 r.1 r.2 (judged_ruled n s.waiters left (plea_of left s a) (c ∷ cs) s) where
   r : Ruled
   r = judged n s.waiters left (plea_of left s a) (c ∷ cs) s
 
-  waits_so : (x y z u : Bool) → (x && (if y then z else u)) ≡ true → (x ≡ true) × ((if y then z else u) ≡ true)
-  waits_so x y z u e = and_parts x (if y then z else u) e
+  waits_so : (x y z u : Bool) → (x && (if y then z else u)) ≡ true → ((if y then z else u) ≡ true) × (x ≡ true)
+  waits_so x y z u e = let both = and_parts x (if y then z else u) e in (both.1, both.0)
 
-  by : (ruling : Ruling) (told : List Effect) (t : CoreState) → IsRuled s.waiters left (plea_of left s a) (c ∷ cs) s ruling told t → AskCase left s a (c ∷ cs) c (answered a (c ∷ cs) c ruling told t)
-  by Gets told t is = Goes is.2 (λ i. answered a (c ∷ cs) c Gets (is.0 i) (is.1 i))
-  by Waits told t is = let both = waits_so (is_blocked s.claims c) (is_stopped s.waiters s c) a.blocking a.awaits is.3 in Queues both.1 both.0 is.2 (λ i. answered a (c ∷ cs) c Waits (is.0 i) (is.1 i))
-  by (Told answer) told t is = Refuses answer is.2 (λ i. answered a (c ∷ cs) c (Told answer) (is.0 i) (is.1 i))
+  waits_for : Waiting s.waiters (plea_of left s a) s (c ∷ cs) → IsWaiting (stands s a) s.waiters s a c
+  waits_for why =
+      elim why [
+        | inl stays ↦ subst (λ (st : Standing). IsWaiting st s.waiters s a c) (sym stays) tt
+        | inr timely ↦ subst (λ (st : Standing). IsWaiting st s.waiters s a c) (sym timely.0) (waits_so (is_blocked s.claims c) (is_stopped s.waiters s c) a.blocking a.awaits timely.1)
+      ]
+
+  by : (ruling : Ruling) (told : List Effect) (t : CoreState) → IsRuled n s.waiters left (plea_of left s a) (c ∷ cs) s ruling told t → AskCase n left s a (c ∷ cs) c (answered a (c ∷ cs) c ruling told t)
+  by Gets told t is = Goes is.2 is.3 is.4 ((λ i. (answers.Granted c, is.0 i, named a (is_back a (is.1 i)))) ∙ (λ i. (answers.Granted c, [], granted_state s a (c ∷ cs) c i)))
+  by Waits told t is = Queues (waits_for is.3) is.2 (λ i. answered a (c ∷ cs) c Waits (is.0 i) (is.1 i))
+  by (Told answer) told t is =
+      Refuses answer is.2 ((λ i. answered a (c ∷ cs) c (Told answer) (is.0 i) (is.1 i)) ∙ (λ i. (answer, [], refused_noted s a (c ∷ cs) answer is.2 i)) ∙ (λ i. (answer, [], noted_aside s a (c ∷ cs) answer i)))
 
 -- claims that pass, one behind another, leave the claims good
 pub all_granted_good : (left : Rooms) (p : Plea) (names : List Name) (asked held : List Claim) → AreDistinct names → AreGood names held → AllByRecursion (IsKnown names) asked → AllPass left p held asked → AreGood names (all_granted asked held)
 all_granted_good left p names [] held distinct good known pass = good
 all_granted_good left p names (c ∷ cs) held distinct good known pass =
     all_granted_good left p names cs (granted_claims c held) distinct
-    (granted_good names c held distinct good known.0 pass.0 (grant_room left p.rows (length (granted_claims c held)) p.kept pass.1).1) known.1 pass.2
+    (granted_good names c held distinct good known.0 pass.0 pass.1.1) known.1 pass.2
 
 goes_good : (left : Rooms) (s : CoreState) (a : Ask) (c : Claim) (cs : List Claim) → IsGood s → AllByRecursion (IsKnown (both_entered a s.names)) (c ∷ cs) → AllPass left (plea_of left s a) s.claims (c ∷ cs) → IsGood (named a (held_with (c ∷ cs) s))
 unfolding held_with plea_of
@@ -174,7 +223,7 @@ goes_good left s a c cs good known pass =
     let on = both_go_on a s.names in
     let distinct = both_distinct a s.names good.distinct in
     good_from (record s { claims = all_granted (c ∷ cs) s.claims; names = more }) (all_granted_good left (plea_of left s a) more (c ∷ cs) s.claims distinct (claims_on s.names more s.claims on (good_claims s good)) known pass) distinct
-    (grant_room left a.rows (length (granted_claims c s.claims)) (length more) pass.1).2 (waiters_on s.names more s.counter s.counter s.waiters on (omega arith) good.waiters) good.apart good.crowd
+    pass.1.2 (waiters_on s.names more s.counter s.counter s.waiters on (omega arith) good.waiters) good.apart good.crowd
 
 waiting_good : (left : Rooms) (s : CoreState) (a : Ask) (c : Claim) (cs : List Claim) → IsGood s → AllByRecursion (IsKnown (both_entered a s.names)) (c ∷ cs) → IsPled (c ∷ cs) → IsWished a.wish (c ∷ cs) → first_passed (limits_of_wait left s a) ≡ None → IsGood (waiting a (c ∷ cs) s)
 waiting_good left s a c cs good known row wished room =
@@ -192,6 +241,54 @@ waiting_good left s a c cs good known row wished room =
     ]))
     (omega (arith, fits.1, length-append s.waiters (new ∷ [])))
 
+nlm_party : (caller : List ℕ) (p : Name) → same_name (NlmParty caller) p ≡ true → false ≡ is_smb (Named p)
+nlm_party caller (NlmParty other) e = refl
+nlm_party caller (NlmRange other svid oh) e = absurd (both_ways false refl e)
+nlm_party caller (NlmShare other oh) e = absurd (both_ways false refl e)
+nlm_party caller (NfsRange id name) e = absurd (both_ways false refl e)
+nlm_party caller (NfsShare id name) e = absurd (both_ways false refl e)
+nlm_party caller (NfsParty id) e = absurd (both_ways false refl e)
+nlm_party caller (SmbLease guid key) e = absurd (both_ways false refl e)
+
+nfs_party : (id : List ℕ) (p : Name) → same_name (NfsParty id) p ≡ true → false ≡ is_smb (Named p)
+nfs_party id (NfsParty other) e = refl
+nfs_party id (NlmParty caller) e = absurd (both_ways false refl e)
+nfs_party id (NlmRange other svid oh) e = absurd (both_ways false refl e)
+nfs_party id (NlmShare other oh) e = absurd (both_ways false refl e)
+nfs_party id (NfsRange other name) e = absurd (both_ways false refl e)
+nfs_party id (NfsShare other name) e = absurd (both_ways false refl e)
+nfs_party id (SmbLease guid key) e = absurd (both_ways false refl e)
+
+oplock_kinds : (kind : CacheKind) → is_oplock_kind kind ≡ true → is_delegation kind ≡ false
+oplock_kinds R e = refl
+oplock_kinds RH e = refl
+oplock_kinds RW e = refl
+oplock_kinds RWH e = refl
+oplock_kinds ReadDeleg e = absurd (both_ways false refl e)
+oplock_kinds WriteDeleg e = absurd (both_ways false refl e)
+
+-- the caches of a client of SMB are no delegations
+smb_kinds : (owner party : Who) (kind : CacheKind) → is_client owner party ≡ true → is_smb party ≡ true → may_have party kind ≡ true → is_delegation kind ≡ false
+unfolding is_kind_of
+smb_kinds (Open number) (Open other) kind client smb may = oplock_kinds kind may
+smb_kinds (Open number) (Named (SmbLease guid key)) kind client smb may = not-true (is_delegation kind) may
+smb_kinds (Open number) (Named (NlmRange caller svid oh)) kind client smb may = absurd (both_ways false refl client)
+smb_kinds (Open number) (Named (NlmShare caller oh)) kind client smb may = absurd (both_ways false refl client)
+smb_kinds (Open number) (Named (NlmParty caller)) kind client smb may = absurd (both_ways false refl smb)
+smb_kinds (Open number) (Named (NfsRange id owner)) kind client smb may = absurd (both_ways false refl client)
+smb_kinds (Open number) (Named (NfsShare id owner)) kind client smb may = absurd (both_ways false refl client)
+smb_kinds (Open number) (Named (NfsParty id)) kind client smb may = absurd (both_ways false refl smb)
+smb_kinds (Named owner) (Open other) kind client smb may = absurd (both_ways false refl client)
+smb_kinds (Named owner) (Named party) kind client smb may = absurd (both_ways (is_smb (Named party)) (sym (named_client owner party client)) smb) where
+  named_client : (o p : Name) → is_name (client_behind o) p ≡ true → false ≡ is_smb (Named p)
+  named_client (NlmRange caller svid oh) p e = nlm_party caller p e
+  named_client (NlmShare caller oh) p e = nlm_party caller p e
+  named_client (NfsRange id name) p e = nfs_party id p e
+  named_client (NfsShare id name) p e = nfs_party id p e
+  named_client (NlmParty caller) p e = absurd (both_ways false refl e)
+  named_client (NfsParty id) p e = absurd (both_ways false refl e)
+  named_client (SmbLease guid key) p e = absurd (both_ways false refl e)
+
 -- who may wait asks to wait for one thing or the other
 waits_then : (s : CoreState) (a : Ask) (c : Claim) → may_wait s.waiters s a c ≡ true → (a.blocking || a.awaits) ≡ true
 waits_then s a c may = by (is_stopped s.waiters s c) a.blocking a.awaits may where
@@ -201,12 +298,23 @@ waits_then s a c may = by (is_stopped s.waiters s c) a.blocking a.awaits may whe
   by false true z h = refl
   by false false z h = h
 
-claims_good : (n : ℕ) (left : Rooms) (s : CoreState) (a : Ask) (c : Claim) (cs : List Claim) → IsGood s → AllByRecursion (IsKnown (both_entered a s.names)) (c ∷ cs) → IsPled (c ∷ cs) → ((a.blocking || a.awaits) ≡ true → IsWished a.wish (c ∷ cs)) → IsGood (claims_asked n left s a (c ∷ cs)).2
+-- or it is of SMB, and waits for the end of grace
+waits_or : (s : CoreState) (a : Ask) (c : Claim) → IsWaiting (stands s a) s.waiters s a c → ((a.blocking || a.awaits) ≡ true) ⊎ (is_smb a.party ≡ true)
+waits_or s a c why = by (stands s a) refl why where
+  by : (standing : Standing) → stands s a ≡ standing → IsWaiting standing s.waiters s a c → ((a.blocking || a.awaits) ≡ true) ⊎ (is_smb a.party ≡ true)
+  by Timely is why = inl (waits_then s a c why.0)
+  by Stays is why = inr (stays_asks s (recorded_as a.party) (is_smb a.party) a.reclaim is)
+  by Reclaims is why = absurd why
+  by (Early until) is why = absurd why
+  by (Late clock) is why = absurd why
+  by Unrecorded is why = absurd why
+
+claims_good : (n : ℕ) (left : Rooms) (s : CoreState) (a : Ask) (c : Claim) (cs : List Claim) → IsGood s → AllByRecursion (IsKnown (both_entered a s.names)) (c ∷ cs) → IsPled (c ∷ cs) → (((a.blocking || a.awaits) ≡ true) ⊎ (is_smb a.party ≡ true) → IsWished a.wish (c ∷ cs)) → IsGood (claims_asked n left s a (c ∷ cs)).2
 claims_good n left s a c cs good known row wished = by (claims_asked n left s a (c ∷ cs)) (ask_case n left s a c cs) where
-  by : (r : Answered) → AskCase left s a (c ∷ cs) c r → IsGood r.2
-  by r (Goes pass e) = subst (λ (x : Answered). IsGood x.2) (sym e) (goes_good left s a c cs good known pass)
-  by r (Queues may blocked room e) = subst (λ (x : Answered). IsGood x.2) (sym e) (waiting_good left s a c cs good known row (wished (waits_then s a c may)) room)
-  by r (Refuses answer refused e) = subst (λ (x : Answered). IsGood x.2) (sym e) good
+  by : (r : Answered) → AskCase n left s a (c ∷ cs) c r → IsGood r.2
+  by r (Goes in_time may pass e) = subst (λ (x : Answered). IsGood x.2) (sym e) (aside_good (aside_of (noted_for s a (c ∷ cs) (answers.Granted c))) (named a (held_with (c ∷ cs) s)) (goes_good left s a c cs good known pass))
+  by r (Queues why room e) = subst (λ (x : Answered). IsGood x.2) (sym e) (waiting_good left s a c cs good known row (wished (waits_or s a c why)) room)
+  by r (Refuses answer refused e) = subst (λ (x : Answered). IsGood x.2) (sym e) (aside_good (aside_of (noted_for s a (c ∷ cs) answer)) s good)
 
 -- ---- an unlock
 
@@ -278,12 +386,20 @@ party_kinds a names waits [] may = tt
 party_kinds a names waits (kind ∷ kinds) may =
     (same_kinds a.party (who_entered a.owner names) kind (and_parts (may_have a.party kind) (not (waits && is_delegation kind)) may.0).0, party_kinds a names waits kinds may.1)
 
-share_wished : (a : Ask) (access deny : Rwd) (names : List Name) (waits : Bool) (kinds : List CacheKind) → waits ≡ true → AllByRecursion (λ kind. may_wish_for a.party waits kind ≡ true) kinds → IsWished kinds (asked_claim a (whats.Share access deny) names ∷ [])
-share_wished a access deny names waits [] does may = tt
-share_wished a access deny names waits (kind ∷ kinds) does may =
-    let both = and_parts (may_have a.party kind) (not (waits && is_delegation kind)) may.0 in
-    let other : not (true && is_delegation kind) ≡ true = ap (λ (b : Bool). not (b && is_delegation kind)) (sym does) ∙ both.1 in
-    ((same_kinds a.party (who_entered a.owner names) kind both.0, refl, not-true (is_delegation kind) other), share_wished a access deny names waits kinds does may.1)
+share_wished : (a : Ask) (access deny : Rwd) (names : List Name) (waits : Bool) (kinds : List CacheKind) → is_client a.owner a.party ≡ true → (waits ≡ true) ⊎ (is_smb a.party ≡ true) → AllByRecursion (λ kind. may_wish_for a.party waits kind ≡ true) kinds → IsWished kinds (asked_claim a (whats.Share access deny) names ∷ [])
+share_wished a access deny names waits [] client does may = tt
+share_wished a access deny names waits (kind ∷ kinds) client does may =
+    let both = and_parts (may_have a.party kind) (not (waits && is_delegation kind)) may.0 in (
+      (
+        same_kinds a.party (who_entered a.owner names) kind both.0,
+        refl,
+        elim does [
+          | inl waits_on ↦ not-true (is_delegation kind) (ap (λ (b : Bool). not (b && is_delegation kind)) (sym waits_on) ∙ both.1)
+          | inr smb ↦ smb_kinds a.owner a.party kind client smb both.0
+        ],
+      ),
+      share_wished a access deny names waits kinds client does may.1,
+    )
 
 -- the names of a wish by itself are kept
 named_good : (s : CoreState) (a : Ask) → IsGood s → length (both_entered a s.names) ≤ most_names → IsGood (named a s)
@@ -296,14 +412,18 @@ named_good s a good few =
 wish_asked_good : (left : Rooms) (s : CoreState) (a : Ask) (kinds : List CacheKind) → IsGood s → IsGood (wish_asked left s a kinds).2
 unfolding wish_asked
 wish_asked_good left s a [] good = good
-wish_asked_good left s a (kind ∷ kinds) good = by (first_passed (wish_limits left a.rows (length (both_entered a s.names)))) refl where
+wish_asked_good left s a (kind ∷ kinds) good = graced_so (refusal (stands_alone s a)) where
   by : (o : Option ℕ) → first_passed (wish_limits left a.rows (length (both_entered a s.names))) ≡ o → IsGood (wish_by s a (asked_claim a (whats.Cache kind None) s.names) o).2
   by None e = named_good s a good (wish_room left a.rows (length (both_entered a s.names)) e)
   by (Some limit) e = good
 
+  graced_so : (r : Option Answer) → IsGood (wish_graced left s a (asked_claim a (whats.Cache kind None) s.names) r).2
+  graced_so (Some answer) = good
+  graced_so None = by (first_passed (wish_limits left a.rows (length (both_entered a s.names)))) refl
+
 acted_good : (n : ℕ) (left : Rooms) (s : CoreState) (a : Ask) (act : Act) → IsGood s → is_client a.owner a.party ≡ true → may_ask a.owner act ≡ true → IsFitAct a.owner a.blocking act → IsFitWish a.party (a.blocking || a.awaits) a.reclaim act a.wish → IsGood (acted n left s a act).2
 acted_good n left s a (Share access deny) good client may fit wish =
-    let known = asked_known a (whats.Share access deny) s.names client refl tt in claims_good n left s a (asked_claim a (whats.Share access deny) s.names) [] good (known, tt) (known.0, tt) (λ does. share_wished a access deny s.names (a.blocking || a.awaits) a.wish does wish)
+    let known = asked_known a (whats.Share access deny) s.names client refl tt in claims_good n left s a (asked_claim a (whats.Share access deny) s.names) [] good (known, tt) (known.0, tt) (λ does. share_wished a access deny s.names (a.blocking || a.awaits) a.wish client does wish)
 acted_good n left s a (Ranges []) good client may fit wish = absurd fit
 acted_good n left s a (Ranges (range ∷ ranges)) good client may fit wish =
     claims_good n left s a (asked_claim a (range_what range) s.names) (asked_claims a (map range_what ranges) s.names) good
@@ -311,7 +431,7 @@ acted_good n left s a (Ranges (range ∷ ranges)) good client may fit wish =
     (λ does. subst (λ (kinds : List CacheKind). IsWished kinds (asked_claim a (range_what range) s.names ∷ asked_claims a (map range_what ranges) s.names)) (sym wish) tt)
 acted_good n left s a (Test extent exclusive) good client may fit wish = good
 acted_good n left s a (Unlock extent) good client may fit wish = unlock_good s a extent good client fit
-acted_good n left s a Wish good client may fit wish = wish_asked_good left s a a.wish good
+acted_good n left s a acts.Wish good client may fit wish = wish_asked_good left s a a.wish good
 
 -- each ask leaves the state good
 pub decided_good : (n : ℕ) (left : Rooms) (s : CoreState) (a : Ask) → IsGood s → IsFit a → IsGood (decided n left s a).2
@@ -328,7 +448,7 @@ asks_no_cache a names (Share access deny) = (refl, tt)
 asks_no_cache a names (Ranges ranges) = ranges_no_cache a names ranges
 asks_no_cache a names (Test extent exclusive) = tt
 asks_no_cache a names (Unlock extent) = tt
-asks_no_cache a names Wish = tt
+asks_no_cache a names acts.Wish = tt
 
 pub asked_way_good : (left : Rooms) (s : CoreState) (a : Ask) → IsGood s → IsGood (way left s a).1
 asked_way_good left s a good = way_good s.waiters (plea_of left s a) (asked_claims a (asked_whats a.act) s.names) s good (asks_no_cache a s.names a.act)
@@ -342,6 +462,17 @@ before_good n left s a good fit = decided_good n left (way left s a).1 a (asked_
 abbrev pub IsAsked : CoreState → Ask → Answered → Claim → Type 0
 IsAsked s a r c = (what : What) × (c ≡ asked_claim a what s.names) × (r.2.names ≡ both_entered a s.names)
 
+-- grace grants nothing
+refused_never : (s : CoreState) (a : Ask) (c : Claim) → refusal (stands_alone s a) ≡ Some (answers.Granted c) → ⊥
+refused_never s a c e = by (stands_alone s a) e where
+  by : (standing : Standing) → refusal standing ≡ Some (answers.Granted c) → ⊥
+  by Timely e = cc
+  by Reclaims e = cc
+  by Stays e = cc
+  by (Early until) e = cc
+  by (Late clock) e = cc
+  by Unrecorded e = cc
+
 acted_grants : (n : ℕ) (left : Rooms) (s : CoreState) (a : Ask) (act : Act) (d : Claim) → does_wish act ≡ true → (acted n left s a act).0 ≡ answers.Granted d → IsAsked s a (acted n left s a act) d
 unfolding wish_asked held_with claims_asked
 acted_grants n left s a (Share access deny) d does at = by (claims_asked n left s a (claim ∷ [])) (ask_case n left s a claim []) at where
@@ -351,14 +482,14 @@ acted_grants n left s a (Share access deny) d does at = by (claims_asked n left 
   same : (x y : Claim) → answers.Granted x ≡ answers.Granted y → y ≡ x
   same x y e = cc
 
-  by : (r : Answered) → AskCase left s a (claim ∷ []) claim r → r.0 ≡ answers.Granted d → IsAsked s a r d
-  by r (Goes pass e) at = (whats.Share access deny, same claim d (sym (ap (λ (x : Answered). x.0) e) ∙ at), ap (λ (x : Answered). x.2.names) e)
-  by r (Queues may blocked room e) at = let two : answers.Queued (s.counter + 1) ≡ answers.Granted d = sym (ap (λ (x : Answered). x.0) e) ∙ at in absurd cc
+  by : (r : Answered) → AskCase n left s a (claim ∷ []) claim r → r.0 ≡ answers.Granted d → IsAsked s a r d
+  by r (Goes in_time may pass e) at = (whats.Share access deny, same claim d (sym (ap (λ (x : Answered). x.0) e) ∙ at), ap (λ (x : Answered). x.2.names) e)
+  by r (Queues why room e) at = let two : answers.Queued (s.counter + 1) ≡ answers.Granted d = sym (ap (λ (x : Answered). x.0) e) ∙ at in absurd cc
   by r (Refuses answer refused e) at = absurd (both_ways (is_refusal answer) (ap is_refusal (sym (ap (λ (x : Answered). x.0) e) ∙ at)) refused)
 acted_grants n left s a (Ranges ranges) d does at = absurd (both_ways false refl does)
 acted_grants n left s a (Test extent exclusive) d does at = absurd (both_ways false refl does)
 acted_grants n left s a (Unlock extent) d does at = absurd (both_ways false refl does)
-acted_grants n left s a Wish d does at = by a.wish at where
+acted_grants n left s a acts.Wish d does at = by a.wish at where
   same : (x y : Claim) → answers.Granted x ≡ answers.Granted y → y ≡ x
   same x y e = cc
 
@@ -368,7 +499,10 @@ acted_grants n left s a Wish d does at = by a.wish at where
 
   by : (kinds : List CacheKind) → (wish_asked left s a kinds).0 ≡ answers.Granted d → IsAsked s a (wish_asked left s a kinds) d
   by [] at = let two : answers.NotHeld ≡ answers.Granted d = at in absurd cc
-  by (kind ∷ kinds) at = one kind (first_passed (wish_limits left a.rows (length (both_entered a s.names)))) at
+  by (kind ∷ kinds) at = graced_so (refusal (stands_alone s a)) (refused_never s a) at where
+    graced_so : (r : Option Answer) → ((c : Claim) → r ≡ Some (answers.Granted c) → ⊥) → (wish_graced left s a (asked_claim a (whats.Cache kind None) s.names) r).0 ≡ answers.Granted d → IsAsked s a (wish_graced left s a (asked_claim a (whats.Cache kind None) s.names) r) d
+    graced_so (Some answer) never at = absurd (never d (ap Some at))
+    graced_so None never at = one kind (first_passed (wish_limits left a.rows (length (both_entered a s.names)))) at
 
 pub decided_grants : (n : ℕ) (left : Rooms) (s : CoreState) (a : Ask) (d : Claim) → does_wish a.act ≡ true → (decided n left s a).0 ≡ answers.Granted d → IsAsked s a (decided n left s a) d
 unfolding decided
@@ -377,8 +511,8 @@ decided_grants n left s a d does at = acted_grants n left s a a.act d does at
 -- the kinds of a wish are those that the party may have
 fit_kinds : (party : Who) (waits reclaim : Bool) (act : Act) (kinds : List CacheKind) → does_wish act ≡ true → IsFitWish party waits reclaim act kinds → AllByRecursion (λ kind. may_wish_for party waits kind ≡ true) kinds
 fit_kinds party waits reclaim (Share access deny) kinds does fit = fit
-fit_kinds party waits reclaim Wish [] does fit = tt
-fit_kinds party waits reclaim Wish (kind ∷ kinds) does fit = fit.1
+fit_kinds party waits reclaim acts.Wish [] does fit = tt
+fit_kinds party waits reclaim acts.Wish (kind ∷ kinds) does fit = fit.1
 fit_kinds party waits reclaim (Ranges ranges) kinds does fit = absurd (both_ways false refl does)
 fit_kinds party waits reclaim (Test extent exclusive) kinds does fit = absurd (both_ways false refl does)
 fit_kinds party waits reclaim (Unlock extent) kinds does fit = absurd (both_ways false refl does)
@@ -404,14 +538,22 @@ Turned = List Effect × CoreState
 
 -- What becomes of a waiter for these that isn't held up, once the breaks run that it begins: it is held up by them, or each is
 -- judged beside those before it, and it has all of them or is refused.
-pub data IsMoved (left : Rooms) (earlier : List Waiter) (s : CoreState) (w : Waiter) (c : Claim) (cs : List Claim) (turn : Turned) : Type 0 where
+-- the state once a waiter for these is answered so, before its wish is granted
+abbrev pub once_answered : CoreState → Waiter → List Claim → Answer → CoreState
+once_answered t w asked answer = with_aside (aside_of (record_left (to_record (name_waiting t w) asked) answer t)) (record t { claims = held_once asked answer t.claims; waiters = cancelled w.id t.waiters })
+
+-- what is told of these claims of a waiter that nothing stops
+abbrev pub told_last : ℕ → CoreState → Waiter → List Claim → Claim → Answer
+told_last n t w asked first = last_answer (may_record n t (to_record (name_waiting t w) asked)) first
+
+pub data IsMoved (n : ℕ) (left : Rooms) (earlier : List Waiter) (s : CoreState) (w : Waiter) (c : Claim) (cs : List Claim) (turn : Turned) : Type 0 where
   Answers : (answer : Answer) → turn.0 ≡ (way_again earlier s w).0 ++ Served w.party w.id answer ∷ []
-      → turn.1 ≡ wish_for w.wish answer (record (way_again earlier s w).1 { claims = held_once (c ∷ cs) answer (way_again earlier s w).1.claims; waiters = cancelled w.id (way_again earlier s w).1.waiters })
-      → IsEachBehind earlier left w.rows (length s.names) c (c ∷ cs) (way_again earlier s w).1 answer
+      → turn.1 ≡ wish_for w.wish answer (once_answered (way_again earlier s w).1 w (c ∷ cs) answer)
+      → IsEachBehind earlier left w.rows (bytes_with (name_waiting (way_again earlier s w).1 w) (way_again earlier s w).1.stable) (length s.names) (told_last n (way_again earlier s w).1 w (c ∷ cs) c) (c ∷ cs) (way_again earlier s w).1 answer
       → ((d : Claim) → answer ≡ answers.Granted d → (d ≡ c) × AllPass left (plea_again s w) (way_again earlier s w).1.claims (c ∷ cs))
       → is_held_up earlier (way_again earlier s w).1 w c ≡ false
-      → IsMoved left earlier s w c cs turn
-  Rests : turn ≡ way_again earlier s w → is_held_up earlier (way_again earlier s w).1 w c ≡ true → IsMoved left earlier s w c cs turn
+      → IsMoved n left earlier s w c cs turn
+  Rests : turn ≡ way_again earlier s w → is_held_up earlier (way_again earlier s w).1 w c ≡ true → IsMoved n left earlier s w c cs turn
 
 -- a refusal leaves what is held
 refused_once : (asked : List Claim) (answer : Answer) (held : List Claim) → is_refusal answer ≡ true → held_once asked answer held ≡ held
@@ -427,9 +569,9 @@ refused_once asked answers.NotHeld held h = refl
 refused_once asked answers.StoreFailed held h = refl
 
 -- where the first of its claims is waited for once the breaks run, it is held up
-waits_up : (earlier : List Waiter) (s : CoreState) (w : Waiter) (c : Claim) (cs : List Claim) → w.asked ≡ c ∷ cs → is_held_up earlier s w c ≡ false → does_wait earlier (plea_again s w) (way_again earlier s w).1 c ≡ true → is_held_up earlier (way_again earlier s w).1 w c ≡ true
+waits_up : (earlier : List Waiter) (s : CoreState) (w : Waiter) (c : Claim) (cs : List Claim) → is_some s.grace ≡ false → w.asked ≡ c ∷ cs → is_held_up earlier s w c ≡ false → does_wait earlier (plea_again s w) (way_again earlier s w).1 c ≡ true → is_held_up earlier (way_again earlier s w).1 w c ≡ true
 unfolding plea_again
-waits_up earlier s w c cs asked free waits = by (is_stopped earlier s c) refl where
+waits_up earlier s w c cs calm asked free waits = by (is_stopped earlier s c) refl where
   t : CoreState
   t = (way_again earlier s w).1
 
@@ -453,7 +595,7 @@ waits_up earlier s w c cs asked free waits = by (is_stopped earlier s c) refl wh
       absurd (both_ways (is_held_up earlier s w c) free (firm (is_blocked s.claims c) (is_stopped earlier s c) w.blocking (all_run s.claims c) stops now))
   by false moves =
       up (is_blocked t.claims c) (is_stopped earlier t c) w.blocking (all_run t.claims c) waits
-      (λ clear. ap (λ (ds : List Claim). all_run (made_way earlier (plea_again s w) ds s).1.claims c) asked ∙ way_runs earlier (plea_again s w) c cs s refl refl moves)
+      (λ clear. ap (λ (ds : List Claim). all_run (made_way earlier (plea_again s w) ds s).1.claims c) asked ∙ way_runs earlier (plea_again s w) c cs s (ap (λ (b : Bool). if b then Stays else Timely) calm) refl moves)
 
 -- and where it isn't waited for, it isn't held up
 not_up : (earlier : List Waiter) (s t : CoreState) (w : Waiter) (c : Claim) → does_wait earlier (plea_again s w) t c ≡ false → is_held_up earlier t w c ≡ false
@@ -464,17 +606,44 @@ not_up earlier s t w c clear = by (is_blocked t.claims c) (is_stopped earlier t 
   by true false z r e = absurd (both_ways true e refl)
   by false y z r e = e
 
-moved : (n : ℕ) (left : Rooms) (s : CoreState) (earlier : List Waiter) (w : Waiter) (c : Claim) (cs : List Claim) → w.asked ≡ c ∷ cs → is_held_up earlier s w c ≡ false → (let r = again n left s earlier w in IsMoved left earlier s w c cs (turned w r.0 r.1 r.2))
-unfolding plea_again held_with
-moved n left s earlier w c cs asked free =
-    subst (λ (ds : List Claim). let r = judged n earlier left p ds t in IsMoved left earlier s w c cs (turned w r.0 (way.0 ++ r.1) r.2)) (sym asked)
+-- a break that begins leaves what a waiter pleads, and the name that is to be recorded
+begun_pleads : (c : Claim) (s : CoreState) (w : Waiter) → plea_again (breaks_begun c s).1 w ≡ plea_again s w
+unfolding plea_again breaks_begun
+begun_pleads c s w = refl
+
+begun_waits : (c : Claim) (s : CoreState) (w : Waiter) → name_waiting (breaks_begun c s).1 w ≡ name_waiting s w
+unfolding breaks_begun
+begun_waits c s w = refl
+
+pub again_pleads : (earlier : List Waiter) (s : CoreState) (w : Waiter) → plea_again s w ≡ plea_again (way_again earlier s w).1 w
+again_pleads earlier s w = sym (way_keeps (λ t. plea_again t w) earlier (plea_again s w) w.asked s (λ c. begun_pleads c s w))
+
+pub again_waits : (earlier : List Waiter) (s : CoreState) (w : Waiter) → name_waiting s w ≡ name_waiting (way_again earlier s w).1 w
+again_waits earlier s w = sym (way_keeps (λ t. name_waiting t w) earlier (plea_again s w) w.asked s (λ c. begun_waits c s w))
+
+-- the state once all is granted, and once it is refused
+got_state : (name : Option Recorded) (t : CoreState) (asked : List Claim) (ws : List Waiter) → (record (held_with asked (recorded name t)) { waiters = ws }) ≡ with_aside (aside_of (recorded name t)) (record t { claims = all_granted asked t.claims; waiters = ws })
+unfolding held_with stored
+got_state None t asked ws = refl
+got_state (Some name) t asked ws = refl
+
+got_waiters : (name : Option Recorded) (t : CoreState) (asked : List Claim) → (held_with asked (recorded name t)).waiters ≡ t.waiters
+unfolding held_with stored
+got_waiters None t asked = refl
+got_waiters (Some name) t asked = refl
+
+moved : (n : ℕ) (left : Rooms) (s : CoreState) (earlier : List Waiter) (w : Waiter) (c : Claim) (cs : List Claim) → is_some s.grace ≡ false → w.asked ≡ c ∷ cs → is_held_up earlier s w c ≡ false → (let r = again n left s earlier w in IsMoved n left earlier s w c cs (turned w r.0 r.1 r.2))
+unfolding plea_again
+moved n left s earlier w c cs calm asked free =
+    subst (λ (ds : List Claim). let r = judged n earlier left p ds t in IsMoved n left earlier s w c cs (turned w r.0 (way.0 ++ r.1) r.2)) (sym asked)
     (elim (cases_Bool (does_wait earlier p t c)) [
       | inl waits ↦
-          subst (λ (r : Ruled). IsMoved left earlier s w c cs (turned w r.0 (way.0 ++ r.1) r.2)) (sym (waits_now n left s t earlier w c cs waits))
-          (Rests (λ i. (append-nil way.0 i, t)) (waits_up earlier s w c cs asked free waits))
+          subst (λ (r : Ruled). IsMoved n left earlier s w c cs (turned w r.0 (way.0 ++ r.1) r.2)) (sym (waits_now n left s t earlier w c cs calm waits))
+          (Rests (λ i. (append-nil way.0 i, t)) (waits_up earlier s w c cs calm asked free waits))
       | inr clear ↦
           by r.0 r.1 r.2 (judged_ruled n earlier left p (c ∷ cs) t)
-          (row_due earlier left p c (c ∷ cs) t (answer_by r.0) c cs refl clear (subst (λ (x : Ruled). tells c stop (answer_by x.0)) (sym (judged_row n earlier left p (c ∷ cs) t refl)) (tells_by stop))) clear
+          (subst (λ (nm : Option Recorded). IsEachBehind earlier left w.rows (bytes_with nm t.stable) (length s.names) (last_answer (may_record n t (to_record nm (c ∷ cs))) c) (c ∷ cs) t (answer_by r.0)) same_name
+          (row_due earlier left p last (c ∷ cs) t (answer_by r.0) c cs refl refl clear (subst (λ (x : Ruled). tells last stop (answer_by x.0)) (sym (judged_row n earlier left p (c ∷ cs) t timely)) (tells_by stop)))) clear
     ])
   where
     p : Plea
@@ -492,13 +661,29 @@ moved n left s earlier w c cs asked free =
     stop : Option Ruling
     stop = first_stop earlier left p (c ∷ cs) t
 
+    name : Option Recorded
+    name = name_waiting s w
+
+    same_name : name ≡ name_waiting t w
+    same_name = again_waits earlier s w
+
+    timely : p.standing ≡ Timely
+    timely = ap (λ (b : Bool). if b then Stays else Timely) calm
+
+    last : Answer
+    last = last_answer (may_record n t (to_record name (c ∷ cs))) c
+
     answer_by : Ruling → Answer
     answer_by Gets = answers.Granted c
     answer_by Waits = answers.NotHeld
     answer_by (Told answer) = answer
 
-    tells_by : (o : Option Ruling) → tells c o (answer_by (followed o [] t (λ u. (Gets, [], held_with (c ∷ cs) u))).0)
-    tells_by None = refl
+    ends_by : (b : Bool) → may_record n t (to_record name (c ∷ cs)) ≡ b → answer_by (ended n p (c ∷ cs) t).0 ≡ last_answer b c
+    ends_by true e = ap (λ (x : Ruled). answer_by x.0) (ended_by n p (c ∷ cs) t true e)
+    ends_by false e = ap (λ (x : Ruled). answer_by x.0) (ended_by n p (c ∷ cs) t false e)
+
+    tells_by : (o : Option Ruling) → tells last o (answer_by (followed o [] t (ended n p (c ∷ cs))).0)
+    tells_by None = ends_by (may_record n t (to_record name (c ∷ cs))) refl
     tells_by (Some Gets) = tt
     tells_by (Some Waits) = tt
     tells_by (Some (Told answer)) = refl
@@ -509,24 +694,41 @@ moved n left s earlier w c cs asked free =
     behind : (told : List Effect) (answer : Answer) → told ≡ [] → (way.0 ++ told) ++ Served w.party w.id answer ∷ [] ≡ way.0 ++ Served w.party w.id answer ∷ []
     behind told answer none = ap (λ (xs : List Effect). (way.0 ++ xs) ++ Served w.party w.id answer ∷ []) none ∙ ap (λ (xs : List Effect). xs ++ Served w.party w.id answer ∷ []) (append-nil way.0)
 
-    by : (ruling : Ruling) (told : List Effect) (u : CoreState) → IsRuled earlier left p (c ∷ cs) t ruling told u → IsEachBehind earlier left w.rows (length s.names) c (c ∷ cs) t (answer_by ruling) → does_wait earlier p t c ≡ false → IsMoved left earlier s w c cs (turned w ruling (way.0 ++ told) u)
+    got : (u : CoreState) → u ≡ held_with (c ∷ cs) (recorded (to_record name (c ∷ cs)) t) → (record u { waiters = cancelled w.id u.waiters }) ≡ once_answered t w (c ∷ cs) (answers.Granted c)
+    got u is =
+        ap (λ (x : CoreState). record x { waiters = cancelled w.id x.waiters }) is
+        ∙ ap (λ (ws : List Waiter). record (held_with (c ∷ cs) (recorded (to_record name (c ∷ cs)) t)) { waiters = cancelled w.id ws }) (got_waiters (to_record name (c ∷ cs)) t (c ∷ cs))
+        ∙ got_state (to_record name (c ∷ cs)) t (c ∷ cs) (cancelled w.id t.waiters)
+        ∙ ap (λ (nm : Option Recorded). with_aside (aside_of (recorded (to_record nm (c ∷ cs)) t)) (record t { claims = all_granted (c ∷ cs) t.claims; waiters = cancelled w.id t.waiters })) same_name
+
+    refused_so : (answer : Answer) (u : CoreState) → is_refusal answer ≡ true → u ≡ record_left (to_record name (c ∷ cs)) answer t → (record u { waiters = cancelled w.id u.waiters }) ≡ once_answered t w (c ∷ cs) answer
+    refused_so answer u refused is =
+        ap (λ (x : CoreState). record x { waiters = cancelled w.id x.waiters }) (is ∙ left_aside (to_record name (c ∷ cs)) answer t)
+        ∙ ap (λ (held : List Claim). with_aside (aside_of (record_left (to_record name (c ∷ cs)) answer t)) (record t { claims = held; waiters = cancelled w.id t.waiters })) (sym (refused_once (c ∷ cs) answer t.claims refused))
+        ∙ ap (λ (nm : Option Recorded). with_aside (aside_of (record_left (to_record nm (c ∷ cs)) answer t)) (record t { claims = held_once (c ∷ cs) answer t.claims; waiters = cancelled w.id t.waiters })) same_name
+
+    by : (ruling : Ruling) (told : List Effect) (u : CoreState) → IsRuled n earlier left p (c ∷ cs) t ruling told u
+        → IsEachBehind earlier left w.rows (bytes_with (name_waiting t w) t.stable) (length s.names) (told_last n t w (c ∷ cs) c) (c ∷ cs) t (answer_by ruling) → does_wait earlier p t c ≡ false → IsMoved n left earlier s w c cs (turned w ruling (way.0 ++ told) u)
     by Gets told u is due clear = Answers (answers.Granted c)
         (behind told (all_of w.asked) is.0 ∙ ap (λ (ds : List Claim). way.0 ++ Served w.party w.id (all_of ds) ∷ []) asked)
-        (λ i. wish_for w.wish (all_of (asked i)) (record (is.1 i) { waiters = cancelled w.id (is.1 i).waiters }))
+        (ap (λ (ds : List Claim). wish_for w.wish (all_of ds) (record u { waiters = cancelled w.id u.waiters })) asked ∙ ap (wish_for w.wish (answers.Granted c)) (got u is.1))
         due
-        (λ d e. (same_claim c d e, is.2))
+        (λ d e. (same_claim c d e, is.4))
         (not_up earlier s t w c clear)
-    by Waits told u is due clear = absurd (both_ways (does_wait earlier p t c) clear is.3)
+    by Waits told u is due clear =
+        elim is.3 [
+          | inl stays ↦ let two : Stays ≡ Timely = sym stays ∙ timely in absurd cc
+          | inr waits ↦ absurd (both_ways (does_wait earlier p t c) clear waits.1)
+        ]
     by (Told answer) told u is due clear = Answers answer
         (behind told answer is.0)
-        (ap (λ (x : CoreState). record x { waiters = cancelled w.id x.waiters }) is.1 ∙ ap (λ (held : List Claim). record t { claims = held; waiters = cancelled w.id t.waiters }) (sym (refused_once (c ∷ cs) answer t.claims is.2))
-        ∙ sym (refused_wish w.wish answer (record t { claims = held_once (c ∷ cs) answer t.claims; waiters = cancelled w.id t.waiters }) is.2))
+        (refused_so answer u is.2 is.1 ∙ sym (refused_wish w.wish answer (once_answered t w (c ∷ cs) answer) is.2))
         due
         (λ d e. absurd (both_ways (is_refusal answer) (ap is_refusal e) is.2))
         (not_up earlier s t w c clear)
 
 -- the first waiter that has a turn
-pub record IsFirst (left : Rooms) (s : CoreState) (earlier ws : List Waiter) (turn : Turned) : Type 0 where
+pub record IsFirst (n : ℕ) (left : Rooms) (s : CoreState) (earlier ws : List Waiter) (turn : Turned) : Type 0 where
   pub before : List Waiter
   pub waiter : Waiter
   pub behind : List Waiter
@@ -536,21 +738,22 @@ pub record IsFirst (left : Rooms) (s : CoreState) (earlier ws : List Waiter) (tu
   pub blocked : AllBehind (IsUp s) earlier before
   pub is : IsWaiter s.names s.counter waiter
   pub asked : waiter.asked ≡ claim ∷ claims
+  pub calm : is_some s.grace ≡ false
   pub free : is_held_up (earlier ++ before) s waiter claim ≡ false
-  pub moved : IsMoved left (earlier ++ before) s waiter claim claims turn
+  pub moved : IsMoved n left (earlier ++ before) s waiter claim claims turn
 
 same_turn : (a b : Turned) → Some a ≡ Some b → a ≡ b
 same_turn a b e = cc
 
-pub first_is : (n : ℕ) (left : Rooms) (s : CoreState) (earlier ws : List Waiter) (turn : Turned) → AllByRecursion (IsWaiter s.names s.counter) ws → first_turn n left s earlier ws ≡ Some turn → IsFirst left s earlier ws turn
+pub first_is : (n : ℕ) (left : Rooms) (s : CoreState) (earlier ws : List Waiter) (turn : Turned) → AllByRecursion (IsWaiter s.names s.counter) ws → first_turn n left s earlier ws ≡ Some turn → IsFirst n left s earlier ws turn
 first_is n left s earlier [] turn all e = absurd cc
 first_is n left s earlier (w ∷ ws) turn all e =
     let r = again n left s earlier w in
     let later = first_turn n left s (earlier ++ w ∷ []) ws in
     let one = pled w.asked all.0.2 in
-    elim (cases_Bool (is_held_up earlier s w one.0)) [
+    elim (cases_Bool (holds_up earlier s w w.asked)) [
       | inl up ↦
-          let rest = held_rests n left s earlier w one.0 one.1 one.2 up in
+          let rest = up_rests n left s earlier w up in
           let found = first_is n left s (earlier ++ w ∷ []) ws turn all.1 (sym (ap (λ (x : Ruled). turn_or w x later) rest) ∙ e) in
           record {
             before = w ∷ found.before;
@@ -559,14 +762,16 @@ first_is n left s earlier (w ∷ ws) turn all e =
             claim = found.claim;
             claims = found.claims;
             stood = ap (λ (vs : List Waiter). w ∷ vs) found.stood;
-            blocked = ((rests_held n left s earlier w (ap (λ (x : Ruled). rests x.0 x.1) rest)).1, found.blocked);
+            blocked = (up, found.blocked);
             is = found.is;
             asked = found.asked;
+            calm = found.calm;
             free = subst (λ (before : List Waiter). is_held_up before s found.waiter found.claim ≡ false) (append_assoc earlier (w ∷ []) found.before) found.free;
-            moved = subst (λ (before : List Waiter). IsMoved left before s found.waiter found.claim found.claims turn) (append_assoc earlier (w ∷ []) found.before) found.moved;
+            moved = subst (λ (before : List Waiter). IsMoved n left before s found.waiter found.claim found.claims turn) (append_assoc earlier (w ∷ []) found.before) found.moved;
           }
-      | inr free ↦
-          let clear : holds_up earlier s w w.asked ≡ false = ap (holds_up earlier s w) one.2 ∙ free in
+      | inr clear ↦
+          let parts = or_parts (is_some s.grace) (of_first (λ c. is_held_up earlier s w c) w.asked) clear in
+          let free : is_held_up earlier s w one.0 ≡ false = sym (ap (of_first (λ c. is_held_up earlier s w c)) one.2) ∙ parts.1 in
           record {
             before = [];
             waiter = w;
@@ -577,8 +782,9 @@ first_is n left s earlier (w ∷ ws) turn all e =
             blocked = tt;
             is = all.0;
             asked = one.2;
+            calm = parts.0;
             free = subst (λ (before : List Waiter). is_held_up before s w one.0 ≡ false) (sym (append-nil earlier)) free;
-            moved = subst (λ (before : List Waiter). IsMoved left before s w one.0 one.1 turn) (sym (append-nil earlier)) (subst (IsMoved left earlier s w one.0 one.1) (same_turn (turned w r.0 r.1 r.2) turn (sym (move_first w r later (free_moves n left s earlier w clear)) ∙ e)) (moved n left s earlier w one.0 one.1 one.2 free));
+            moved = subst (λ (before : List Waiter). IsMoved n left before s w one.0 one.1 turn) (sym (append-nil earlier)) (subst (IsMoved n left earlier s w one.0 one.1) (same_turn (turned w r.0 r.1 r.2) turn (sym (move_first w r later (free_moves n left s earlier w clear)) ∙ e)) (moved n left s earlier w one.0 one.1 parts.0 one.2 free));
           }
     ]
   where
@@ -622,14 +828,16 @@ once_good left s w asked (answers.Full limit) good known pass = good_claims s go
 once_good left s w asked answers.NotHeld good known pass = good_claims s good
 once_good left s w asked answers.StoreFailed good known pass = good_claims s good
 
--- a waiter pleads the same while the names stay
-pub again_named : (s : CoreState) (w : Waiter) (t : CoreState) → t.names ≡ s.names → plea_again s w ≡ plea_again t w
-unfolding plea_again
-again_named s w t same = λ i. record { blocking = w.blocking; awaits = true; reclaim = false; rows = w.rows; kept = length (sym same i); crowded = None }
+-- who is free is held up by nothing
+pub clear_up : (earlier : List Waiter) (s : CoreState) (w : Waiter) (c : Claim) (cs : List Claim) → is_some s.grace ≡ false → w.asked ≡ c ∷ cs → is_held_up earlier s w c ≡ false → holds_up earlier s w w.asked ≡ false
+clear_up earlier s w c cs calm asked free = (λ i. calm i || of_first (λ d. is_held_up earlier s w d) (asked i)) ∙ free
 
--- the state once a waiter for these is answered so, before its wish is granted
-abbrev pub once_answered : CoreState → Waiter → List Claim → Answer → CoreState
-once_answered t w asked answer = record t { claims = held_once asked answer t.claims; waiters = cancelled w.id t.waiters }
+-- what a wish gets goes by what is held and who waits, and by whether grace runs
+pub kind_once : (wanted : CacheWish) (answer : Answer) (t : CoreState) (w : Waiter) → wished_kind wanted (once_served t w.id answer) ≡ wished_kind wanted (once_answered t w (asked_by w.id t.waiters) answer)
+unfolding wished_kind
+kind_once wanted answer t w =
+    let u = once_answered t w (asked_by w.id t.waiters) answer in
+    ap (λ (g : Option Running). if not (is_some g) && waits_on wanted.file u.waiters then None else if has_room (find (is_its_cache wanted) u.claims) u.claims then granted_kind wanted u.claims else None) (sym (left_grace (to_record (name_waiting t w) (asked_by w.id t.waiters)) answer t))
 
 -- a waiter wishes for what its party may have
 waiter_may : (names : List Name) (counter : ℕ) (w : Waiter) (c : Claim) (cs : List Claim) → w.asked ≡ c ∷ cs → IsWaiter names counter w → AllByRecursion (λ kind. is_kind_of c.party kind ≡ true) w.wish × (are_kept names c.owner c.party ≡ true)
@@ -639,11 +847,11 @@ waiter_may names counter w c cs asked is = (kinds w.wish (subst (λ (ds : List C
   kinds (k ∷ ks) all = (all.0.0, kinds ks all.1)
 
 -- one who is served is so in a good state, in which it may wish
-pub served_good : (left : Rooms) (s : CoreState) (turn : Turned) (first : IsFirst left s [] s.waiters turn) → IsGood s → (answer : Answer) → ((d : Claim) → answer ≡ answers.Granted d → (d ≡ first.claim) × AllPass left (plea_again s first.waiter) (way_again first.before s first.waiter).1.claims (first.claim ∷ first.claims))
+pub served_good : (n : ℕ) (left : Rooms) (s : CoreState) (turn : Turned) (first : IsFirst n left s [] s.waiters turn) → IsGood s → (answer : Answer) → ((d : Claim) → answer ≡ answers.Granted d → (d ≡ first.claim) × AllPass left (plea_again s first.waiter) (way_again first.before s first.waiter).1.claims (first.claim ∷ first.claims))
     → (let u = once_answered (way_again first.before s first.waiter).1 first.waiter (first.claim ∷ first.claims) answer in IsGood u × MayWish u first.waiter.wish answer)
-served_good left s turn first good answer pass = (
+served_good n left s turn first good answer pass = (
   good_from (once_answered t w (first.claim ∷ first.claims) answer)
-      (once_good left t w (first.claim ∷ first.claims) answer sound known (λ d e. subst (λ (p : Plea). AllPass left p t.claims (first.claim ∷ first.claims)) (again_named s w t same) (pass d e).1)) sound.distinct sound.few
+      (once_good left t w (first.claim ∷ first.claims) answer sound known (λ d e. subst (λ (p : Plea). AllPass left p t.claims (first.claim ∷ first.claims)) (again_pleads first.before s w) (pass d e).1)) sound.distinct sound.few
       (cancelled_all (IsWaiter t.names t.counter) w.id t.waiters sound.waiters) (cancelled_pairwise are_apart w.id t.waiters sound.apart) (fewer_crowd w.id t.waiters sound.crowd),
   λ d e. subst (λ (c : Claim). AllByRecursion (λ kind. is_kind_of c.party kind ≡ true) w.wish × (are_kept t.names c.owner c.party ≡ true)) (sym (pass d e).0)
       (subst (λ (names : List Name). AllByRecursion (λ kind. is_kind_of first.claim.party kind ≡ true) w.wish × (are_kept names first.claim.owner first.claim.party ≡ true)) (sym same) (waiter_may s.names s.counter w first.claim first.claims first.asked first.is)),
@@ -663,15 +871,15 @@ served_good left s turn first good answer pass = (
   known : AllByRecursion (IsKnown t.names) (first.claim ∷ first.claims)
   known = subst (λ (names : List Name). AllByRecursion (IsKnown names) (first.claim ∷ first.claims)) (sym same) (subst (λ (cs : List Claim). AllByRecursion (IsKnown s.names) cs) first.asked first.is.1)
 
-turn_good : (left : Rooms) (s : CoreState) (turn : Turned) (first : IsFirst left s [] s.waiters turn) → IsGood s → IsGood turn.1
-turn_good left s turn first good = by first.moved where
-  by : IsMoved left first.before s first.waiter first.claim first.claims turn → IsGood turn.1
+turn_good : (n : ℕ) (left : Rooms) (s : CoreState) (turn : Turned) (first : IsFirst n left s [] s.waiters turn) → IsGood s → IsGood turn.1
+turn_good n left s turn first good = by first.moved where
+  by : IsMoved n left first.before s first.waiter first.claim first.claims turn → IsGood turn.1
   by (Answers answer told new due pass clear) =
-      let is = served_good left s turn first good answer pass in
+      let is = served_good n left s turn first good answer pass in
       subst IsGood (sym new) (wish_for_good first.waiter.wish answer (once_answered (way_again first.before s first.waiter).1 first.waiter (first.claim ∷ first.claims) answer) is.0 is.1)
   by (Rests e up) = subst (λ (x : Turned). IsGood x.1) (sym e) (way_good first.before (plea_again s first.waiter) first.waiter.asked s good (known_no_cache s.names first.waiter.asked first.is.1))
 
-pub each_turn : (n : ℕ) (left : Rooms) (s : CoreState) (P : Turned → Type 0) → IsGood s → ((turn : Turned) → IsFirst left s [] s.waiters turn → P turn) → IfSome (settle n left s) P
+pub each_turn : (n : ℕ) (left : Rooms) (s : CoreState) (P : Turned → Type 0) → IsGood s → ((turn : Turned) → IsFirst n left s [] s.waiters turn → P turn) → IfSome (settle n left s) P
 unfolding settle
 each_turn n left s P good holds = by (first_turn n left s [] s.waiters) refl where
   by : (o : Option Turned) → first_turn n left s [] s.waiters ≡ o → IfSome o P
@@ -682,7 +890,7 @@ each_turn n left s P good holds = by (first_turn n left s [] s.waiters) refl whe
 pub settle_good : (n : ℕ) (left : Rooms) (s : CoreState) → IsGood s → IfSome (settle n left s) (λ r. IsGood r.1)
 settle_good n left s good =
     each_turn n left s (λ r. IsGood r.1) good
-    (λ turn first. turn_good left s turn first good)
+    (λ turn first. turn_good n left s turn first good)
 
 -- ---- who leaves
 
@@ -730,8 +938,18 @@ ended_good s client None good = leased_good s (without_lease client s.leases) go
 ended_good s client (Some party) good = leased_good (end_party s party).1 (without_lease client (end_party s party).1.leases) (end_party_good s party good)
 
 pub expire_good : (s : CoreState) (client : List ℕ) → IsGood s → IsGood (expire s client).1
-unfolding expire
-expire_good s client good = ended_good s client (party_named s.names (NfsParty client)) good
+expire_good s client good = of_expire (λ (r : List Effect × CoreState). IsGood r.1) s client (λ x. ended_good (with_aside x s) client (party_named s.names (NfsParty client)) (aside_good x s good))
+
+pub store_failed_good : (stable : Stable) (s : CoreState) → IsGood s → IsGood (store_failed stable s)
+store_failed_good stable s good = of_aside IsGood s (store_failed stable s) (failed_aside stable s) (λ x. aside_good x s good)
+
+pub end_grace_good : (s : CoreState) → IsGood s → IsGood (end_grace s)
+end_grace_good s good = of_aside IsGood s (end_grace s) (grace_aside s) (λ x. aside_good x s good)
+
+pub try_expire_good : (n : ℕ) (s : CoreState) (client : List ℕ) → IsGood s → IsGood (try_expire n s client).1
+unfolding try_expire
+try_expire_good n s client good =
+    elim (cases_Bool (may_expire n s client)) [ inl may ↦ rw may (expire_good s client good) | inr none ↦ rw none (store_failed_good (without_name (client_name client) s.stable) s good) ]
 
 lapsed_by_good : (s : CoreState) (cache : Claim) (client : Option (List ℕ)) → IsGood s → IsGood (lapsed_by s cache client).1
 lapsed_by_good s cache None good = without_good s cache good
@@ -741,14 +959,24 @@ pub lapse_good : (s : CoreState) (cache : Claim) → IsGood s → IsGood (lapse 
 unfolding lapse
 lapse_good s cache good = lapsed_by_good s cache (client_of s.names cache.party) good
 
-pub lapse_all_good : (s : CoreState) → IsGood s → IsGood (lapse_all s).1
+try_lapsed_good : (n : ℕ) (s : CoreState) (cache : Claim) (client : Option (List ℕ)) → IsGood s → IsGood (try_lapsed_by n s cache client).1
+try_lapsed_good n s cache None good = without_good s cache good
+try_lapsed_good n s cache (Some client) good = try_expire_good n s client good
+
+pub try_lapse_good : (n : ℕ) (s : CoreState) (cache : Claim) → IsGood s → IsGood (try_lapse n s cache).1
+unfolding try_lapse
+try_lapse_good n s cache good = try_lapsed_good n s cache (client_of s.names cache.party) good
+
+pub lapse_all_good : (n : ℕ) (s : CoreState) → IsGood s → IsGood (lapse_all n s).1
 unfolding lapse_all
-lapse_all_good s good = in_turn_keeps is_still_held lapse IsGood lapse_good (due s) s good
+lapse_all_good n s good = in_turn_keeps is_still_held (try_lapse n) IsGood (try_lapse_good n) (due s) s good
 
-expire_all_good : (s : CoreState) → IsGood s → IsGood (expire_all s).1
+pub expire_all_good : (n : ℕ) (s : CoreState) → IsGood s → IsGood (expire_all n s).1
 unfolding expire_all
-expire_all_good s good = in_turn_keeps is_lease_over expire IsGood expire_good (ended s.clock s.leases) s good
+expire_all_good n s good = in_turn_keeps is_lease_over (try_expire n) IsGood (try_expire_good n) (ended_leases s.clock s.leases) s good
 
-pub tick_good : (s : CoreState) (now : Moment) → IsGood s → IsGood (tick s now).1
+pub tick_good : (n : ℕ) (s : CoreState) (now : Moment) → IsGood s → IsGood (tick n s now).1
 unfolding tick
-tick_good s now good = expire_all_good (lapse_all (advanced s now)).1 (lapse_all_good (advanced s now) (advanced_good s now good))
+tick_good n s now good =
+    let u = (expire_all n (lapse_all n (advanced s now)).1).1 in
+    of_end n IsGood u (λ x. aside_good x u (expire_all_good n (lapse_all n (advanced s now)).1 (lapse_all_good n (advanced s now) (advanced_good s now good))))

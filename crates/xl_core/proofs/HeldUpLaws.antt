@@ -1,9 +1,17 @@
 -- Who is blocked stays so by what changes on other files; so who may have a turn waits on a file that is kept as unsettled.
 use Rattle.xl_cache.specs.declared.break_plan.BreakPlan.{BreakPlan}
+use Rattle.xl_core.specs.BreaksBegun.{breaks_begun}
+use Rattle.xl_core.proofs.StoreLaws.{may_be_made}
+use Rattle.xl_core.proofs.AsideLaws.{with_aside, by_runs}
+use Rattle.xl_core.proofs.StandingLaws.{stays_runs}
+use Rattle.xl_core.specs.declared.standings.Standing.TheVariants.{Timely, Reclaims, Early, Late, Unrecorded}
+use Rattle.xl_core.specs.declared.standings.Standing.TheVariants as standings
+use Rattle.xl_core.specs.declared.standings.Standing.{Standing}
+use Rattle.xl_core.specs.Standings.{recorded_as, is_smb, stands, standing}
 use Rattle.xl_core.proofs.BreaksInOrderLaws.{final_here, planned_here}
 use Rattle.xl_core.proofs.BreaksBegunLaws.{begun_elsewhere}
-use Rattle.xl_core.proofs.WayLaws.{NoWay, Begins, way_is, way_stopped, way_runs, way_quiet, way_waiters}
-use Rattle.xl_core.proofs.WayAsks.{ask_way_names, ask_way_waiters}
+use Rattle.xl_core.proofs.WayLaws.{NoWay, Begins, way_is, way_stopped, way_runs, way_quiet, way_waiters, way_keeps}
+use Rattle.xl_core.proofs.WayAsks.{ask_way_names, ask_way_waiters, ask_way_keeps}
 use Rattle.xl_core.proofs.FrameLaws.{decided_quiet}
 use Rattle.xl_core.proofs.LimitLaws.{wait_least}
 use Rattle.xl_core.specs.Limits.{wait_limits, first_passed}
@@ -12,7 +20,7 @@ use Rattle.xl_core.specs.Frames.{asks_to_hold}
 use Rattle.xl_core.specs.declared.judge.Plea.{Plea}
 use Rattle.xl_cache.specs.BreakPlans.{is_final}
 use Rattle.xl_core.specs.Blockers.{is_stopped, first_broken, all_run}
-use Rattle.std.proofs.Common.{◌≡◌, ℕ, ◌+◌, Bool, true, false, not, ◌&&◌, ◌==◌, inl, inr, List, [], ◌∷◌, ◌++◌, map, length, append-nil, Option, Some, None, IfSome, is_some, if◌then◌else◌, option_map, refl, sym, ap, subst, ◌∙◌}
+use Rattle.std.proofs.Common.{◌≡◌, ℕ, ◌+◌, Bool, true, false, not, ◌&&◌, ◌||◌, ◌==◌, inl, inr, List, [], ◌∷◌, ◌++◌, map, length, append-nil, Option, Some, None, IfSome, is_some, if◌then◌else◌, option_map, refl, sym, ap, subst, ◌∙◌}
 use Rattle.std.specs.List.{AllByRecursion, filter, list_any}
 use Rattle.std.proofs.lemmas.Bool.{cases_Bool, both_ways, or_parts, eqb-true, eq-eqb}
 use Rattle.xl_base.specs.Lists.{placed, Pairwise}
@@ -42,15 +50,15 @@ use Rattle.xl_table.specs.Relock.{all_inserted, range_claim, is_range_of, unrang
 use Rattle.xl_wait.specs.Waiting.{cancelled}
 use Rattle.xl_wait.specs.declared.waiter.Rooms.{Rooms}
 use Rattle.xl_wait.specs.declared.waiter.Waiter.{Waiter}
-use Rattle.xl_core.specs.State.{CoreState, step_begun, drawn}
+use Rattle.xl_core.specs.State.{CoreState, step_begun, drawn, MayBe, aside_of}
 use Rattle.xl_core.specs.Askers.{asking_party, both_entered, asked_whats, asked_claims, IsFit}
-use Rattle.xl_core.specs.Causes.{IsClaimDue, IsServed, Answered as TurnAnswered, WaitsOn, IsTurn, may_wait, held_once}
+use Rattle.xl_core.specs.Causes.{IsClaimDue, IsServed, Answered as TurnAnswered, WaitsOn, IsTurn, may_wait, held_once, IsWaiting, noted_by}
 use Rattle.xl_core.specs.Decide.{Answered, plea_of, waiter_of, named, waiting, unlocked_claims, claims_asked, acted, decided, way, before_wish, does_wish, wish_after, ask}
 use Rattle.xl_core.specs.Wishes.{wish_granted, wish_of, wish_for}
 use Rattle.xl_cache.specs.declared.wish.Wish.{Wish}
 use Rattle.xl_core.proofs.WishLaws.{wish_elsewhere}
 use Rattle.xl_core.proofs.AskWishLaws.{wished_waiters}
-use Rattle.xl_core.specs.Good.{are_apart, IsWaiter, IsGood, AllBehind, IsUp, IsSettled, is_held_up, holds_up, IsPled}
+use Rattle.xl_core.specs.Good.{are_apart, IsWaiter, IsGood, AllBehind, IsUp, IsSettled, is_held_up, of_first, holds_up, IsPled}
 use Rattle.xl_core.specs.Judge.{all_granted, held_with}
 use Rattle.xl_core.specs.Settle.{plea_again, way_again, settle, cancel, give_back, weaken}
 use Rattle.xl_core.specs.BreakAnswers.{with_rest, ack}
@@ -66,9 +74,9 @@ use Rattle.xl_core.specs.declared.unsettled.Unsettled.{Unsettled}
 use Rattle.xl_core.specs.declared.unsettled.Unsettled.TheVariants.{Files, All}
 use Rattle.xl_core.proofs.CauseLaws.{test_leaves, first_due}
 use Rattle.xl_core.proofs.ChangeLaws.{AskWay, Stays, Tests, Holds, Waits, Frees, decided_way, Gives}
-use Rattle.xl_core.proofs.GoodLaws.{cancelled_all, asked_way_good, decided_grants}
+use Rattle.xl_core.proofs.GoodLaws.{cancelled_all, asked_way_good, decided_grants, once_answered}
 use Rattle.xl_core.proofs.RowLaws.{is_refusal}
-use Rattle.xl_core.proofs.SettleLaws.{settle_rests, settled_is, none_settled, turn_is, once_cases, turn_is_known, without}
+use Rattle.xl_core.proofs.SettleLaws.{settle_rests, settled_is, none_settled, turn_is, once_cases, turn_is_known, without, told_state}
 use Rattle.xl_matrix.specs.Owners.{posix}
 
 -- ---- what is held on a file, where another changes
@@ -230,17 +238,24 @@ up_each u s earlier [] all = tt
 up_each u s earlier (w ∷ ws) all = (all.0, up_each u s (earlier ++ w ∷ []) ws all.1)
 
 -- these alone wait then
-few_up : (u v : Unsettled) (s t : CoreState) (ws : List Waiter) → t.waiters ≡ ws → StaysElsewhere u v s.claims t.claims → AreUp u s ws → AreHeldUp v t
-few_up u v s t ws are on all =
-    up_each v t [] t.waiters (subst (AreUp v t) (sym are) (all_weaker (λ (w : Waiter). IsHeldUp u [] s w w.asked) (λ w. IsHeldUp v [] t w w.asked) ws (λ w up. still_up u v [] s t w w.asked on up) all))
+few_up : (u v : Unsettled) (s t : CoreState) (ws : List Waiter) → t.waiters ≡ ws → StaysElsewhere u v s.claims t.claims → (is_some t.grace ≡ false → AreUp u s ws) → AreHeldUp v t
+unfolding AreHeldUp
+few_up u v s t ws are on all = λ calm.
+    up_each v t [] t.waiters (subst (AreUp v t) (sym are) (all_weaker (λ (w : Waiter). IsHeldUp u [] s w w.asked) (λ w. IsHeldUp v [] t w w.asked) ws (λ w up. still_up u v [] s t w w.asked on up) (all calm)))
 
--- the same wait
-pub all_still_up : (u v : Unsettled) (s t : CoreState) → t.waiters ≡ s.waiters → StaysElsewhere u v s.claims t.claims → AreHeldUp u s → AreHeldUp v t
-all_still_up u v s t same on all = few_up u v s t s.waiters same on (each_up u s [] s.waiters all)
+-- the same wait, and grace runs if it ran
+pub all_still_up : (u v : Unsettled) (s t : CoreState) → t.waiters ≡ s.waiters → is_some t.grace ≡ is_some s.grace → StaysElsewhere u v s.claims t.claims → AreHeldUp u s → AreHeldUp v t
+unfolding AreHeldUp
+all_still_up u v s t same runs on all = few_up u v s t s.waiters same on (λ calm. each_up u s [] s.waiters (all (sym runs ∙ calm)))
+
+-- nor is anything said where nobody waits
+pub none_up : (u : Unsettled) (s : CoreState) → s.waiters ≡ [] → AreHeldUp u s
+none_up u s none = few_up u u s s [] none (λ file n. (n, refl)) (λ calm. tt)
 
 -- where all files are unsettled nothing is said of anyone
 pub any_up : (s : CoreState) → AreHeldUp All s
-any_up s = by [] s.waiters where
+unfolding AreHeldUp
+any_up s = λ calm. by [] s.waiters where
   one : (earlier : List Waiter) (w : Waiter) (asked : List Claim) → IsHeldUp All earlier s w asked
   one earlier w [] = tt
   one earlier w (c ∷ cs) = λ e. absurd (both_ways true e refl)
@@ -272,24 +287,35 @@ refused_not_given answers.StoreFailed refused given = absurd (both_ways false re
 way_up : (u : Unsettled) (s : CoreState) (a : Ask) (answer : Answer) (t : CoreState) → AskWay s a (answer, [], t) → is_granted answer ≡ true → AreHeldUp u s → AreHeldUp (with_file a.file u) t
 unfolding held_with
 way_up u s a answer t (Stays other refused e) given all = absurd (refused_not_given other refused (ap (λ (x : Answered). is_granted x.0) (sym e) ∙ given))
-way_up u s a answer t (Tests c holds e) given all = subst (λ (x : Answered). AreHeldUp (with_file a.file u) x.2) (sym e) (all_still_up u (with_file a.file u) s s refl (λ file n. ((both_apart a.file file u n).0, refl)) all)
+way_up u s a answer t (Tests c holds e) given all = subst (λ (x : Answered). AreHeldUp (with_file a.file u) x.2) (sym e) (all_still_up u (with_file a.file u) s s refl refl (λ file n. ((both_apart a.file file u n).0, refl)) all)
 way_up u s a answer t (Holds c claims is holds e) given all =
     let there = subst (λ (cs : List Claim). AllByRecursion (λ d. d.file ≡ a.file) cs) (sym is) (asked_there a (asked_whats a.act) s.names) in
     subst (λ (x : Answered). AreHeldUp (with_file a.file u) x.2) (sym e)
-    (all_still_up u (with_file a.file u) s (named a (record s { claims = all_granted claims s.claims })) refl (λ file n. let apart = both_apart a.file file u n in (apart.0, there_all_granted file a.file claims s.claims there apart.1)) all)
-way_up u s a answer t (Waits c cs may blocked is holds e) given all = absurd (both_ways (is_granted answer) (ap (λ (x : Answered). is_granted x.0) e) given)
+    (all_still_up u (with_file a.file u) s (with_aside (aside_of (noted_by s a (answers.Granted c))) (named a (record s { claims = all_granted claims s.claims }))) refl (by_runs s a (answers.Granted c)) (λ file n. let apart = both_apart a.file file u n in (apart.0, there_all_granted file a.file claims s.claims there apart.1)) all)
+way_up u s a answer t (Waits c cs why is holds e) given all = absurd (both_ways (is_granted answer) (ap (λ (x : Answered). is_granted x.0) e) given)
 way_up u s a answer t (Frees claim first last holds act at owner e) given all =
     subst (λ (x : Answered). AreHeldUp (with_file a.file u) x.2) (sym e)
-    (all_still_up u (with_file a.file u) s (record s { claims = unlocked_claims claim first last s.claims }) refl
+    (all_still_up u (with_file a.file u) s (record s { claims = unlocked_claims claim first last s.claims }) refl refl
     (λ file n. let apart = both_apart a.file file u n in (apart.0, there_relocked file claim.file claim.owner claim.party first last None s.claims (subst (λ (f : ℕ). IsElsewhere f file) (sym at) apart.1))) all)
 way_up u s a answer t (Gives claim d holds act at owner range e) given all =
     subst (λ (x : Answered). AreHeldUp (with_file a.file u) x.2) (sym e)
-    (all_still_up u (with_file a.file u) s (record s { claims = removed d s.claims }) refl
+    (all_still_up u (with_file a.file u) s (record s { claims = removed d s.claims }) refl refl
     (λ file n. let apart = both_apart a.file file u n in (apart.0, there_removed file d s.claims (subst (λ (f : ℕ). IsElsewhere f file) (sym at) apart.1))) all)
 
 -- where one is told to wait for answers to breaks, all of these run
 abbrev Runs : CoreState → Ask → Answer → Type 0
-Runs s a answer = (id : ℕ) (c : Claim) (cs : List Claim) → answer ≡ answers.Queued id → c ∷ cs ≡ asked_claims a (asked_whats a.act) s.names → asks_to_hold a.act ≡ true → is_blocked s.claims c ≡ true → is_stopped s.waiters s c ≡ false → all_run s.claims c ≡ true
+Runs s a answer = is_some s.grace ≡ false → (id : ℕ) (c : Claim) (cs : List Claim) → answer ≡ answers.Queued id → c ∷ cs ≡ asked_claims a (asked_whats a.act) s.names → asks_to_hold a.act ≡ true → is_blocked s.claims c ≡ true → is_stopped s.waiters s c ≡ false → all_run s.claims c ≡ true
+
+-- where no grace runs who comes to wait waits for what is in its way
+waits_calm : (s : CoreState) (a : Ask) (c : Claim) → is_some s.grace ≡ false → IsWaiting (stands s a) s.waiters s a c → (stands s a ≡ Timely) × (may_wait s.waiters s a c ≡ true) × (is_blocked s.claims c ≡ true)
+waits_calm s a c calm why = by (stands s a) refl why where
+  by : (standing : Standing) → stands s a ≡ standing → IsWaiting standing s.waiters s a c → (stands s a ≡ Timely) × (may_wait s.waiters s a c ≡ true) × (is_blocked s.claims c ≡ true)
+  by Timely is why = (is, why.0, why.1)
+  by standings.Stays is why = absurd (both_ways (is_some s.grace) calm (stays_runs s (recorded_as a.party) (is_smb a.party) a.reclaim is))
+  by Reclaims is why = absurd why
+  by (Early until) is why = absurd why
+  by (Late clock) is why = absurd why
+  by Unrecorded is why = absurd why
 
 -- who comes to wait is held up
 comes_up : (u : Unsettled) (s : CoreState) (a : Ask) (c : Claim) (cs : List Claim) → may_wait s.waiters s a c ≡ true → is_blocked s.claims c ≡ true → (is_stopped s.waiters s c ≡ false → all_run s.claims c ≡ true) → IsHeldUp u [] s (waiter_of (s.counter + 1) a (asking_party a s.names) (c ∷ cs)) (c ∷ cs)
@@ -300,20 +326,21 @@ comes_up u s a c cs may blocked run = λ e. by (is_blocked s.claims c) (is_stopp
   by false y z v r m b run = absurd (both_ways false refl b)
 
 same_up : (u : Unsettled) (s : CoreState) (a : Ask) (answer : Answer) (t : CoreState) → AskWay s a (answer, [], t) → is_granted answer ≡ false → Runs s a answer → AreHeldUp u s → AreHeldUp u t
-same_up u s a answer t (Stays other refused e) given runs all = subst (λ (x : Answered). AreHeldUp u x.2) (sym e) all
+unfolding AreHeldUp
+same_up u s a answer t (Stays other refused e) given runs all = subst (λ (x : Answered). AreHeldUp u x.2) (sym e) (all_still_up u u s (with_aside (aside_of (noted_by s a other)) s) refl (by_runs s a other) (λ file n. (n, refl)) all)
 same_up u s a answer t (Tests c holds e) given runs all = subst (λ (x : Answered). AreHeldUp u x.2) (sym e) all
 same_up u s a answer t (Holds c claims of holds e) given runs all = absurd (both_ways (is_granted answer) given (ap (λ (x : Answered). is_granted x.0) e))
 same_up u s a answer t (Gives claim d holds act file owner range e) given runs all = absurd (both_ways (is_granted answer) given (ap (λ (x : Answered). is_granted x.0) e))
-same_up u s a answer t (Waits c cs may blocked is holds e) given runs all =
+same_up u s a answer t (Waits c cs why is holds e) given runs all =
     subst (λ (x : Answered). AreHeldUp u x.2) (sym e)
     (few_up u u s (waiting a (c ∷ cs) s) (s.waiters ++ waiter_of (s.counter + 1) a (asking_party a s.names) (c ∷ cs) ∷ []) refl (λ file n. (n, refl))
-    (all_append (λ (w : Waiter). IsHeldUp u [] s w w.asked) s.waiters (waiter_of (s.counter + 1) a (asking_party a s.names) (c ∷ cs) ∷ []) (each_up u s [] s.waiters all) (comes_up u s a c cs may blocked (runs (s.counter + 1) c cs (ap (λ (x : Answered). x.0) e) is holds blocked), tt)))
+    (λ calm. all_append (λ (w : Waiter). IsHeldUp u [] s w w.asked) s.waiters (waiter_of (s.counter + 1) a (asking_party a s.names) (c ∷ cs) ∷ []) (each_up u s [] s.waiters (all calm)) (let now = waits_calm s a c calm why in comes_up u s a c cs now.1 now.2 (runs calm (s.counter + 1) c cs (ap (λ (x : Answered). x.0) e) is holds now.2), tt)))
 same_up u s a answer t (Frees claim first last holds act file owner e) given runs all = absurd (both_ways (is_granted answer) given (ap (λ (x : Answered). is_granted x.0) e))
 
-decided_up : (u : Unsettled) (left : Rooms) (s t : CoreState) (a : Ask) (answer : Answer) → decided 0 left s a ≡ (answer, [], t) → IsGood s → IsFit a → Runs s a answer → AreHeldUp u s → AreHeldUp (if may_free a.act answer then with_file a.file u else u) t
-decided_up u left s t a answer e good fit runs all = by a.act refl where
+decided_up : (n : ℕ) (u : Unsettled) (left : Rooms) (s t : CoreState) (a : Ask) (answer : Answer) → decided n left s a ≡ (answer, [], t) → IsGood s → IsFit a → Runs s a answer → AreHeldUp u s → AreHeldUp (if may_free a.act answer then with_file a.file u else u) t
+decided_up n u left s t a answer e good fit runs all = by a.act refl where
   way : AskWay s a (answer, [], t)
-  way = subst (AskWay s a) e (decided_way 0 left s a good fit.party)
+  way = subst (AskWay s a) e (decided_way n left s a good fit.party)
 
   given : (b : Bool) → is_granted answer ≡ b → AreHeldUp (if b then with_file a.file u else u) t
   given true is = way_up u s a answer t way is all
@@ -322,7 +349,7 @@ decided_up u left s t a answer e good fit runs all = by a.act refl where
   by : (act : Act) → a.act ≡ act → AreHeldUp (if may_free act answer then with_file a.file u else u) t
   by (acts.Share access deny) is = given (is_granted answer) refl
   by (acts.Ranges ranges) is = given (is_granted answer) refl
-  by (acts.Test extent exclusive) is = subst (λ (x : CoreState). AreHeldUp u x) (sym (test_leaves 0 left s a extent exclusive is) ∙ ap (λ (x : Answered). x.2) e) all
+  by (acts.Test extent exclusive) is = subst (λ (x : CoreState). AreHeldUp u x) (sym (test_leaves n left s a extent exclusive is) ∙ ap (λ (x : Answered). x.2) e) all
   by (acts.Unlock extent) is = given (is_granted answer) refl
   by acts.Wish is = given (is_granted answer) refl
 
@@ -337,23 +364,27 @@ hold_is n left s a c cs some holds = by a.act some holds where
   by (acts.Unlock extent) some h = absurd (both_ways false refl h)
   by acts.Wish some h = let two : c ∷ cs ≡ [] = some in absurd cc
 
--- one who is told to wait doesn't come too late, and its wait passes no limit
-plea_waits : (left : Rooms) (s : CoreState) (a : Ask) (claim : Claim) (id : ℕ) → IsClaimDue left s a claim (answers.Queued id) → ((plea_of left s a).reclaim ≡ false) × ((plea_of left s a).crowded ≡ None)
+-- one who is told to wait where no grace runs is no reclaim, and its wait passes no limit
+plea_waits : (n : ℕ) (left : Rooms) (s : CoreState) (a : Ask) (claim : Claim) (id : ℕ) → is_some s.grace ≡ false → IsClaimDue n left s a claim (answers.Queued id) → ((plea_of left s a).standing ≡ Timely) × ((plea_of left s a).crowded ≡ None)
 unfolding plea_of
-plea_waits left s a claim id due = (due.1, wait_least left a.rows (length s.waiters) (length (both_entered a s.names)) None due.4)
+plea_waits n left s a claim id calm due = ((waits_calm s a claim calm due.1).0, wait_least left a.rows (length s.waiters) (length (both_entered a s.names)) None due.2)
 
-same_plea : (left : Rooms) (s t : CoreState) (a : Ask) → t.names ≡ s.names → t.waiters ≡ s.waiters → plea_of left t a ≡ plea_of left s a
-unfolding plea_of
-same_plea left s t a names waiters = λ i. let kept = length (both_entered a (names i)) in record { blocking = a.blocking; awaits = a.awaits; reclaim = a.reclaim; rows = a.rows; kept = kept; crowded = first_passed (wait_limits left a.rows (length (waiters i)) kept) }
+begun_plea : (left : Rooms) (a : Ask) (c : Claim) (s : CoreState) → plea_of left (breaks_begun c s).1 a ≡ plea_of left s a
+unfolding plea_of breaks_begun standing
+begun_plea left a c s = refl
+
+pub begun_grace : (c : Claim) (s : CoreState) → (breaks_begun c s).1.grace ≡ s.grace
+unfolding breaks_begun
+begun_grace c s = refl
 
 -- so where the way of one is made that is told to wait, all breaks run that it waits for
-way_all_run : (left : Rooms) (s : CoreState) (a : Ask) → Runs (way left s a).1 a (decided 0 left (way left s a).1 a).0
-way_all_run left s a id c cs at is holds blocked moves =
+way_all_run : (n : ℕ) (left : Rooms) (s : CoreState) (a : Ask) → Runs (way left s a).1 a (decided n left (way left s a).1 a).0
+way_all_run n left s a calm id c cs at is holds blocked moves =
     let t = (way left s a).1 in
     let names : t.names ≡ s.names = ask_way_names left s a in
-    let due = subst (IsClaimDue left t a c) at (first_due 0 left t a c cs (decided 0 left t a) blocked (hold_is 0 left t a c cs is holds ∙ ap (claims_asked 0 left t a) (sym is))) in
-    let pleads = plea_waits left t a c id due in
-    let same : plea_of left t a ≡ plea_of left s a = same_plea left s t a names (ask_way_waiters left s a) in
+    let due = subst (IsClaimDue n left t a c) at (first_due n left t a c cs (decided n left t a) blocked (hold_is n left t a c cs is holds ∙ ap (claims_asked n left t a) (sym is))) in
+    let pleads = plea_waits n left t a c id calm due in
+    let same : plea_of left t a ≡ plea_of left s a = ask_way_keeps (λ x. plea_of left x a) left s a (λ d. begun_plea left a d s) in
     let asked : asked_claims a (asked_whats a.act) s.names ≡ c ∷ cs = ap (λ (ns : List Name). asked_claims a (asked_whats a.act) ns) (sym names) ∙ sym is in
     let made : way left s a ≡ made_way s.waiters (plea_of left s a) (c ∷ cs) s = ap (λ (ds : List Claim). made_way s.waiters (plea_of left s a) ds s) asked in
     elim (cases_Bool (is_stopped s.waiters s c)) [
@@ -362,12 +393,12 @@ way_all_run left s a id c cs at is holds blocked moves =
           absurd (both_ways (is_stopped t.waiters t c) moves (subst (λ (x : CoreState). is_stopped x.waiters x c ≡ true) (sym stays) stops))
       | inr moved ↦
           ap (λ (w : List Effect × CoreState). all_run w.1.claims c) made
-          ∙ way_runs s.waiters (plea_of left s a) c cs s (ap (λ (p : Plea). p.reclaim) (sym same) ∙ pleads.0) (ap (λ (p : Plea). p.crowded) (sym same) ∙ pleads.1) moved
+          ∙ way_runs s.waiters (plea_of left s a) c cs s (ap (λ (p : Plea). p.standing) (sym same) ∙ pleads.0) (ap (λ (p : Plea). p.crowded) (sym same) ∙ pleads.1) moved
     ]
 
 -- who waits on a file that isn't among more of them is held up, where all are that don't wait on these
 wider_up : (u v : Unsettled) (s : CoreState) → IsWider u v → AreHeldUp u s → AreHeldUp v s
-wider_up u v s wider all = all_still_up u v s s refl (λ file n. (wider file n, refl)) all
+wider_up u v s wider all = all_still_up u v s s refl refl (λ file n. (wider file n, refl)) all
 
 same_file : (f : ℕ) (u : Unsettled) → IsWider (with_file f (with_file f u)) (with_file f u)
 same_file f (Files files) file n = let apart = both_apart f file (Files files) n in rw (eqb-sym file f ∙ apart.1, apart.0) refl
@@ -392,10 +423,14 @@ other_file u file other there apart =
       | inl same ↦ absurd (both_ways (is_among u other) apart (subst (λ (f : ℕ). is_among u f ≡ true) (eqb-true file other same) there))
     ]
 
+wished_grace : (wanted : Wish) (s : CoreState) → (wish_granted wanted s).grace ≡ s.grace
+unfolding wish_granted
+wished_grace wanted s = refl
+
 -- who waits on a file that isn't unsettled stays held up where a wish is granted on one that is
 granted_up : (v : Unsettled) (wanted : Wish) (s : CoreState) → is_among v wanted.file ≡ true → AreHeldUp v s → AreHeldUp v (wish_granted wanted s)
 granted_up v wanted s there all =
-    all_still_up v v s (wish_granted wanted s) (wished_waiters wanted s) (λ file n. (n, wish_elsewhere wanted s file (other_file v wanted.file file there n))) all
+    all_still_up v v s (wish_granted wanted s) (wished_waiters wanted s) (ap is_some (wished_grace wanted s)) (λ file n. (n, wish_elsewhere wanted s file (other_file v wanted.file file there n))) all
 
 for_up : (v : Unsettled) (kinds : List CacheKind) (answer : Answer) (s : CoreState) → ((d : Claim) → answer ≡ answers.Granted d → is_among v d.file ≡ true) → AreHeldUp v s → AreHeldUp v (wish_for kinds answer s)
 for_up v kinds (answers.Granted c) s there all = granted_up v (wish_of kinds c) s (there c refl) all
@@ -426,30 +461,36 @@ wish_frees (acts.Test extent exclusive) answer does given = absurd (both_ways fa
 wish_frees (acts.Unlock extent) answer does given = absurd (both_ways false refl does)
 wish_frees acts.Wish answer does given = given
 
-pub ask_up : (u : Unsettled) (left : Rooms) (s t : CoreState) (a : Ask) (answer : Answer) (told : List Effect) → ((n : ℕ) → ask n left s a ≡ (answer, told, t)) → IsGood s → IsFit a → AreHeldUp u s → AreHeldUp (left_by_ask a answer told u) t
+pub ask_up : (u : Unsettled) (left : Rooms) (s t : CoreState) (a : Ask) (answer : Answer) (told : List Effect) → ((n : ℕ) → MayBe n t → ask n left s a ≡ (answer, told, t)) → IsGood s → IsFit a → AreHeldUp u s → AreHeldUp (left_by_ask a answer told u) t
 unfolding ask before_wish
 ask_up u left s t a answer told e good fit all =
-    subst (AreHeldUp (left_by_ask a answer told u)) (ap (λ (x : Answer). wish_after a x before) (sym answers) ∙ ap (λ (r : Answered). r.2) (e 0))
-    (after_up (left_by_ask a answer told u) a answer before (λ does given. own_file told does given) (λ does d at. ap (λ (c : Claim). c.file) (decided_grants 0 left way_state a d does (answers ∙ at)).1)
-    (by told (way_told ∙ ap (λ (r : Answered). r.1) (e 0))))
+    subst (AreHeldUp (left_by_ask a answer told u)) (ap (λ (x : Answer). wish_after a x before) (sym answers) ∙ ap (λ (r : Answered). r.2) now)
+    (after_up (left_by_ask a answer told u) a answer before (λ does given. own_file told does given) (λ does d at. ap (λ (c : Claim). c.file) (decided_grants n left way_state a d does (answers ∙ at)).1)
+    (by told (way_told ∙ ap (λ (r : Answered). r.1) now)))
   where
+    n : ℕ
+    n = t.made
+
+    now : ask n left s a ≡ (answer, told, t)
+    now = e n (may_be_made t)
+
     way_state : CoreState
     way_state = (way left s a).1
 
     sound : IsGood way_state
     sound = asked_way_good left s a good
 
-    way_told : (way left s a).0 ≡ (way left s a).0 ++ (decided 0 left way_state a).1
-    way_told = sym (append-nil (way left s a).0) ∙ ap (λ (xs : List Effect). (way left s a).0 ++ xs) (sym (decided_quiet 0 left way_state a sound fit.party))
+    way_told : (way left s a).0 ≡ (way left s a).0 ++ (decided n left way_state a).1
+    way_told = sym (append-nil (way left s a).0) ∙ ap (λ (xs : List Effect). (way left s a).0 ++ xs) (sym (decided_quiet n left way_state a sound fit.party))
 
     before : CoreState
-    before = (decided 0 left way_state a).2
+    before = (decided n left way_state a).2
 
-    answers : (decided 0 left way_state a).0 ≡ answer
-    answers = ap (λ (r : Answered). r.0) (e 0)
+    answers : (decided n left way_state a).0 ≡ answer
+    answers = ap (λ (r : Answered). r.0) now
 
-    judged_so : decided 0 left way_state a ≡ (answer, [], before)
-    judged_so = λ i. (answers i, decided_quiet 0 left way_state a sound fit.party i, before)
+    judged_so : decided n left way_state a ≡ (answer, [], before)
+    judged_so = λ i. (answers i, decided_quiet n left way_state a sound fit.party i, before)
 
     -- its file is unsettled where its wish may be granted
     own_file : (xs : List Effect) → does_wish a.act ≡ true → is_granted answer ≡ true → is_among (left_by_ask a answer xs u) a.file ≡ true
@@ -457,18 +498,18 @@ ask_up u left s t a answer told e good fit all =
     own_file (x ∷ xs) does given = is_with a.file u
 
     runs : Runs way_state a answer
-    runs = subst (Runs way_state a) (ap (λ (r : Answered). r.0) (e 0)) (way_all_run left s a)
+    runs = subst (Runs way_state a) (ap (λ (r : Answered). r.0) now) (way_all_run n left s a)
 
     on_its_file : AreHeldUp (with_file a.file u) way_state
     on_its_file =
-        all_still_up u (with_file a.file u) s way_state (ask_way_waiters left s a) (λ file n. let apart = both_apart a.file file u n in (apart.0, way_elsewhere left s a file apart.1)) all
+        all_still_up u (with_file a.file u) s way_state (ask_way_waiters left s a) (ap is_some (ask_way_keeps (λ x. x.grace) left s a (λ c. begun_grace c s))) (λ file n. let apart = both_apart a.file file u n in (apart.0, way_elsewhere left s a file apart.1)) all
 
     by : (xs : List Effect) → (way left s a).0 ≡ xs → AreHeldUp (left_by_ask a answer xs u) before
     by [] none =
         let quiet : way left s a ≡ ([], s) = way_quiet s.waiters (plea_of left s a) (asked_claims a (asked_whats a.act) s.names) s none in
-        decided_up u left way_state before a answer judged_so sound fit runs (subst (λ (w : List Effect × CoreState). AreHeldUp u w.1) (sym quiet) all)
+        decided_up n u left way_state before a answer judged_so sound fit runs (subst (λ (w : List Effect × CoreState). AreHeldUp u w.1) (sym quiet) all)
     by (x ∷ xs) some =
-        both (may_free a.act answer) (decided_up (with_file a.file u) left way_state before a answer judged_so sound fit runs on_its_file)
+        both (may_free a.act answer) (decided_up n (with_file a.file u) left way_state before a answer judged_so sound fit runs on_its_file)
       where
         both : (b : Bool) → AreHeldUp (if b then with_file a.file (with_file a.file u) else with_file a.file u) before → AreHeldUp (with_file a.file u) before
         both true up = wider_up (with_file a.file (with_file a.file u)) (with_file a.file u) before (same_file a.file u) up
@@ -477,22 +518,22 @@ ask_up u left s t a answer told e good fit all =
 -- ---- who leaves
 
 pub cancel_up : (u : Unsettled) (s : CoreState) (id : ℕ) → AreHeldUp u s → AreHeldUp u (cancel s id).1
-unfolding cancel
-cancel_up u s id all = few_up u u s (cancel s id).1 (cancelled id s.waiters) refl (λ file n. (n, refl)) (cancelled_all (λ (w : Waiter). IsHeldUp u [] s w w.asked) id s.waiters (each_up u s [] s.waiters all))
+unfolding cancel AreHeldUp
+cancel_up u s id all = few_up u u s (cancel s id).1 (cancelled id s.waiters) refl (λ file n. (n, refl)) (λ calm. cancelled_all (λ (w : Waiter). IsHeldUp u [] s w w.asked) id s.waiters (each_up u s [] s.waiters (all calm)))
 
 pub renew_up : (u : Unsettled) (s : CoreState) (client : List ℕ) → AreHeldUp u s → AreHeldUp u (renew s client).1
-unfolding renew
+unfolding renew AreHeldUp
 renew_up u s client all = all
 
 pub give_back_up : (u : Unsettled) (s : CoreState) (claim : Claim) → AreHeldUp u s → AreHeldUp (with_file claim.file u) (give_back s claim).1
 unfolding give_back
 give_back_up u s claim all =
-    all_still_up u (with_file claim.file u) s (give_back s claim).1 refl (λ file n. let apart = both_apart claim.file file u n in (apart.0, there_removed file claim s.claims apart.1)) all
+    all_still_up u (with_file claim.file u) s (give_back s claim).1 refl refl (λ file n. let apart = both_apart claim.file file u n in (apart.0, there_removed file claim s.claims apart.1)) all
 
 pub weaken_up : (u : Unsettled) (s : CoreState) (share : Claim) (access deny : Rwd) → AreHeldUp u s → AreHeldUp (with_file share.file u) (weaken s share access deny).1
 unfolding weaken
 weaken_up u s share access deny all =
-    all_still_up u (with_file share.file u) s (weaken s share access deny).1 refl
+    all_still_up u (with_file share.file u) s (weaken s share access deny).1 refl refl
     (λ file n. let apart = both_apart share.file file u n in (apart.0, there_changed file share (Share access deny) s.claims apart.1)) all
 
 -- what is left of a cache stands on its file alone
@@ -503,14 +544,14 @@ there_rest file cache (Some kind) cs apart = there_changed file cache (Cache kin
 pub ack_up : (u : Unsettled) (s : CoreState) (cache : Claim) (to : Option CacheKind) → AreHeldUp u s → AreHeldUp (with_file cache.file u) (ack s cache to).1
 unfolding ack
 ack_up u s cache to all =
-    all_still_up u (with_file cache.file u) s (ack s cache to).1 refl (λ file n. let apart = both_apart cache.file file u n in (apart.0, there_rest file cache to s.claims apart.1)) all
+    all_still_up u (with_file cache.file u) s (ack s cache to).1 refl refl (λ file n. let apart = both_apart cache.file file u n in (apart.0, there_rest file cache to s.claims apart.1)) all
 
 pub begun_up : (u : Unsettled) (s : CoreState) → AreHeldUp u s → AreHeldUp u (step_begun s)
-unfolding step_begun
+unfolding step_begun AreHeldUp
 begun_up u s all = all
 
 pub drawn_up : (u : Unsettled) (s : CoreState) → AreHeldUp u s → AreHeldUp u (drawn s)
-unfolding drawn
+unfolding drawn AreHeldUp
 drawn_up u s all = all
 
 -- ---- a turn
@@ -523,15 +564,25 @@ none_among All file e = absurd (both_ways false refl e)
 
 held_one : (u : Unsettled) (earlier : List Waiter) (s : CoreState) (w : Waiter) (asked : List Claim) → IsPled asked → ((c : Claim) (cs : List Claim) → asked ≡ c ∷ cs → is_among u c.file ≡ false) → IsHeldUp u earlier s w asked → holds_up earlier s w asked ≡ true
 held_one u earlier s w [] none apart up = absurd none
-held_one u earlier s w (c ∷ cs) some apart up = up (apart c cs refl)
+held_one u earlier s w (c ∷ cs) some apart up = ap (λ (b : Bool). is_some s.grace || b) (up (apart c cs refl)) ∙ or_true (is_some s.grace) where
+  or_true : (b : Bool) → (b || true) ≡ true
+  or_true true = refl
+  or_true false = refl
 
 idle_all : (u : Unsettled) (s : CoreState) (earlier ws : List Waiter) → AllByRecursion (IsWaiter s.names s.counter) ws → is_none u ≡ true → AllBehind (λ before w. IsHeldUp u before s w w.asked) earlier ws → AllBehind (IsUp s) earlier ws
 idle_all u s earlier [] are e all = tt
 idle_all u s earlier (w ∷ ws) are e all =
     (held_one u earlier s w w.asked are.0.2 (λ c cs asked. none_among u c.file e) all.0, idle_all u s (earlier ++ w ∷ []) ws are.1 e all.1)
 
+-- while grace runs all wait for its end
+all_wait : (s : CoreState) (earlier ws : List Waiter) → is_some s.grace ≡ true → AllBehind (IsUp s) earlier ws
+all_wait s earlier [] runs = tt
+all_wait s earlier (w ∷ ws) runs = (ap (λ (b : Bool). b || of_first (λ c. is_held_up earlier s w c) w.asked) runs, all_wait s (earlier ++ w ∷ []) ws runs)
+
 idle_settled : (u : Unsettled) (s : CoreState) → IsGood s → is_none u ≡ true → AreHeldUp u s → IsSettled s
-idle_settled u s good e all = idle_all u s [] s.waiters good.waiters e all
+unfolding AreHeldUp
+idle_settled u s good e all =
+    elim (cases_Bool (is_some s.grace)) [ inl runs ↦ all_wait s [] s.waiters runs | inr calm ↦ idle_all u s [] s.waiters good.waiters e (all calm) ]
 
 settled_none : (n : ℕ) (left : Rooms) (s : CoreState) → IsSettled s → settle n left s ≡ None
 settled_none n left s is = (settle_rests n left s).1 ((settled_is n left s).1 is)
@@ -540,15 +591,16 @@ pub idle_none : (u : Unsettled) (left : Rooms) (s : CoreState) → IsGood s → 
 idle_none u left s good e all n = settled_none n left s (idle_settled u s good e all)
 
 -- once all are found held up no file is unsettled
-one_up : (earlier : List Waiter) (s : CoreState) (w : Waiter) (asked : List Claim) → holds_up earlier s w asked ≡ true → IsHeldUp (Files []) earlier s w asked
-one_up earlier s w [] up = tt
-one_up earlier s w (c ∷ cs) up = λ none. up
+one_up : (earlier : List Waiter) (s : CoreState) (w : Waiter) (asked : List Claim) → is_some s.grace ≡ false → holds_up earlier s w asked ≡ true → IsHeldUp (Files []) earlier s w asked
+one_up earlier s w [] calm up = tt
+one_up earlier s w (c ∷ cs) calm up = λ none. ap (λ (b : Bool). b || is_held_up earlier s w c) (sym calm) ∙ up
 
 settled_up : (s : CoreState) → IsSettled s → AreHeldUp (Files []) s
-settled_up s is = by [] s.waiters is where
-  by : (earlier ws : List Waiter) → AllBehind (IsUp s) earlier ws → AllBehind (λ before w. IsHeldUp (Files []) before s w w.asked) earlier ws
-  by earlier [] all = tt
-  by earlier (w ∷ ws) all = (one_up earlier s w w.asked all.0, by (earlier ++ w ∷ []) ws all.1)
+unfolding AreHeldUp
+settled_up s is = λ calm. by calm [] s.waiters is where
+  by : is_some s.grace ≡ false → (earlier ws : List Waiter) → AllBehind (IsUp s) earlier ws → AllBehind (λ before w. IsHeldUp (Files []) before s w w.asked) earlier ws
+  by calm earlier [] all = tt
+  by calm earlier (w ∷ ws) all = (one_up earlier s w w.asked calm all.0, by calm (earlier ++ w ∷ []) ws all.1)
 
 -- who has a turn waited on an unsettled file, and only what is held there changes
 on_unsettled : (u : Unsettled) (earlier : List Waiter) (s : CoreState) (w : Waiter) (asked : List Claim) (claim : Claim) (claims : List Claim) → asked ≡ claim ∷ claims → is_held_up earlier s w claim ≡ false → IsHeldUp u earlier s w asked → is_among u claim.file ≡ true
@@ -575,8 +627,9 @@ next_elsewhere earlier s w claim claims file asked apart =
           ap (λ (x : List Effect × CoreState). on_file file x.1.claims) e ∙ begun_elsewhere s c file (ap (λ (d : Claim). d.file == file) first ∙ apart)
     ]
 
-turn_up : (u : Unsettled) (left : Rooms) (s : CoreState) (effects : List Effect) (t : CoreState) → IsGood s → IsTurn left s effects t → AreHeldUp u s → AreHeldUp u t
-turn_up u left s effects t good turn all = by turn.served where
+turn_up : (u : Unsettled) (n : ℕ) (left : Rooms) (s : CoreState) (effects : List Effect) (t : CoreState) → IsGood s → IsTurn n left s effects t → AreHeldUp u s → AreHeldUp u t
+unfolding AreHeldUp
+turn_up u n left s effects t good turn all = by turn.served where
   w : Waiter
   w = turn.waiter
 
@@ -584,35 +637,35 @@ turn_up u left s effects t good turn all = by turn.served where
   way_state = (way_again turn.before s w).1
 
   parts : AreUp u s (turn.before ++ turn.behind) × IsHeldUp u [] s w w.asked
-  parts = others_in (λ v. IsHeldUp u [] s v v.asked) turn.before w turn.behind (subst (AreUp u s) turn.stood (each_up u s [] s.waiters all))
+  parts = others_in (λ v. IsHeldUp u [] s v v.asked) turn.before w turn.behind (subst (AreUp u s) turn.stood (each_up u s [] s.waiters (all (ap is_some turn.calm))))
 
   there : is_among u turn.claim.file ≡ true
   there = on_unsettled u [] s w w.asked turn.claim turn.claims turn.asked turn.free parts.1
 
   files : AllByRecursion (λ c. c.file ≡ turn.claim.file) w.asked
-  files = subst (λ (cs : List Claim). AllByRecursion (λ c. c.file ≡ turn.claim.file) cs) (sym turn.asked) (refl, (subst IsPled turn.asked (turn_is_known left s effects t good turn).1).1)
+  files = subst (λ (cs : List Claim). AllByRecursion (λ c. c.file ≡ turn.claim.file) cs) (sym turn.asked) (refl, (subst IsPled turn.asked (turn_is_known n left s effects t good turn).1).1)
 
   same : way_state.waiters ≡ s.waiters
   same = way_waiters turn.before (plea_again s w) w.asked s
 
-  by : IsServed left turn.before way_state w turn.claim turn.told t → AreHeldUp u t
+  by : IsServed n left turn.before way_state w turn.claim turn.told t → AreHeldUp u t
   by (TurnAnswered answer told is due new clear) =
-      let before : CoreState = record way_state { claims = held_once w.asked answer way_state.claims; waiters = cancelled w.id way_state.waiters } in
+      let before : CoreState = once_answered way_state w w.asked answer in
       let gone : before.waiters ≡ turn.before ++ turn.behind =
       ap (λ (ws : List Waiter). cancelled w.id ws) (same ∙ turn.stood)
       ∙ without turn.before w turn.behind (subst (λ (ws : List Waiter). Pairwise are_apart ws) turn.stood good.apart) in
-      subst (AreHeldUp u) (sym new)
+      subst (AreHeldUp u) (sym (new ∙ ap (wish_for w.wish answer) (told_state way_state w answer)))
       (for_up u w.wish answer before (λ d e. subst (λ (c : Claim). is_among u c.file ≡ true) (sym (is d e)) there)
       (few_up u u s before (turn.before ++ turn.behind) gone
       (λ file n.
       let apart = other_file u turn.claim.file file there n in
-      (n, once_there file turn.claim.file w.asked way_state.claims answer files apart ∙ next_elsewhere turn.before s w turn.claim turn.claims file turn.asked apart)) parts.0))
+      (n, once_there file turn.claim.file w.asked way_state.claims answer files apart ∙ next_elsewhere turn.before s w turn.claim turn.claims file turn.asked apart)) (λ calm. parts.0)))
   by (WaitsOn told up new) =
       subst (λ (x : CoreState). AreHeldUp u x) (sym new)
-      (all_still_up u u s way_state same (λ file n. (n, next_elsewhere turn.before s w turn.claim turn.claims file turn.asked (other_file u turn.claim.file file there n))) all)
+      (all_still_up u u s way_state same (ap is_some (way_keeps (λ x. x.grace) turn.before (plea_again s w) w.asked s (λ c. begun_grace c s))) (λ file n. (n, next_elsewhere turn.before s w turn.claim turn.claims file turn.asked (other_file u turn.claim.file file there n))) all)
 
-pub settle_up : (u : Unsettled) (left : Rooms) (s t : CoreState) (r : Option (List Effect)) → ((n : ℕ) → settle n left s ≡ option_map (λ effects. (effects, t)) r) → (r ≡ None → t ≡ s) → IsGood s → AreHeldUp u s → AreHeldUp (if is_some r then u else Files []) t
-settle_up u left s t None e same good all = subst (λ (x : CoreState). AreHeldUp (Files []) x) (sym (same refl)) (settled_up s (none_settled 0 left s (e 0)))
+pub settle_up : (u : Unsettled) (left : Rooms) (s t : CoreState) (r : Option (List Effect)) → ((n : ℕ) → MayBe n t → settle n left s ≡ option_map (λ effects. (effects, t)) r) → (r ≡ None → t ≡ s) → IsGood s → AreHeldUp u s → AreHeldUp (if is_some r then u else Files []) t
+settle_up u left s t None e same good all = subst (λ (x : CoreState). AreHeldUp (Files []) x) (sym (same refl)) (settled_up s (none_settled t.made left s (e t.made (may_be_made t))))
 settle_up u left s t (Some effects) e same good all =
-    let turn = subst (λ (o : Option (List Effect × CoreState)). IfSome o (λ x. IsTurn left s x.0 x.1)) (e 0) (turn_is 0 left s good) in
-    turn_up u left s effects t good turn all
+    let turn = subst (λ (o : Option (List Effect × CoreState)). IfSome o (λ x. IsTurn t.made left s x.0 x.1)) (e t.made (may_be_made t)) (turn_is t.made left s good) in
+    turn_up u t.made left s effects t good turn all

@@ -1,5 +1,6 @@
 -- Machines that keep nothing, or drop who waits, don't do what their deeds say.
 use Rattle.std.proofs.Common.{None, ◌≡◌, ℕ, ◌==◌, Bool, true, false, List, [], ◌∷◌, refl, sym, ap, ◌∙◌}
+use Rattle.xl_core.specs.Standings.{standing}
 use Rattle.std.specs.List.{AllByRecursion}
 use Rattle.std.proofs.lemmas.Bool.{and_right}
 use Rattle.xl_base.specs.Stable.{Stable}
@@ -21,7 +22,7 @@ use Rattle.xl_core.specs.Decide.{ask}
 use Rattle.xl_core.specs.Limits.{IsRoom}
 use Rattle.xl_core.specs.declared.ask.Effect.{Effect}
 use Rattle.xl_core.specs.Places.{Place, ByteOf, held_in, else_was, stands, IsChangedBy, all_entered_for, then_entered, broken_at, answered_at}
-use Rattle.xl_core.specs.Smallest.{all_room, smallest_lock}
+use Rattle.xl_core.specs.Smallest.{all_room, smallest_lock, unnamed}
 use Rattle.xl_core.specs.declared.ask.Act.TheVariants.{Test}
 use Rattle.xl_core.specs.declared.ask.Answer.{Answer}
 use Rattle.xl_core.specs.declared.ask.Answer.TheVariants as answers
@@ -39,27 +40,28 @@ no_limit (limit ∷ limits) each = λ n. rw (each.0, and_right (limit.0 == n) fa
 abbrev first_claim : Claim
 first_claim = asked_claim smallest_lock (Range (Bytes 0 0) true) []
 
-has_room : (stable : Stable) (clock : Moment) (times : Times) → IsRoom (limits_of_grant all_room (started stable clock times) smallest_lock first_claim)
+has_room : (epoch : ℕ) (clock : Moment) (times : Times) → IsRoom (limits_of_grant all_room (started (unnamed epoch) clock times) smallest_lock first_claim)
 unfolding granted_claims relocked_in unranged inserted relocked
-has_room stable clock times = no_limit (limits_of_grant all_room (started stable clock times) smallest_lock first_claim) (refl, (refl, (refl, (refl, (refl, tt)))))
+has_room epoch clock times = no_limit (limits_of_grant all_room (started (unnamed epoch) clock times) smallest_lock first_claim) (refl, (refl, (refl, (refl, (refl, (refl, tt))))))
 
-first_granted : (n : ℕ) (stable : Stable) (clock : Moment) (times : Times) → (ask n all_room (started stable clock times) smallest_lock).0 ≡ answers.Granted first_claim
-first_granted n stable clock times = ask_free n all_room (started stable clock times) smallest_lock (Range (Bytes 0 0) true) refl refl refl (has_room stable clock times)
+first_granted : (n : ℕ) (epoch : ℕ) (clock : Moment) (times : Times) → (ask n all_room (started (unnamed epoch) clock times) smallest_lock).0 ≡ answers.Granted first_claim
+unfolding standing
+first_granted n epoch clock times = ask_free n all_room (started (unnamed epoch) clock times) smallest_lock (Range (Bytes 0 0) true) refl refl (refl, refl) (has_room epoch clock times) refl
 
 abbrev first_place : Place
 first_place = ByteOf 1 (asker smallest_lock []) 0
 
-first_held : (n : ℕ) (stable : Stable) (clock : Moment) (times : Times) → stands n (started stable clock times) (Asks all_room smallest_lock ∷ []) first_place [] ≡ Range (Bytes 0 0) true ∷ []
-first_held n stable clock times =
-    let s = started stable clock times in
+first_held : (n : ℕ) (epoch : ℕ) (clock : Moment) (times : Times) → stands n (started (unnamed epoch) clock times) (Asks all_room smallest_lock ∷ []) first_place [] ≡ Range (Bytes 0 0) true ∷ []
+first_held n epoch clock times =
+    let s = started (unnamed epoch) clock times in
     ap (λ (w : List Effect × CoreState). else_was (then_entered (then_entered (broken_at s w.0 first_place) (answered_at w.1.claims smallest_lock.act (ask n all_room s smallest_lock).0 first_place)) None) [])
     (ask_way_free all_room s smallest_lock (Range (Bytes 0 0) true) refl refl)
     ∙ then_else (broken_at s [] first_place) (answered_at s.claims smallest_lock.act (ask n all_room s smallest_lock).0 first_place) []
-    ∙ ap (λ (answer : Answer). else_was (all_entered_for [] ((Bytes 0 0, true) ∷ []) answer first_place) []) (first_granted n stable clock times)
+    ∙ ap (λ (answer : Answer). else_was (all_entered_for [] ((Bytes 0 0, true) ∷ []) answer first_place) []) (first_granted n epoch clock times)
 
-pub nothing_kept : (n : ℕ) (stable : Stable) (clock : Moment) (times : Times) (t : CoreState) → t.claims ≡ [] → IsChangedBy n (started stable clock times) (Asks all_room smallest_lock ∷ []) t → ⊥
-nothing_kept n stable clock times t none changed =
-    let two : held_in [] first_place ≡ Range (Bytes 0 0) true ∷ [] = sym (ap (λ (cs : List Claim). held_in cs first_place) none) ∙ changed first_place ∙ first_held n stable clock times in
+pub nothing_kept : (n : ℕ) (epoch : ℕ) (clock : Moment) (times : Times) (t : CoreState) → t.claims ≡ [] → IsChangedBy n (started (unnamed epoch) clock times) (Asks all_room smallest_lock ∷ []) t → ⊥
+nothing_kept n epoch clock times t none changed =
+    let two : held_in [] first_place ≡ Range (Bytes 0 0) true ∷ [] = sym (ap (λ (cs : List Claim). held_in cs first_place) none) ∙ changed first_place ∙ first_held n epoch clock times in
     absurd cc
 
 -- ---- one that drops who waits

@@ -49,3 +49,14 @@ pub mod BreaksBegunLaws
 pub mod WishLaws
 pub mod NumberLaws
 pub mod AskWishLaws
+pub mod StandingLaws
+pub mod ReclaimLaws
+pub mod StoreLaws
+pub mod AsideLaws
+pub mod TickCode
+pub mod KnowingLaws
+pub mod PutOffLaws
+pub mod AskCode
+pub mod TurnCode
+pub mod TriedLaws
+pub mod ThinLaws

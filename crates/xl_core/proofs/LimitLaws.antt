@@ -54,30 +54,30 @@ found_once limits (Some m) (Some n) found least = let same : m ≡ n = omega (ar
 
 -- ---- the limits of a grant and of a wait
 
-grant_first : (left rows : Rooms) (held kept : ℕ) → IsFound (grant_limits left rows held kept) (first_passed (grant_limits left rows held kept))
-grant_first left rows held kept =
-    found_first (grant_limits left rows held kept)
-    ((omega arith, (omega arith, (omega arith, (omega arith, tt)))), ((omega arith, (omega arith, (omega arith, tt))), ((omega arith, (omega arith, tt)), ((omega arith, tt), (tt, tt)))))
+grant_first : (left rows : Rooms) (held bytes kept : ℕ) → IsFound (grant_limits left rows held bytes kept) (first_passed (grant_limits left rows held bytes kept))
+grant_first left rows held bytes kept =
+    found_first (grant_limits left rows held bytes kept)
+    ((omega arith, (omega arith, (omega arith, (omega arith, (omega arith, tt))))), ((omega arith, (omega arith, (omega arith, (omega arith, tt)))), ((omega arith, (omega arith, (omega arith, tt))), ((omega arith, (omega arith, tt)), ((omega arith, tt), (tt, tt))))))
 
 wait_first : (left rows : Rooms) (waiting kept : ℕ) → IsFound (wait_limits left rows waiting kept) (first_passed (wait_limits left rows waiting kept))
 wait_first left rows waiting kept = found_first (wait_limits left rows waiting kept) ((omega arith, (omega arith, tt)), ((omega arith, tt), (tt, tt)))
 
-pub grant_found : (left rows : Rooms) (held kept : ℕ) (o : Option ℕ) → first_passed (grant_limits left rows held kept) ≡ o → IsFound (grant_limits left rows held kept) o
-grant_found left rows held kept o e = subst (λ (p : Option ℕ). IsFound (grant_limits left rows held kept) p) e (grant_first left rows held kept)
+pub grant_found : (left rows : Rooms) (held bytes kept : ℕ) (o : Option ℕ) → first_passed (grant_limits left rows held bytes kept) ≡ o → IsFound (grant_limits left rows held bytes kept) o
+grant_found left rows held bytes kept o e = subst (λ (p : Option ℕ). IsFound (grant_limits left rows held bytes kept) p) e (grant_first left rows held bytes kept)
 
 pub wait_found : (left rows : Rooms) (waiting kept : ℕ) (o : Option ℕ) → first_passed (wait_limits left rows waiting kept) ≡ o → IsFound (wait_limits left rows waiting kept) o
 wait_found left rows waiting kept o e = subst (λ (p : Option ℕ). IsFound (wait_limits left rows waiting kept) p) e (wait_first left rows waiting kept)
 
-pub grant_least : (left rows : Rooms) (held kept : ℕ) (o : Option ℕ) → IsFound (grant_limits left rows held kept) o → first_passed (grant_limits left rows held kept) ≡ o
-grant_least left rows held kept o found = found_once (grant_limits left rows held kept) _ o (grant_first left rows held kept) found
+pub grant_least : (left rows : Rooms) (held bytes kept : ℕ) (o : Option ℕ) → IsFound (grant_limits left rows held bytes kept) o → first_passed (grant_limits left rows held bytes kept) ≡ o
+grant_least left rows held bytes kept o found = found_once (grant_limits left rows held bytes kept) _ o (grant_first left rows held bytes kept) found
 
 pub wait_least : (left rows : Rooms) (waiting kept : ℕ) (o : Option ℕ) → IsFound (wait_limits left rows waiting kept) o → first_passed (wait_limits left rows waiting kept) ≡ o
 wait_least left rows waiting kept o found = found_once (wait_limits left rows waiting kept) _ o (wait_first left rows waiting kept) found
 
 -- ---- where none is passed
 
-pub grant_room : (left rows : Rooms) (held kept : ℕ) → first_passed (grant_limits left rows held kept) ≡ None → (rows.hosts ≤ left.hosts) × (held ≤ most_claims) × (kept ≤ most_names)
-grant_room left rows held kept e = (grind (arith, nat_tests), grind (arith, nat_tests), grind (arith, nat_tests))
+pub grant_room : (left rows : Rooms) (held bytes kept : ℕ) → first_passed (grant_limits left rows held bytes kept) ≡ None → (rows.hosts ≤ left.hosts) × (held ≤ most_claims) × (kept ≤ most_names)
+grant_room left rows held bytes kept e = (grind (arith, nat_tests), grind (arith, nat_tests), grind (arith, nat_tests))
 
 pub wait_room : (left rows : Rooms) (waiting kept : ℕ) → first_passed (wait_limits left rows waiting kept) ≡ None → (rows.hosts ≤ left.hosts) × (waiting + 1 ≤ most_waiters) × (kept ≤ most_names)
 wait_room left rows waiting kept e = (grind (arith, nat_tests), grind (arith, nat_tests), grind (arith, nat_tests))

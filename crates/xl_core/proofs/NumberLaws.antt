@@ -1,5 +1,10 @@
 -- How far numbers may go: an ask adds a few, and nothing else adds any.
 use Rattle.std.proofs.Common.{◌≡◌, ℕ, zero, suc, ◌+◌, ◌≤◌, Bool, true, false, not, ◌&&◌, if◌then◌else◌, inl, inr, List, [], ◌∷◌, ◌++◌, length, Option, Some, None, is_some, IfSome, refl, sym, ap, subst, ◌∙◌, ◌⊎◌, arith}
+use Rattle.xl_core.proofs.StandingLaws.{stays_asks}
+use Rattle.xl_core.specs.declared.standings.Standing.TheVariants.{Timely, Reclaims, Early, Late, Unrecorded}
+use Rattle.xl_core.specs.declared.standings.Standing.TheVariants as standings
+use Rattle.xl_core.specs.declared.standings.Standing.{Standing}
+use Rattle.xl_core.specs.Standings.{recorded_as, is_smb, stands}
 use Rattle.std.specs.List.{AllByRecursion, cons_option, filter, filter_map}
 use Rattle.std.proofs.lemmas.Bool.{cases_Bool, both_ways, and_parts, and_right}
 use Rattle.std.proofs.lemmas.List.{length-append}
@@ -31,7 +36,7 @@ use Rattle.xl_core.specs.Askers.{asking_party, party_named, asked_whats, asked_c
 use Rattle.xl_core.specs.BreaksBegun.{with_break, once_begun, once_broken, is_recalled, recalls, breaks_begun}
 use Rattle.xl_core.specs.Blockers.{is_stopped}
 use Rattle.xl_core.specs.BreakAnswers.{may_be_left, with_rest, ack, due, client_of}
-use Rattle.xl_core.specs.Causes.{may_wait}
+use Rattle.xl_core.specs.Causes.{may_wait, IsWaiting}
 use Rattle.xl_core.specs.Decide.{Answered, plea_of, waiter_of, decided, way, before_wish, does_wish, wish_after, ask}
 use Rattle.xl_core.specs.Wishes.{wished_kind, wish_granted, wish_of, wish_for}
 use Rattle.xl_cache.specs.declared.wish.Wish.{Wish}
@@ -44,7 +49,10 @@ use Rattle.xl_table.specs.Leaving.{goes}
 use Rattle.xl_table.specs.declared.leaver.Leaver.TheVariants as leavers
 use Rattle.xl_core.specs.Settle.{plea_again, way_again, settle, waits_for, waits_as, cancel, give_back, weaken, end_party, close_open}
 use Rattle.xl_core.specs.State.{CoreState, drawn}
-use Rattle.xl_core.specs.Ticks.{advanced, renew, end_some, expire, lapsed_by, lapse, is_still_held, is_lease_over, lapse_all, expire_all, tick}
+use Rattle.xl_base.specs.Stable.{Stable}
+use Rattle.xl_core.specs.Stores.{store_failed, client_name, without_name}
+use Rattle.xl_core.specs.Ticks.{advanced, renew, end_some, unleased, expire, may_expire, try_expire, lapsed_by, try_lapsed_by, lapse, try_lapse, is_still_held, is_lease_over, lapse_all, expire_all, end_grace, tick}
+use Rattle.xl_core.proofs.AsideLaws.{with_aside, failed_aside, grace_aside, of_aside, of_end, of_expire}
 use Rattle.xl_core.specs.Ways.{made_way}
 use Rattle.xl_core.specs.declared.ask.Answer.{Answer}
 use Rattle.xl_core.specs.declared.ask.Answer.TheVariants as answers
@@ -216,7 +224,7 @@ decided_numbers n left s a good fit = omega (arith, others, same_left s.claims (
   by r (Stays answer refused e) = subst (λ (x : Answered). x.2.counter + length x.2.waiters ≤ s.counter + length s.waiters + 2) (sym e) (omega arith)
   by r (Tests c holds e) = subst (λ (x : Answered). x.2.counter + length x.2.waiters ≤ s.counter + length s.waiters + 2) (sym e) (omega arith)
   by r (Holds c claims is holds e) = subst (λ (x : Answered). x.2.counter + length x.2.waiters ≤ s.counter + length s.waiters + 2) (sym e) (omega arith)
-  by r (Waits c cs may blocked is holds e) = subst (λ (x : Answered). x.2.counter + length x.2.waiters ≤ s.counter + length s.waiters + 2) (sym e) (omega (arith, length-append s.waiters (waiter_of (s.counter + 1) a (asking_party a s.names) (c ∷ cs) ∷ [])))
+  by r (Waits c cs why is holds e) = subst (λ (x : Answered). x.2.counter + length x.2.waiters ≤ s.counter + length s.waiters + 2) (sym e) (omega (arith, length-append s.waiters (waiter_of (s.counter + 1) a (asking_party a s.names) (c ∷ cs) ∷ [])))
   by r (Frees c first last holds act file owner e) = subst (λ (x : Answered). x.2.counter + length x.2.waiters ≤ s.counter + length s.waiters + 2) (sym e) (omega arith)
   by r (Gives c d holds act file owner range e) = subst (λ (x : Answered). x.2.counter + length x.2.waiters ≤ s.counter + length s.waiters + 2) (sym e) (omega arith)
 
@@ -231,7 +239,7 @@ granted_decided n left s a d good fit at = omega (arith, others, same_left s.cla
   by r (Stays answer refused e) at = subst (λ (x : Answered). x.2.counter + length x.2.waiters ≤ s.counter + length s.waiters) (sym e) (omega arith)
   by r (Tests c holds e) at = subst (λ (x : Answered). x.2.counter + length x.2.waiters ≤ s.counter + length s.waiters) (sym e) (omega arith)
   by r (Holds c claims is holds e) at = subst (λ (x : Answered). x.2.counter + length x.2.waiters ≤ s.counter + length s.waiters) (sym e) (omega arith)
-  by r (Waits c cs may blocked is holds e) at = let two : answers.Queued (s.counter + 1) ≡ answers.Granted d = sym (ap (λ (x : Answered). x.0) e) ∙ at in absurd cc
+  by r (Waits c cs why is holds e) at = let two : answers.Queued (s.counter + 1) ≡ answers.Granted d = sym (ap (λ (x : Answered). x.0) e) ∙ at in absurd cc
   by r (Frees c first last holds act file owner e) at = subst (λ (x : Answered). x.2.counter + length x.2.waiters ≤ s.counter + length s.waiters) (sym e) (omega arith)
   by r (Gives c given holds act file owner range e) at = subst (λ (x : Answered). x.2.counter + length x.2.waiters ≤ s.counter + length s.waiters) (sym e) (omega arith)
 
@@ -239,20 +247,28 @@ granted_decided n left s a d good fit at = omega (arith, others, same_left s.cla
   others = by (decided n left s a) (decided_way n left s a good fit.party) at
 
 -- one who asks at once, and waits for nothing, draws none
-at_once_numbers : (n : ℕ) (left : Rooms) (s : CoreState) (a : Ask) → IsGood s → IsFit a → a.blocking ≡ false → a.awaits ≡ false → numbers_of (decided n left s a).2 ≤ numbers_of s
+at_once_numbers : (n : ℕ) (left : Rooms) (s : CoreState) (a : Ask) → IsGood s → IsFit a → a.blocking ≡ false → a.awaits ≡ false → is_smb a.party ≡ false → numbers_of (decided n left s a).2 ≤ numbers_of s
 unfolding held_with
-at_once_numbers n left s a good fit hurries stays = omega (arith, others, same_left s.claims (decided n left s a).2.claims (decided_caches n left s a good fit.party)) where
+at_once_numbers n left s a good fit hurries stays other = omega (arith, others, same_left s.claims (decided n left s a).2.claims (decided_caches n left s a good fit.party)) where
   no_wait : (c : Claim) → may_wait s.waiters s a c ≡ false
   no_wait c = by (is_stopped s.waiters s c) where
     by : (b : Bool) → (if b then a.blocking else a.awaits) ≡ false
     by true = hurries
     by false = stays
 
+  never : (c : Claim) (standing : Standing) → stands s a ≡ standing → IsWaiting standing s.waiters s a c → ⊥
+  never c Timely is why = both_ways (may_wait s.waiters s a c) (no_wait c) why.0
+  never c standings.Stays is why = both_ways (is_smb a.party) other (stays_asks s (recorded_as a.party) (is_smb a.party) a.reclaim is)
+  never c Reclaims is why = why
+  never c (Early until) is why = why
+  never c (Late clock) is why = why
+  never c Unrecorded is why = why
+
   by : (r : Answered) → AskWay s a r → r.2.counter + length r.2.waiters ≤ s.counter + length s.waiters
   by r (Stays answer refused e) = subst (λ (x : Answered). x.2.counter + length x.2.waiters ≤ s.counter + length s.waiters) (sym e) (omega arith)
   by r (Tests c holds e) = subst (λ (x : Answered). x.2.counter + length x.2.waiters ≤ s.counter + length s.waiters) (sym e) (omega arith)
   by r (Holds c claims is holds e) = subst (λ (x : Answered). x.2.counter + length x.2.waiters ≤ s.counter + length s.waiters) (sym e) (omega arith)
-  by r (Waits c cs may blocked is holds e) = absurd (both_ways (may_wait s.waiters s a c) (no_wait c) may)
+  by r (Waits c cs why is holds e) = absurd (never c (stands s a) refl why)
   by r (Frees c first last holds act file owner e) = subst (λ (x : Answered). x.2.counter + length x.2.waiters ≤ s.counter + length s.waiters) (sym e) (omega arith)
   by r (Gives c d holds act file owner range e) = subst (λ (x : Answered). x.2.counter + length x.2.waiters ≤ s.counter + length s.waiters) (sym e) (omega arith)
 
@@ -301,10 +317,10 @@ ask_numbers n left s a good fit = by (grants_or_not r.0) where
   by (inl does) = omega (arith, ask_way_numbers left s a good, granted_before n left s a does.0 good fit does.1, after_numbers a r.0 r.2)
   by (inr doesnt) = omega (arith, ask_way_numbers left s a good, before_numbers n left s a good fit, ap numbers_of (ungranted_after a r.0 r.2 doesnt))
 
-pub ask_numbers_at_once : (n : ℕ) (left : Rooms) (s : CoreState) (a : Ask) → IsGood s → IsFit a → a.blocking ≡ false → a.awaits ≡ false → numbers_of (ask n left s a).2 ≤ numbers_of s + 1
+pub ask_numbers_at_once : (n : ℕ) (left : Rooms) (s : CoreState) (a : Ask) → IsGood s → IsFit a → a.blocking ≡ false → a.awaits ≡ false → is_smb a.party ≡ false → numbers_of (ask n left s a).2 ≤ numbers_of s + 1
 unfolding ask before_wish
-ask_numbers_at_once n left s a good fit hurries stays =
-    omega (arith, ask_way_numbers left s a good, at_once_numbers n left (way left s a).1 a (asked_way_good left s a good) fit hurries stays, after_numbers a (before_wish n left s a).0 (before_wish n left s a).2)
+ask_numbers_at_once n left s a good fit hurries stays other =
+    omega (arith, ask_way_numbers left s a good, at_once_numbers n left (way left s a).1 a (asked_way_good left s a good) fit hurries stays other, after_numbers a (before_wish n left s a).0 (before_wish n left s a).2)
 
 -- ---- a turn
 
@@ -332,8 +348,8 @@ for_same_left (kind ∷ kinds) answer s c cs wished is = by (grants_or_not answe
       let other : is_recalled does.0.party ≡ false = ap (λ (x : Claim). is_recalled x.party) (is does.0 does.1) ∙ unrecalled c.party kind wished.0.0 wished.0.2 in
       ap (λ (x : Answer). delegations_left (wish_for (kind ∷ kinds) x s).claims) does.1 ∙ granted_same_left (wish_of (kind ∷ kinds) does.0) s other
 
-first_numbers : (left : Rooms) (s : CoreState) (turn : Turned) → IsGood s → IsFirst left s [] s.waiters turn → numbers_of turn.1 + length (who_left turn.0) ≤ numbers_of s
-first_numbers left s turn good first = by first.moved where
+first_numbers : (n : ℕ) (left : Rooms) (s : CoreState) (turn : Turned) → IsGood s → IsFirst n left s [] s.waiters turn → numbers_of turn.1 + length (who_left turn.0) ≤ numbers_of s
+first_numbers n left s turn good first = by first.moved where
   w : Waiter
   w = first.waiter
 
@@ -349,20 +365,20 @@ first_numbers left s turn good first = by first.moved where
   leave : (told : List Effect) → turn.0 ≡ (way_again first.before s w).0 ++ told → who_left turn.0 ≡ who_left told
   leave told e = ap who_left e ∙ told_both (way_again first.before s w).0 told ∙ ap (λ (ids : List ℕ). ids ++ who_left told) (way_leaves first.before (plea_again s w) w.asked s)
 
-  by : IsMoved left first.before s w first.claim first.claims turn → numbers_of turn.1 + length (who_left turn.0) ≤ numbers_of s
+  by : IsMoved n left first.before s w first.claim first.claims turn → numbers_of turn.1 + length (who_left turn.0) ≤ numbers_of s
   by (Answers answer told new due pass clear) =
       let u = once_answered t w (first.claim ∷ first.claims) answer in
       let caches : delegations_left u.claims ≡ delegations_left t.claims = same_left t.claims u.claims
       (once_cases (λ cs. caches_of cs ≡ caches_of t.claims) (first.claim ∷ first.claims) t.claims answer refl (all_granted_caches (first.claim ∷ first.claims) t.claims)) in
       let wished = for_same_left w.wish answer u first.claim first.claims (subst (λ (cs : List Claim). IsWished w.wish cs) first.asked first.is.3) (λ d e. (pass d e).0) in
-      let gone : turn.1.waiters ≡ first.before ++ first.behind = ap (λ (x : CoreState). x.waiters) (new ∙ wish_claims w.wish answer u) ∙ ap (λ (ws : List Waiter). cancelled w.id ws) waiters ∙ waiters_left left s turn first good in
+      let gone : turn.1.waiters ≡ first.before ++ first.behind = ap (λ (x : CoreState). x.waiters) (new ∙ wish_claims w.wish answer u) ∙ ap (λ (ws : List Waiter). cancelled w.id ws) waiters ∙ waiters_left n left s turn first good in
       let one : length t.waiters ≡ length (first.before ++ w ∷ first.behind) = ap (λ (ws : List Waiter). length ws) (waiters ∙ first.stood) in
       omega (arith, fell, caches, wished, ap (λ (x : CoreState). delegations_left x.claims) new, ap (λ (x : CoreState). x.counter) (new ∙ wish_claims w.wish answer u), ap (λ (ws : List Waiter). length ws) gone, one, length-append first.before first.behind, length-append first.before (w ∷ first.behind), ap (λ (ids : List ℕ). length ids) (leave (Served w.party w.id answer ∷ []) told))
   by (Rests e up) = omega (arith, fell, ap (λ (x : Turned). numbers_of x.1) e, ap (λ (x : Turned). length (who_left x.0)) e, ap (λ (ids : List ℕ). length ids) (way_leaves first.before (plea_again s w) w.asked s))
 
 -- who was served waits no more, so that a call may tell of it
 pub turn_numbers : (n : ℕ) (left : Rooms) (s : CoreState) → IsGood s → IfSome (settle n left s) (λ r. numbers_of r.1 + length (who_left r.0) ≤ numbers_of s)
-turn_numbers n left s good = each_turn n left s (λ r. numbers_of r.1 + length (who_left r.0) ≤ numbers_of s) good (λ turn first. first_numbers left s turn good first)
+turn_numbers n left s good = each_turn n left s (λ r. numbers_of r.1 + length (who_left r.0) ≤ numbers_of s) good (λ turn first. first_numbers n left s turn good first)
 
 -- ---- the other calls
 
@@ -434,8 +450,18 @@ some_numbers s None = omega arith
 some_numbers s (Some party) = end_party_numbers s party
 
 pub expire_numbers : (s : CoreState) (client : List ℕ) → numbers_of (expire s client).1 ≤ numbers_of s
-unfolding expire
-expire_numbers s client = omega (arith, some_numbers s (party_named s.names (NfsParty client)))
+expire_numbers s client = of_expire (λ (r : List Effect × CoreState). numbers_of r.1 ≤ numbers_of s) s client (λ x. omega (arith, some_numbers (with_aside x s) (party_named s.names (NfsParty client))))
+
+pub store_failed_numbers : (stable : Stable) (s : CoreState) → numbers_of (store_failed stable s) ≤ numbers_of s
+store_failed_numbers stable s = of_aside (λ t. numbers_of t ≤ numbers_of s) s (store_failed stable s) (failed_aside stable s) (λ x. omega arith)
+
+pub end_grace_numbers : (s : CoreState) → numbers_of (end_grace s) ≤ numbers_of s
+end_grace_numbers s = of_aside (λ t. numbers_of t ≤ numbers_of s) s (end_grace s) (grace_aside s) (λ x. omega arith)
+
+try_expire_numbers : (n : ℕ) (s : CoreState) (client : List ℕ) → numbers_of (try_expire n s client).1 ≤ numbers_of s
+unfolding try_expire
+try_expire_numbers n s client =
+    elim (cases_Bool (may_expire n s client)) [ inl may ↦ rw may (expire_numbers s client) | inr none ↦ rw none (store_failed_numbers (without_name (client_name client) s.stable) s) ]
 
 lapsed_by_numbers : (s : CoreState) (cache : Claim) (client : Option (List ℕ)) → numbers_of (lapsed_by s cache client).1 ≤ numbers_of s
 lapsed_by_numbers s cache None = omega (arith, count_removed may_be_recalled cache s.claims)
@@ -445,19 +471,29 @@ pub lapse_numbers : (s : CoreState) (cache : Claim) → numbers_of (lapse s cach
 unfolding lapse
 lapse_numbers s cache = lapsed_by_numbers s cache (client_of s.names cache.party)
 
-lapse_all_numbers : (s : CoreState) → numbers_of (lapse_all s).1 ≤ numbers_of s
-unfolding lapse_all
-lapse_all_numbers s = in_turn_keeps is_still_held lapse (λ t. numbers_of t ≤ numbers_of s) (λ t cache few. omega (arith, lapse_numbers t cache, few)) (due s) s (omega arith)
+try_lapsed_numbers : (n : ℕ) (s : CoreState) (cache : Claim) (client : Option (List ℕ)) → numbers_of (try_lapsed_by n s cache client).1 ≤ numbers_of s
+try_lapsed_numbers n s cache None = lapsed_by_numbers s cache None
+try_lapsed_numbers n s cache (Some client) = try_expire_numbers n s client
 
-expire_all_numbers : (s : CoreState) → numbers_of (expire_all s).1 ≤ numbers_of s
+try_lapse_numbers : (n : ℕ) (s : CoreState) (cache : Claim) → numbers_of (try_lapse n s cache).1 ≤ numbers_of s
+unfolding try_lapse
+try_lapse_numbers n s cache = try_lapsed_numbers n s cache (client_of s.names cache.party)
+
+lapse_all_numbers : (n : ℕ) (s : CoreState) → numbers_of (lapse_all n s).1 ≤ numbers_of s
+unfolding lapse_all
+lapse_all_numbers n s = in_turn_keeps is_still_held (try_lapse n) (λ t. numbers_of t ≤ numbers_of s) (λ t cache few. omega (arith, try_lapse_numbers n t cache, few)) (due s) s (omega arith)
+
+expire_all_numbers : (n : ℕ) (s : CoreState) → numbers_of (expire_all n s).1 ≤ numbers_of s
 unfolding expire_all
-expire_all_numbers s = in_turn_keeps is_lease_over expire (λ t. numbers_of t ≤ numbers_of s) (λ t client few. omega (arith, expire_numbers t client, few)) (ended s.clock s.leases) s (omega arith)
+expire_all_numbers n s = in_turn_keeps is_lease_over (try_expire n) (λ t. numbers_of t ≤ numbers_of s) (λ t client few. omega (arith, try_expire_numbers n t client, few)) (ended s.clock s.leases) s (omega arith)
 
 pub advanced_numbers : (s : CoreState) (now : Moment) → numbers_of (advanced s now) ≡ numbers_of s
 unfolding advanced
 advanced_numbers s now = refl
 
-pub tick_numbers : (s : CoreState) (now : Moment) → numbers_of (tick s now).1 ≤ numbers_of s
+pub tick_numbers : (n : ℕ) (s : CoreState) (now : Moment) → numbers_of (tick n s now).1 ≤ numbers_of s
 unfolding tick
-tick_numbers s now =
-    omega (arith, advanced_numbers s now, lapse_all_numbers (advanced s now), expire_all_numbers (lapse_all (advanced s now)).1)
+tick_numbers n s now =
+    let t = (lapse_all n (advanced s now)).1 in
+    let u = (expire_all n t).1 in
+    of_end n (λ v. numbers_of v ≤ numbers_of s) u (λ x. omega (arith, advanced_numbers s now, lapse_all_numbers n (advanced s now), expire_all_numbers n t))

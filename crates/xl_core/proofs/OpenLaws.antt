@@ -46,7 +46,7 @@ all_elements : (left : Rooms) (p : Plea) (names : List Name) (asked held : List 
     → elements_of file (open_of number) (all_granted asked held) ≡ elements_of file (open_of number) held ++ whats_of asked
 all_elements left p names [] held file number distinct good known pass mine = sym (append-nil (elements_of file (open_of number) held))
 all_elements left p names (c ∷ cs) held file number distinct good known pass mine =
-    all_elements left p names cs (granted_claims c held) file number distinct (granted_good names c held distinct good known.0 pass.0 (grant_room left p.rows _ p.kept pass.1).1) known.1 pass.2 mine.1
+    all_elements left p names cs (granted_claims c held) file number distinct (granted_good names c held distinct good known.0 pass.0 pass.1.1) known.1 pass.2 mine.1
     ∙ ap (λ (es : List What). es ++ whats_of cs) (elements_granted c held file number good.kept known.0.0.0 ∙ ap (λ (b : Bool). with_element b c.what (elements_of file (open_of number) held)) mine.0)
     ∙ append_assoc (elements_of file (open_of number) held) (c.what ∷ []) (whats_of cs)
 

@@ -20,6 +20,7 @@ use Rattle.xl_core.specs.Ways.{begins, begins_some, made_way}
 use Rattle.xl_core.specs.declared.ask.Effect.{Effect}
 use Rattle.xl_core.specs.declared.blockers.Passage.{Passage}
 use Rattle.xl_core.specs.declared.blockers.Passage.TheVariants.{Barred, Open}
+use Rattle.xl_core.specs.Standings.{is_timely}
 use Rattle.xl_core.specs.declared.judge.Plea.{Plea}
 use Rattle.xl_core.specs.declared.judge.Ruling.{Ruling}
 use Rattle.xl_core.proofs.BreaksInOrderLaws.{unplanned, planned_against, final_against}
@@ -108,11 +109,11 @@ quiet_so way s told e quiet = e ∙ (λ i. (sym quiet i, s))
 pub way_barred : (earlier : List Waiter) (p : Plea) (c d : Claim) (cs : List Claim) (s : CoreState) → Barred d ≡ passage_of [] s c → made_way earlier p (c ∷ cs) s ≡ ([], s)
 way_barred earlier p c d cs s e = way_stopped earlier p c cs s (bars earlier s c d (e ∙ sym (behind_all earlier s c)))
 
-begins_by : (earlier : List Waiter) (p : Plea) (c : Claim) (s : CoreState) (plan : BreakPlan) → Open plan ≡ passage_of [] s c → begins earlier p c s ≡ (not p.reclaim && not (p.awaits && (is_some p.crowded && is_some (recalled_by plan))))
+begins_by : (earlier : List Waiter) (p : Plea) (c : Claim) (s : CoreState) (plan : BreakPlan) → Open plan ≡ passage_of [] s c → begins earlier p c s ≡ (is_timely p.standing && not (p.awaits && (is_some p.crowded && is_some (recalled_by plan))))
 begins_by earlier p c s plan e =
     let is = opens earlier s c plan (e ∙ sym (behind_all earlier s c)) in
     let moves = blockers_none earlier s c is.0 in
-    rw moves (ap (λ (q : BreakPlan). not p.reclaim && not (p.awaits && (is_some p.crowded && is_some (recalled_by q)))) (sym is.1))
+    rw moves (ap (λ (q : BreakPlan). is_timely p.standing && not (p.awaits && (is_some p.crowded && is_some (recalled_by q)))) (sym is.1))
 
 pub way_begun : (earlier : List Waiter) (p : Plea) (c : Claim) (cs : List Claim) (s : CoreState) (plan : BreakPlan) → Open plan ≡ passage_of [] s c → begins_some p plan ≡ true → made_way earlier p (c ∷ cs) s ≡ breaks_begun c s
 unfolding made_way
@@ -128,7 +129,7 @@ unfolding made_way
 way_rests earlier p c cs s plan e none =
     elim (cases_Bool (is_some (first_broken plan.breaks))) [
       | inl some ↦
-          let rests : (not p.reclaim && not (p.awaits && (is_some p.crowded && is_some (recalled_by plan)))) ≡ false = rw some at none in
+          let rests : (is_timely p.standing && not (p.awaits && (is_some p.crowded && is_some (recalled_by plan)))) ≡ false = rw some at none in
           ap (λ (b : Bool). if b then breaks_begun c s else ([], s)) (begins_by earlier p c s plan e ∙ rests)
       | inr quiet ↦
           way_unbroken earlier p c cs s (unbroken s.claims c (ap (λ (q : BreakPlan). not (is_some (first_broken q.breaks))) (sym (opens [] s c plan e).1) ∙ ap not quiet))

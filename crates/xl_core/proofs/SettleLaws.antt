@@ -1,5 +1,8 @@
 -- A turn is the first waiter's that nothing held blocks, nobody else's, and comes while there is one. Who leaves.
 use Rattle.std.proofs.Common.{◌≡◌, ℕ, ◌+◌, Bool, true, false, not, cond, ◌==◌, inl, inr, List, [], ◌∷◌, ◌++◌, map, length, append-nil, Some, None, IfSome, refl, sym, ap, subst, ◌∙◌, ◌↔◌, ◌⊎◌, ◌≤◌, suc, arith, Option}
+use Rattle.xl_core.proofs.StandingLaws.{no_grace}
+use Rattle.xl_core.proofs.AsideLaws.{left_aside}
+use Rattle.xl_core.specs.Stores.{bytes_with}
 use Rattle.std.specs.List.{AllByRecursion, filter}
 use Rattle.std.proofs.lemmas.Bool.{cases_Bool, both_ways, eq-eqb, not-true, not_from_false}
 use Rattle.std.proofs.lemmas.List.{length-append}
@@ -20,9 +23,9 @@ use Rattle.xl_wait.specs.declared.waiter.Waiter.{Waiter}
 use Rattle.xl_core.specs.declared.ask.Effect.{Effect}
 use Rattle.xl_core.specs.State.{CoreState}
 use Rattle.xl_core.specs.BreaksBegun.{idle_caches, breaks_begun}
-use Rattle.xl_core.specs.Causes.{IsEachBehind, held_once, IsServed, Answered, WaitsOn, IsTurn}
+use Rattle.xl_core.specs.Causes.{IsEachBehind, held_once, IsServed, Answered, WaitsOn, IsTurn, name_waiting, once_told}
 use Rattle.xl_core.specs.Good.{are_apart, caches_of, caches_beside, caches_but, IsKnown, IsPled, IsGood, IsWaiter, is_held_up, IsUp, AllBehind, IsSettled}
-use Rattle.xl_core.specs.Judge.{Ruled, all_granted}
+use Rattle.xl_core.specs.Judge.{Ruled, all_granted, to_record}
 use Rattle.xl_table.specs.Leaving.{goes}
 use Rattle.xl_table.specs.declared.leaver.Leaver.{Leaver}
 use Rattle.xl_table.specs.declared.leaver.Leaver.TheVariants as leavers
@@ -36,7 +39,7 @@ use Rattle.xl_core.proofs.BreaksBegunLaws.{begun_spans, begun_shares}
 use Rattle.xl_core.specs.Wishes.{wish_for}
 use Rattle.xl_core.proofs.WishLaws.{wish_spans, wish_shares}
 use Rattle.xl_core.proofs.AskWishLaws.{wish_keeps, wish_claims, empty_wish, wish_for_idle, wish_beside_at}
-use Rattle.xl_core.proofs.GoodLaws.{once_answered, Turned, IsMoved, Answers, Rests, IsFirst, each_turn}
+use Rattle.xl_core.proofs.GoodLaws.{once_answered, Turned, IsMoved, Answers, Rests, IsFirst, each_turn, told_last}
 use Rattle.xl_core.proofs.WayLaws.{way_keeps, begun_names, begun_waiters, way_idle}
 use Rattle.xl_core.proofs.TurnLaws.{up_rests, rests_held, move_first}
 
@@ -98,12 +101,16 @@ once_cases P asked held (Full limit) same all = same
 once_cases P asked held NotHeld same all = same
 once_cases P asked held StoreFailed same all = same
 
-pub waiters_left : (left : Rooms) (s : CoreState) (turn : Turned) (first : IsFirst left s [] s.waiters turn) → IsGood s → cancelled first.waiter.id s.waiters ≡ first.before ++ first.behind
-waiters_left left s turn first good =
+-- the state once a waiter is answered so
+pub told_state : (t : CoreState) (w : Waiter) (answer : Answer) → once_told t w answer ≡ once_answered t w w.asked answer
+told_state t w answer = ap (λ (x : CoreState). record x { claims = held_once w.asked answer t.claims; waiters = cancelled w.id t.waiters }) (left_aside (to_record (name_waiting t w) w.asked) answer t)
+
+pub waiters_left : (n : ℕ) (left : Rooms) (s : CoreState) (turn : Turned) (first : IsFirst n left s [] s.waiters turn) → IsGood s → cancelled first.waiter.id s.waiters ≡ first.before ++ first.behind
+waiters_left n left s turn first good =
     ap (λ (ws : List Waiter). cancelled first.waiter.id ws) first.stood ∙ without first.before first.waiter first.behind (subst (λ (ws : List Waiter). Pairwise are_apart ws) first.stood good.apart)
 
-first_turn_is : (left : Rooms) (s : CoreState) (turn : Turned) → IsGood s → IsFirst left s [] s.waiters turn → IsTurn left s turn.0 turn.1
-first_turn_is left s turn good first = by first.moved where
+first_turn_is : (n : ℕ) (left : Rooms) (s : CoreState) (turn : Turned) → IsGood s → IsFirst n left s [] s.waiters turn → IsTurn n left s turn.0 turn.1
+first_turn_is n left s turn good first = by first.moved where
   w : Waiter
   w = first.waiter
 
@@ -117,11 +124,11 @@ first_turn_is left s turn good first = by first.moved where
   same : {A : Type 0} (f : CoreState → A) → ((c : Claim) → f (breaks_begun c s).1 ≡ f s) → f t ≡ f s
   same f keeps = way_keeps f first.before (plea_again s w) w.asked s keeps
 
-  turned_so : (told : List Effect) → turn.0 ≡ (way_again first.before s w).0 ++ told → IsServed left first.before t w first.claim told turn.1
+  turned_so : (told : List Effect) → turn.0 ≡ (way_again first.before s w).0 ++ told → IsServed n left first.before t w first.claim told turn.1
       → turn.1.names ≡ s.names
       → ((file : ℕ) (owner : Owner) → AllByRecursion (λ c. (file ≡ c.file) × (owner ≡ c.owner) × (is_share c.what ≡ false) → ⊥) w.asked → spans_of file owner turn.1.claims ≡ spans_of file owner t.claims)
       → ((file : ℕ) (owner : Owner) → AllByRecursion (λ c. (file ≡ c.file) × (owner ≡ c.owner) × (is_share c.what ≡ true) → ⊥) w.asked → shares_of file owner turn.1.claims ≡ shares_of file owner t.claims)
-      → caches_beside first.claim.file first.claim.party turn.1.claims ≡ caches_beside first.claim.file first.claim.party t.claims → (w.wish ≡ [] → caches_of turn.1.claims ≡ caches_of t.claims) → IsTurn left s turn.0 turn.1
+      → caches_beside first.claim.file first.claim.party turn.1.claims ≡ caches_beside first.claim.file first.claim.party t.claims → (w.wish ≡ [] → caches_of turn.1.claims ≡ caches_of t.claims) → IsTurn n left s turn.0 turn.1
   turned_so told effects served names spans shares caches unwished = record {
     before = first.before;
     waiter = w;
@@ -132,6 +139,7 @@ first_turn_is left s turn good first = by first.moved where
     stood = first.stood;
     blocked = first.blocked;
     asked = first.asked;
+    calm = no_grace s.grace first.calm;
     free = first.free;
     effects_are = effects;
     served = served;
@@ -142,16 +150,16 @@ first_turn_is left s turn good first = by first.moved where
     unwished = unwished;
   }
 
-  by : IsMoved left first.before s w first.claim first.claims turn → IsTurn left s turn.0 turn.1
+  by : IsMoved n left first.before s w first.claim first.claims turn → IsTurn n left s turn.0 turn.1
   by (Answers answer told new due pass clear) =
       let u = once_answered t w all answer in
       let once_caches : caches_of u.claims ≡ caches_of t.claims = once_cases (λ cs. caches_of cs ≡ caches_of t.claims) all t.claims answer refl (all_granted_caches all t.claims) in
       let same_asked : u ≡ once_answered t w w.asked answer = ap (λ (cs : List Claim). once_answered t w cs answer) (sym first.asked) in
-      let due_here : IsEachBehind first.before left w.rows (length t.names) first.claim w.asked t answer =
-      subst (λ (cs : List Claim). IsEachBehind first.before left w.rows (length t.names) first.claim cs t answer) (sym first.asked)
-      (subst (λ (names : List Name). IsEachBehind first.before left w.rows (length names) first.claim all t answer) (sym (same (λ x. x.names) (λ c. begun_names c s))) due) in
+      let due_here : IsEachBehind first.before left w.rows (bytes_with (name_waiting t w) t.stable) (length t.names) (told_last n t w w.asked first.claim) w.asked t answer =
+      subst (λ (cs : List Claim). IsEachBehind first.before left w.rows (bytes_with (name_waiting t w) t.stable) (length t.names) (told_last n t w cs first.claim) cs t answer) (sym first.asked)
+      (subst (λ (names : List Name). IsEachBehind first.before left w.rows (bytes_with (name_waiting t w) t.stable) (length names) (told_last n t w all first.claim) all t answer) (sym (same (λ x. x.names) (λ c. begun_names c s))) due) in
       turned_so (Served w.party w.id answer ∷ []) told
-      (Answered answer refl (λ d e. (pass d e).0) due_here (new ∙ ap (wish_for w.wish answer) same_asked) clear)
+      (Answered answer refl (λ d e. (pass d e).0) due_here (new ∙ ap (wish_for w.wish answer) (same_asked ∙ sym (told_state t w answer))) clear)
       (ap (λ (x : CoreState). x.names) new ∙ ap (λ (x : CoreState). x.names) (wish_claims w.wish answer u) ∙ same (λ x. x.names) (λ c. begun_names c s))
       (λ file owner apart.
       ap (λ (x : CoreState). spans_of file owner x.claims) (new ∙ ap (wish_for w.wish answer) same_asked)
@@ -171,12 +179,12 @@ first_turn_is left s turn good first = by first.moved where
       (λ file owner apart. ap (λ (x : Turned). shares_of file owner x.1.claims) e)
       (ap (λ (x : Turned). caches_beside first.claim.file first.claim.party x.1.claims) e) (λ none. ap (λ (x : Turned). caches_of x.1.claims) e)
 
-pub turn_is : (n : ℕ) (left : Rooms) (s : CoreState) → IsGood s → IfSome (settle n left s) (λ r. IsTurn left s r.0 r.1)
-turn_is n left s good = each_turn n left s (λ r. IsTurn left s r.0 r.1) good (λ turn first. first_turn_is left s turn good first)
+pub turn_is : (n : ℕ) (left : Rooms) (s : CoreState) → IsGood s → IfSome (settle n left s) (λ r. IsTurn n left s r.0 r.1)
+turn_is n left s good = each_turn n left s (λ r. IsTurn n left s r.0 r.1) good (λ turn first. first_turn_is n left s turn good first)
 
 -- who is served waited for claims that are known
-pub turn_is_known : (left : Rooms) (s : CoreState) (effects : List Effect) (t : CoreState) → IsGood s → (turn : IsTurn left s effects t) → AllByRecursion (IsKnown s.names) turn.waiter.asked × IsPled turn.waiter.asked
-turn_is_known left s effects t good turn =
+pub turn_is_known : (n : ℕ) (left : Rooms) (s : CoreState) (effects : List Effect) (t : CoreState) → IsGood s → (turn : IsTurn n left s effects t) → AllByRecursion (IsKnown s.names) turn.waiter.asked × IsPled turn.waiter.asked
+turn_is_known n left s effects t good turn =
     let is = all_in (IsWaiter s.names s.counter) turn.waiter s.waiters good.waiters (subst (λ (ws : List Waiter). IsIn turn.waiter ws) (sym turn.stood) (in_append_right turn.waiter turn.before (turn.waiter ∷ turn.behind) (inl refl))) in
     (is.1, is.2)
 
@@ -192,8 +200,8 @@ idle_by (c ∷ cs) =
 same_idle : (old new : List Claim) → caches_of new ≡ caches_of old → idle_caches new ≡ idle_caches old
 same_idle old new e = idle_by new ∙ ap (λ (cs : List Claim). length (filter (λ c. not (is_running c.what)) cs)) e ∙ sym (idle_by old)
 
-fewer_by : (left : Rooms) (s : CoreState) (turn : Turned) → IsGood s → IsFirst left s [] s.waiters turn → turns_left turn.1 + 1 ≤ turns_left s
-fewer_by left s turn good first = by first.moved where
+fewer_by : (n : ℕ) (left : Rooms) (s : CoreState) (turn : Turned) → IsGood s → IsFirst n left s [] s.waiters turn → turns_left turn.1 + 1 ≤ turns_left s
+fewer_by n left s turn good first = by first.moved where
   w : Waiter
   w = first.waiter
 
@@ -211,18 +219,18 @@ fewer_by left s turn good first = by first.moved where
   fell up (inl e) = absurd (both_ways (is_held_up first.before s w first.claim) first.free (subst (λ (x : Turned). is_held_up first.before x.1 w first.claim ≡ true) e up))
   fell up (inr fewer) = fewer
 
-  by : IsMoved left first.before s w first.claim first.claims turn → turns_left turn.1 + 1 ≤ turns_left s
+  by : IsMoved n left first.before s w first.claim first.claims turn → turns_left turn.1 + 1 ≤ turns_left s
   by (Answers answer told new due pass clear) =
       let u = once_answered t w (first.claim ∷ first.claims) answer in
       let idle : idle_caches u.claims ≡ idle_caches t.claims = same_idle t.claims u.claims
       (once_cases (λ cs. caches_of cs ≡ caches_of t.claims) (first.claim ∷ first.claims) t.claims answer refl (all_granted_caches (first.claim ∷ first.claims) t.claims)) in
-      let gone : turn.1.waiters ≡ first.before ++ first.behind = ap (λ (x : CoreState). x.waiters) (new ∙ wish_claims w.wish answer u) ∙ ap (λ (ws : List Waiter). cancelled w.id ws) waiters ∙ waiters_left left s turn first good in
+      let gone : turn.1.waiters ≡ first.before ++ first.behind = ap (λ (x : CoreState). x.waiters) (new ∙ wish_claims w.wish answer u) ∙ ap (λ (ws : List Waiter). cancelled w.id ws) waiters ∙ waiters_left n left s turn first good in
       omega (arith, idle, ap (λ (x : CoreState). idle_caches x.claims) new, wish_for_idle w.wish answer u, no_more (way_idle first.before (plea_again s w) w.asked s), ap (λ (ws : List Waiter). length ws) gone, ap (λ (ws : List Waiter). length ws) first.stood, length-append first.before first.behind, length-append first.before (w ∷ first.behind))
   by (Rests e up) =
       omega (arith, ap (λ (x : Turned). idle_caches x.1.claims) e, ap (λ (x : Turned). length x.1.waiters) e, ap (λ (ws : List Waiter). length ws) waiters, fell up (way_idle first.before (plea_again s w) w.asked s))
 
 pub turn_fewer : (n : ℕ) (left : Rooms) (s : CoreState) → IsGood s → IfSome (settle n left s) (λ r. turns_left r.1 + 1 ≤ turns_left s)
-turn_fewer n left s good = each_turn n left s (λ r. turns_left r.1 + 1 ≤ turns_left s) good (λ turn first. fewer_by left s turn good first)
+turn_fewer n left s good = each_turn n left s (λ r. turns_left r.1 + 1 ≤ turns_left s) good (λ turn first. fewer_by n left s turn good first)
 
 -- ---- a party's waiters leave
 

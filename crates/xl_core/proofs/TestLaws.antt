@@ -1,6 +1,10 @@
 -- A test foretells the lock.
 use Rattle.xl_cache.specs.BreakPlans.{is_covered, is_final}
-use Rattle.std.proofs.Common.{◌≡◌, ℕ, ◌<◌, ◌≤◌, Bool, true, false, not, ◌&&◌, ◌||◌, ◌==◌, eqb, List, [], ◌∷◌, length, Option, Some, None, inl, inr, refl, sym, ap, ◌∙◌, ◌↔◌, arith, slice_get}
+use Rattle.xl_core.proofs.StandingLaws.{enters_cases, reclaims_asks, timely, timely_calm}
+use Rattle.xl_core.specs.declared.standings.Standing.TheVariants.{Timely, Reclaims, Stays, Early, Late, Unrecorded}
+use Rattle.xl_core.specs.declared.standings.Standing.{Standing}
+use Rattle.xl_core.specs.Standings.{recorded_as, is_smb, standing, stands, stands_alone, enters}
+use Rattle.std.proofs.Common.{◌≡◌, ℕ, ◌<◌, ◌≤◌, Bool, true, false, not, ◌&&◌, ◌||◌, ◌==◌, eqb, List, [], ◌∷◌, length, Option, Some, None, inl, inr, refl, sym, ap, ◌∙◌, ◌↔◌, arith, slice_get, subst}
 use Rattle.std.specs.List.{list_any}
 use Rattle.std.proofs.lemmas.Bool.{both_ways, and_parts, and_right, ne_eqb, cases_lt, not-true}
 use Rattle.xl_base.specs.Lists.{IsIn}
@@ -30,7 +34,7 @@ use Rattle.xl_wait.specs.declared.waiter.Rooms.{Rooms}
 use Rattle.xl_core.specs.State.{CoreState}
 use Rattle.xl_core.specs.Askers.{asked_claim, asked_what, known_claim, known_owner, number_or, no_number, is_client, is_named, owner_in}
 use Rattle.xl_core.specs.Blockers.{test_blockers, is_stopped}
-use Rattle.xl_core.specs.Causes.{stands_against, IsSameAsker, IsConflict}
+use Rattle.xl_core.specs.Causes.{stands_against, IsSameAsker, IsConflict, IsAgainst}
 use Rattle.xl_core.specs.Decide.{decided}
 use Rattle.xl_core.specs.Good.{are_kept, IsHeldBy, IsHeld, IsGood}
 use Rattle.xl_core.specs.declared.ask.Act.TheVariants.{Ranges, Test}
@@ -114,10 +118,25 @@ range_stops ask d held range blocked = by d.what refl range where
   by (Share access deny) is r = absurd (both_ways false refl r)
   by (Cache kind running) is r = absurd (both_ways false refl r)
 
+-- one that is no reclaim meets a conflict where no grace runs, with the least of what blocks it for good
+against_timely : (s : CoreState) (a : Ask) (claim c : Claim) → a.reclaim ≡ false → IsAgainst (stands s a) s a claim c → (stands s a ≡ Timely) × IsAgainst Timely s a claim c
+against_timely s a claim c fresh due = by (stands s a) refl due where
+  by : (standing : Standing) → stands s a ≡ standing → IsAgainst standing s a claim c → (stands s a ≡ Timely) × IsAgainst Timely s a claim c
+  by Timely is due = (is, due)
+  by Reclaims is due = absurd (both_ways a.reclaim fresh (reclaims_asks s (recorded_as a.party) (is_smb a.party) a.reclaim is))
+  by Stays is due = absurd due
+  by (Early until) is due = absurd due
+  by (Late clock) is due = absurd due
+  by Unrecorded is due = absurd due
+
+-- where one of no reclaim goes on, so does another
+goes_too : (s : CoreState) (a b : Ask) (stays other : Bool) → b.reclaim ≡ false → standing s (recorded_as a.party) stays a.reclaim ≡ Timely → standing s (recorded_as b.party) other b.reclaim ≡ Timely
+goes_too s a b stays other fresh is = ap (standing s (recorded_as b.party) other) fresh ∙ timely s (recorded_as b.party) other (timely_calm s (recorded_as a.party) stays a.reclaim is)
+
 pub test_foretells : (n : ℕ) (left : Rooms) (s : CoreState) (test lock : Ask) (first last : ℕ) (exclusive : Bool) → IsGood s → is_client lock.owner lock.party ≡ true → is_named lock.owner ≡ true → IsSameAsker test lock
-    → test.act ≡ Test (Bytes first last) exclusive → lock.act ≡ Ranges ((Bytes first last, exclusive) ∷ []) → lock.blocking ≡ false
+    → test.act ≡ Test (Bytes first last) exclusive → lock.act ≡ Ranges ((Bytes first last, exclusive) ∷ []) → lock.blocking ≡ false → lock.reclaim ≡ false
     → IsConflict (decided n left s lock).0 ↔ IsConflict (decided n left s test).0
-test_foretells n left s test lock first last exclusive good client has same tests locks hurries = (back, forth) where
+test_foretells n left s test lock first last exclusive good client has same tests locks hurries fresh = (back, forth) where
   what : What
   what = Range (Bytes first last) exclusive
 
@@ -130,32 +149,40 @@ test_foretells n left s test lock first last exclusive good client has same test
   alike : (d : Claim) → IsIn d s.claims → is_cache d.what ≡ false → stands_against known d ≡ blocks asked d
   alike d h other = meets_both s test lock first last exclusive d good client has same h other
 
-  refused : lock.reclaim ≡ false → is_stopped s.waiters s asked ≡ true → IsConflict (decided n left s lock).0
-  refused fresh stops =
+  refused : stands s lock ≡ Timely → is_stopped s.waiters s asked ≡ true → IsConflict (decided n left s lock).0
+  refused timely stops =
       let found = stops_some s.waiters s asked stops in
       let held = blockers_some s.waiters s asked found.0 found.1 in
-      (found.0, (lock_due n left s lock what (Conflict found.0) (ap asked_what locks)).1 (fresh, hurries, found.1, held.0, held.1))
+      (found.0, (lock_due n left s lock what (Conflict found.0) (ap asked_what locks)).1 (subst (λ (st : Standing). IsAgainst st s lock asked found.0) (sym timely) (hurries, found.1, held.0, held.1)))
+
+  -- the test goes on where no grace runs
+  goes : enters (stands_alone s test) ≡ true → stands_alone s test ≡ Timely
+  goes e = elim (enters_cases (stands_alone s test) e) [
+    | inl timely ↦ timely
+    | inr back ↦ absurd (both_ways test.reclaim (same.reclaim ∙ fresh) (reclaims_asks s (recorded_as test.party) false test.reclaim back))
+  ]
 
   forth : IsConflict (decided n left s test).0 → IsConflict (decided n left s lock).0
   forth told =
       let due = (test_due n left s test (Bytes first last) exclusive (Conflict told.0) tests).0 told.1 in
       let range = (and_parts (is_range told.0.what) (blocks known told.0) due.3).0 in
-      refused (sym same.reclaim ∙ due.0) (one_passes (is_final asked s.claims) s.claims told.0 due.2 (range_stops asked told.0 s.claims range (sym (alike told.0 due.2 (range_no_cache told.0.what range)) ∙ due.3)))
+      refused (goes_too s test lock false (is_smb lock.party) fresh (goes due.0)) (one_passes (is_final asked s.claims) s.claims told.0 due.2 (range_stops asked told.0 s.claims range (sym (alike told.0 due.2 (range_no_cache told.0.what range)) ∙ due.3)))
 
-  denied : test.reclaim ≡ false → (c : Claim) → IsIn c s.claims → stands_against known c ≡ true → IsConflict (decided n left s test).0
-  denied fresh c there stands =
+  denied : stands_alone s test ≡ Timely → (c : Claim) → IsIn c s.claims → stands_against known c ≡ true → IsConflict (decided n left s test).0
+  denied timely c there against =
       elim (option_cases (least s.names (test_blockers s known))) [
-        | inl none ↦ absurd (both_ways (list_any (stands_against known) s.claims) (test_none s known none) (one_passes (stands_against known) s.claims c there stands))
+        | inl none ↦ absurd (both_ways (list_any (stands_against known) s.claims) (test_none s known none) (one_passes (stands_against known) s.claims c there against))
         | inr found ↦
             let held = test_some s known found.0 found.1 in
-            (found.0, (test_due n left s test (Bytes first last) exclusive (Conflict found.0) tests).1 (fresh, found.1, held.0, held.1))
+            (found.0, (test_due n left s test (Bytes first last) exclusive (Conflict found.0) tests).1 (ap enters timely, found.1, held.0, held.1))
       ]
 
   back : IsConflict (decided n left s lock).0 → IsConflict (decided n left s test).0
   back told =
-      let due = (lock_due n left s lock what (Conflict told.0) (ap asked_what locks)).0 told.1 in
-      let final = (final_in s.waiters s asked told.0 due.2).1 in
+      let why = against_timely s lock asked told.0 fresh ((lock_due n left s lock what (Conflict told.0) (ap asked_what locks)).0 told.1) in
+      let due = why.1 in
+      let final = (final_in s.waiters s asked told.0 due.1).1 in
       let hard = (and_parts (not (is_cache told.0.what)) (not (is_covered asked s.claims told.0)) (and_parts (blocks asked told.0) (not (is_cache told.0.what) && not (is_covered asked s.claims told.0)) final).1).0 in
-      denied (same.reclaim ∙ due.0) told.0 due.3 (alike told.0 due.3 (not-true (is_cache told.0.what) hard) ∙ due.4)
+      denied (goes_too s lock test (is_smb lock.party) false (same.reclaim ∙ fresh) why.0) told.0 due.2 (alike told.0 due.2 (not-true (is_cache told.0.what) hard) ∙ due.3)
 
 -- ---- what is granted leaves the record, the clock and the counter

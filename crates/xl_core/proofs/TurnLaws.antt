@@ -1,7 +1,9 @@
 -- Whose turn comes: the first waiter that isn't held up is found, and each other rests.
 use Rattle.std.proofs.Common.{◌≡◌, ℕ, Bool, true, false, not, ◌&&◌, if◌then◌else◌, List, [], ◌∷◌, ◌++◌, Option, Some, None, is_some, inl, inr, refl, sym, ap, subst, append-nil, ◌∙◌}
+use Rattle.xl_core.specs.declared.standings.Standing.TheVariants.{Timely, Stays}
+use Rattle.xl_core.specs.Standings.{standing_again, is_timely}
 use Rattle.std.specs.List.{AllByRecursion, slice_get}
-use Rattle.std.proofs.lemmas.Bool.{cases_Bool, both_ways, and_parts}
+use Rattle.std.proofs.lemmas.Bool.{cases_Bool, both_ways, and_parts, or_left, or_right, or_cases}
 use Rattle.xl_base.specs.Lists.{IsIn}
 use Rattle.xl_base.proofs.Members.{all_in}
 use Rattle.xl_matrix.specs.declared.claim.Claim.{Claim}
@@ -13,8 +15,8 @@ use Rattle.xl_core.specs.Blockers.{is_stopped, all_run}
 use Rattle.xl_core.specs.BreaksBegun.{breaks_begun}
 use Rattle.xl_core.specs.Ways.{made_way}
 use Rattle.xl_cache.specs.BreakPlans.{planned, recalled_by}
-use Rattle.xl_core.specs.Good.{IsKnown, IsPled, IsWaiter, IsGood, is_held_up, holds_up}
-use Rattle.xl_core.specs.Judge.{Ruled, stopped, kept_off, does_wait, judged}
+use Rattle.xl_core.specs.Good.{IsKnown, IsPled, IsWaiter, IsGood, is_held_up, holds_up, of_first}
+use Rattle.xl_core.specs.Judge.{Ruled, stopped, kept_off, does_wait, judged, graced}
 use Rattle.xl_core.specs.Settle.{plea_again, rests, turned, ruled_behind, way_again, again, turn_or, first_turn, called_of, first_called}
 use Rattle.xl_core.specs.declared.ask.Effect.{Effect}
 use Rattle.xl_core.specs.declared.judge.Plea.{Plea}
@@ -22,24 +24,37 @@ use Rattle.xl_core.specs.declared.judge.Ruling.{Ruling}
 use Rattle.xl_core.specs.declared.judge.Ruling.TheVariants.{Gets, Waits, Told}
 use Rattle.xl_core.specs.declared.settling.Called.{Called}
 use Rattle.xl_core.proofs.DecideLaws.{stops_some, none_blockers, moves_cache}
-use Rattle.xl_core.proofs.WayLaws.{unbroken, runs, way_unbroken, way_stopped, begun_quiet, way_quiet}
-use Rattle.xl_core.proofs.RowLaws.{IsRuled, first_waits, judged_ruled, judged_stopped, judged_kept_off}
+use Rattle.xl_core.proofs.WayLaws.{unbroken, runs, way_unbroken, way_stopped, begun_quiet, way_quiet, way_graced}
+use Rattle.xl_core.proofs.RowLaws.{IsRuled, first_waits, judged_ruled, judged_stopped, judged_kept_off, judged_graced}
 
 -- ---- it rests exactly where it is held up
 
-pub plea_is : (s : CoreState) (w : Waiter) → ((plea_again s w).blocking ≡ w.blocking) × ((plea_again s w).awaits ≡ true) × ((plea_again s w).reclaim ≡ false) × ((plea_again s w).crowded ≡ None)
+pub plea_is : (s : CoreState) (w : Waiter) → ((plea_again s w).blocking ≡ w.blocking) × ((plea_again s w).awaits ≡ true) × ((plea_again s w).standing ≡ standing_again s) × ((plea_again s w).crowded ≡ None)
 unfolding plea_again
 plea_is s w = (refl, refl, refl, refl)
+
+pub is_calm : (s : CoreState) (w : Waiter) → is_some s.grace ≡ false → (plea_again s w).standing ≡ Timely
+is_calm s w calm = (plea_is s w).2 ∙ ap (λ (b : Bool). if b then Stays else Timely) calm
+
+-- what it pleads for is ruled so on the state that the way left
+again_is : (n : ℕ) (left : Rooms) (s : CoreState) (earlier : List Waiter) (w : Waiter) (told : List Effect) (t : CoreState) → way_again earlier s w ≡ (told, t) → again n left s earlier w ≡ ruled_behind told (judged n earlier left (plea_again s w) w.asked t)
+again_is n left s earlier w told t e = ap (λ (way : List Effect × CoreState). ruled_behind way.0 (judged n earlier left (plea_again s w) w.asked way.1)) e
+
+-- while grace runs nobody has a turn
+pub graced_rests : (n : ℕ) (left : Rooms) (s : CoreState) (earlier : List Waiter) (w : Waiter) → is_some s.grace ≡ true → again n left s earlier w ≡ (Waits, [], s)
+unfolding plea_again
+graced_rests n left s earlier w runs =
+    again_is n left s earlier w [] s (way_graced earlier (plea_again s w) w.asked s (ap is_timely stays))
+    ∙ ap (ruled_behind []) (judged_graced n earlier left (plea_again s w) w.asked s Waits (ap (graced (plea_again s w)) stays))
+  where
+    stays : standing_again s ≡ Stays
+    stays = ap (λ (b : Bool). if b then Stays else Timely) runs
 
 stopped_waits : (p : Plea) (d : Claim) → p.blocking ≡ true → p.crowded ≡ None → stopped p d ≡ Waits
 stopped_waits p d waits room = rw (waits, room) refl
 
 kept_waits : (p : Plea) (d : Claim) → p.awaits ≡ true → p.crowded ≡ None → kept_off p d ≡ Waits
 kept_waits p d waits room = rw (waits, room) refl
-
--- what it pleads for is ruled so on the state that the way left
-again_is : (n : ℕ) (left : Rooms) (s : CoreState) (earlier : List Waiter) (w : Waiter) (told : List Effect) (t : CoreState) → way_again earlier s w ≡ (told, t) → again n left s earlier w ≡ ruled_behind told (judged n earlier left (plea_again s w) w.asked t)
-again_is n left s earlier w told t e = ap (λ (way : List Effect × CoreState). ruled_behind way.0 (judged n earlier left (plea_again s w) w.asked way.1)) e
 
 -- one that is held up begins nothing
 pub way_up : (earlier : List Waiter) (s : CoreState) (w : Waiter) (c : Claim) (cs : List Claim) → w.asked ≡ c ∷ cs → is_held_up earlier s w c ≡ true → way_again earlier s w ≡ ([], s)
@@ -52,8 +67,8 @@ way_up earlier s w c cs asked up = ap (λ (ds : List Claim). made_way earlier (p
   by false moves = way_unbroken earlier (plea_again s w) c cs s (unbroken s.claims c (run moves))
 
 -- one that waits for what is in the way of the first of its claims is ruled to wait
-pub waits_now : (n : ℕ) (left : Rooms) (s t : CoreState) (earlier : List Waiter) (w : Waiter) (c : Claim) (cs : List Claim) → does_wait earlier (plea_again s w) t c ≡ true → judged n earlier left (plea_again s w) (c ∷ cs) t ≡ (Waits, [], t)
-waits_now n left s t earlier w c cs waits = by (is_stopped earlier t c) refl where
+pub waits_now : (n : ℕ) (left : Rooms) (s t : CoreState) (earlier : List Waiter) (w : Waiter) (c : Claim) (cs : List Claim) → is_some s.grace ≡ false → does_wait earlier (plea_again s w) t c ≡ true → judged n earlier left (plea_again s w) (c ∷ cs) t ≡ (Waits, [], t)
+waits_now n left s t earlier w c cs calm waits = by (is_stopped earlier t c) refl where
   p : Plea
   p = plea_again s w
 
@@ -64,10 +79,10 @@ waits_now n left s t earlier w c cs waits = by (is_stopped earlier t c) refl whe
   by true stops =
       let found = stops_some earlier t c stops in
       let blocks : p.blocking ≡ true = sym (ap (λ (b : Bool). if b then p.blocking else p.awaits) stops) ∙ parts.1 in
-      judged_stopped n earlier left p c found.0 cs t (plea_is s w).2 found.1 ∙ (λ i. (stopped_waits p found.0 blocks (plea_is s w).3 i, [], t))
+      judged_stopped n earlier left p c found.0 cs t (is_calm s w calm) found.1 ∙ (λ i. (stopped_waits p found.0 blocks (plea_is s w).3 i, [], t))
   by false moves =
       let found = moves_cache earlier t c parts.0 moves in
-      judged_kept_off n earlier left p c found.0 cs t (plea_is s w).2 (none_blockers earlier t c moves) found.1 ∙ (λ i. (kept_waits p found.0 (plea_is s w).1 (plea_is s w).3 i, [], t))
+      judged_kept_off n earlier left p c found.0 cs t (is_calm s w calm) (none_blockers earlier t c moves) found.1 ∙ (λ i. (kept_waits p found.0 (plea_is s w).1 (plea_is s w).3 i, [], t))
 
 -- so does one that is held up
 pub up_waits : (earlier : List Waiter) (s t : CoreState) (w : Waiter) (c : Claim) → is_held_up earlier t w c ≡ true → does_wait earlier (plea_again s w) t c ≡ true
@@ -80,10 +95,12 @@ up_waits earlier s t w c up = by (is_blocked t.claims c) (is_stopped earlier t c
 
 -- the first of several claims is held up
 pub held_rests : (n : ℕ) (left : Rooms) (s : CoreState) (earlier : List Waiter) (w : Waiter) (c : Claim) (cs : List Claim) → w.asked ≡ c ∷ cs → is_held_up earlier s w c ≡ true → again n left s earlier w ≡ (Waits, [], s)
-held_rests n left s earlier w c cs asked up =
-    again_is n left s earlier w [] s (way_up earlier s w c cs asked up)
-    ∙ ap (λ (ds : List Claim). ruled_behind [] (judged n earlier left (plea_again s w) ds s)) asked
-    ∙ ap (ruled_behind []) (waits_now n left s s earlier w c cs (up_waits earlier s s w c up))
+held_rests n left s earlier w c cs asked up = elim (cases_Bool (is_some s.grace)) [ inl runs ↦ graced_rests n left s earlier w runs | inr calm ↦ rests_calm calm ] where
+  rests_calm : is_some s.grace ≡ false → again n left s earlier w ≡ (Waits, [], s)
+  rests_calm calm =
+      again_is n left s earlier w [] s (way_up earlier s w c cs asked up)
+      ∙ ap (λ (ds : List Claim). ruled_behind [] (judged n earlier left (plea_again s w) ds s)) asked
+      ∙ ap (ruled_behind []) (waits_now n left s s earlier w c cs calm (up_waits earlier s s w c up))
 
 rested : (ruling : Ruling) (told : List Effect) → rests ruling told ≡ true → (ruling ≡ Waits) × (told ≡ [])
 rested Waits [] e = (refl, refl)
@@ -91,39 +108,67 @@ rested Waits (x ∷ xs) e = absurd (both_ways false refl e)
 rested Gets told e = absurd (both_ways false refl e)
 rested (Told answer) told e = absurd (both_ways false refl e)
 
-waits_ruled : (earlier : List Waiter) (left : Rooms) (p : Plea) (asked : List Claim) (s : CoreState) (ruling : Ruling) (told : List Effect) (t : CoreState) → IsRuled earlier left p asked s ruling told t → ruling ≡ Waits → (told ≡ []) × (t ≡ s) × first_waits earlier p s asked
-waits_ruled earlier left p asked s ruling told t is e = let all = subst (λ (r : Ruling). IsRuled earlier left p asked s r told t) e is in (all.0, all.1, all.3)
+waits_ruled : (n : ℕ) (earlier : List Waiter) (left : Rooms) (p : Plea) (asked : List Claim) (s : CoreState) (ruling : Ruling) (told : List Effect) (t : CoreState) → p.standing ≡ Timely → IsRuled n earlier left p asked s ruling told t → ruling ≡ Waits → (told ≡ []) × (t ≡ s) × first_waits earlier p s asked
+waits_ruled n earlier left p asked s ruling told t timely is e =
+    let all = subst (λ (r : Ruling). IsRuled n earlier left p asked s r told t) e is in (
+      all.0,
+      all.1,
+      elim all.3 [
+        | inl stays ↦ let two : Stays ≡ Timely = sym stays ∙ timely in absurd cc
+        | inr waits ↦ waits.1
+      ],
+    )
 
 same_ruled : (r : Ruled) (s : CoreState) → r.0 ≡ Waits → r.1 ≡ [] → r.2 ≡ s → r ≡ (Waits, [], s)
 same_ruled r s e f g = λ i. (e i, f i, g i)
 
 -- where nothing is told besides no break began
-pub quiet_runs : (earlier : List Waiter) (s : CoreState) (w : Waiter) (c : Claim) (cs : List Claim) → made_way earlier (plea_again s w) (c ∷ cs) s ≡ ([], s) → is_stopped earlier s c ≡ false → all_run s.claims c ≡ true
+pub quiet_runs : (earlier : List Waiter) (s : CoreState) (w : Waiter) (c : Claim) (cs : List Claim) → is_some s.grace ≡ false → made_way earlier (plea_again s w) (c ∷ cs) s ≡ ([], s) → is_stopped earlier s c ≡ false → all_run s.claims c ≡ true
 unfolding plea_again made_way
-quiet_runs earlier s w c cs quiet moves = runs s.claims c (begun_quiet c s (sym (ap (λ (b : Bool). (if not b && not (true && (false && is_some (recalled_by (planned c s.claims)))) then breaks_begun c s else ([], s)).0) moves) ∙ ap (λ (way : List Effect × CoreState). way.0) quiet))
+quiet_runs earlier s w c cs calm quiet moves =
+    runs s.claims c
+    (begun_quiet c s (sym (ap (λ (b : Bool). (if b && not (true && (false && is_some (recalled_by (planned c s.claims)))) then breaks_begun c s else ([], s)).0) (does calm moves)) ∙ ap (λ (way : List Effect × CoreState). way.0) (regroup ∙ quiet)))
+  where
+    test : Bool
+    test = not (true && (false && is_some (recalled_by (planned c s.claims))))
 
-first_held : (earlier : List Waiter) (s : CoreState) (w : Waiter) (asked : List Claim) → made_way earlier (plea_again s w) asked s ≡ ([], s) → first_waits earlier (plea_again s w) s asked → holds_up earlier s w asked ≡ true
+    does : is_some s.grace ≡ false → is_stopped earlier s c ≡ false → (is_timely (standing_again s) && not (is_stopped earlier s c)) ≡ true
+    does calm moves = (λ i. is_timely (if calm i then Stays else Timely) && not (moves i))
+
+    -- the tests of the way, in other brackets
+    regroup : (if (is_timely (standing_again s) && not (is_stopped earlier s c)) && test then breaks_begun c s else ([], s)) ≡ (if is_timely (standing_again s) && (not (is_stopped earlier s c) && test) then breaks_begun c s else ([], s))
+    regroup = by (is_timely (standing_again s)) where
+      by : (b : Bool) → (if (b && not (is_stopped earlier s c)) && test then breaks_begun c s else ([], s)) ≡ (if b && (not (is_stopped earlier s c) && test) then breaks_begun c s else ([], s))
+      by true = refl
+      by false = refl
+
+first_held : (earlier : List Waiter) (s : CoreState) (w : Waiter) (asked : List Claim) → is_some s.grace ≡ false → made_way earlier (plea_again s w) asked s ≡ ([], s) → first_waits earlier (plea_again s w) s asked → holds_up earlier s w asked ≡ true
 unfolding plea_again
-first_held earlier s w [] quiet h = absurd h
-first_held earlier s w (c ∷ cs) quiet h = by (is_blocked s.claims c) (is_stopped earlier s c) w.blocking (all_run s.claims c) h (λ moves. quiet_runs earlier s w c cs quiet moves) where
-  by : (x y z r : Bool) → (x && (if y then z else true)) ≡ true → (y ≡ false → r ≡ true) → (x && (if y then z else r)) ≡ true
-  by true true z r e run = e
-  by true false z r e run = run refl
-  by false y z r e run = e
+first_held earlier s w [] calm quiet h = absurd h
+first_held earlier s w (c ∷ cs) calm quiet h =
+    or_right (is_some s.grace) (is_held_up earlier s w c) (by (is_blocked s.claims c) (is_stopped earlier s c) w.blocking (all_run s.claims c) h (λ moves. quiet_runs earlier s w c cs calm quiet moves))
+  where
+    by : (x y z r : Bool) → (x && (if y then z else true)) ≡ true → (y ≡ false → r ≡ true) → (x && (if y then z else r)) ≡ true
+    by true true z r e run = e
+    by true false z r e run = run refl
+    by false y z r e run = e
 
 -- who rests is held up, and then nothing changes
 pub rests_held : (n : ℕ) (left : Rooms) (s : CoreState) (earlier : List Waiter) (w : Waiter) → (let r = again n left s earlier w in rests r.0 r.1 ≡ true) → (again n left s earlier w ≡ (Waits, [], s)) × (holds_up earlier s w w.asked ≡ true)
-rests_held n left s earlier w e =
-    let way = way_again earlier s w in
-    let inner = judged n earlier left (plea_again s w) w.asked way.1 in
-    let at = rested inner.0 (way.0 ++ inner.1) e in
-    let none = both_empty way.0 inner.1 at.1 in
-    let quiet = way_quiet earlier (plea_again s w) w.asked s none.0 in
-    let r = judged n earlier left (plea_again s w) w.asked s in
-    let same : inner ≡ r = ap (λ (x : List Effect × CoreState). judged n earlier left (plea_again s w) w.asked x.1) quiet in
-    let waits : r.0 ≡ Waits = sym (ap (λ (x : Ruled). x.0) same) ∙ at.0 in
-    let why = waits_ruled earlier left (plea_again s w) w.asked s r.0 r.1 r.2 (judged_ruled n earlier left (plea_again s w) w.asked s) waits in
-    (again_is n left s earlier w [] s quiet ∙ ap (ruled_behind []) (same_ruled r s waits why.0 why.1), first_held earlier s w w.asked quiet why.2)
+rests_held n left s earlier w e = elim (cases_Bool (is_some s.grace)) [
+  | inl runs ↦ (graced_rests n left s earlier w runs, or_left (is_some s.grace) (of_first (λ c. is_held_up earlier s w c) w.asked) runs)
+  | inr calm ↦
+      let way = way_again earlier s w in
+      let inner = judged n earlier left (plea_again s w) w.asked way.1 in
+      let at = rested inner.0 (way.0 ++ inner.1) e in
+      let none = both_empty way.0 inner.1 at.1 in
+      let quiet = way_quiet earlier (plea_again s w) w.asked s none.0 in
+      let r = judged n earlier left (plea_again s w) w.asked s in
+      let same : inner ≡ r = ap (λ (x : List Effect × CoreState). judged n earlier left (plea_again s w) w.asked x.1) quiet in
+      let waits : r.0 ≡ Waits = sym (ap (λ (x : Ruled). x.0) same) ∙ at.0 in
+      let why = waits_ruled n earlier left (plea_again s w) w.asked s r.0 r.1 r.2 (is_calm s w calm) (judged_ruled n earlier left (plea_again s w) w.asked s) waits in
+      (again_is n left s earlier w [] s quiet ∙ ap (ruled_behind []) (same_ruled r s waits why.0 why.1), first_held earlier s w w.asked calm quiet why.2)
+]
   where
     both_empty : (xs ys : List Effect) → xs ++ ys ≡ [] → (xs ≡ []) × (ys ≡ [])
     both_empty [] ys e = (refl, e)
@@ -140,8 +185,8 @@ free_moves n left s earlier w free =
 
 -- one that is held up does
 pub up_rests : (n : ℕ) (left : Rooms) (s : CoreState) (earlier : List Waiter) (w : Waiter) → holds_up earlier s w w.asked ≡ true → again n left s earlier w ≡ (Waits, [], s)
-up_rests n left s earlier w up = by w.asked refl up where
-  by : (asked : List Claim) → w.asked ≡ asked → holds_up earlier s w asked ≡ true → again n left s earlier w ≡ (Waits, [], s)
+up_rests n left s earlier w up = elim (or_cases (is_some s.grace) (of_first (λ c. is_held_up earlier s w c) w.asked) up) [ inl runs ↦ graced_rests n left s earlier w runs | inr first ↦ by w.asked refl first ] where
+  by : (asked : List Claim) → w.asked ≡ asked → of_first (λ c. is_held_up earlier s w c) asked ≡ true → again n left s earlier w ≡ (Waits, [], s)
   by [] is e = absurd (both_ways false refl e)
   by (c ∷ cs) is e = held_rests n left s earlier w c cs is e
 
@@ -168,20 +213,20 @@ called_here s earlier w ws e = rw e refl
 -- its turn is the first
 pub turn_is_found : (left : Rooms) (s r t u : CoreState) (earlier ws : List Waiter) (called : Called) (begun : List Effect) (ruling : Ruling) (effects : List Effect) → first_called s earlier ws ≡ Some called
     → ((before : List Waiter) → made_way before called.plea called.asked s ≡ (begun, r))
-    → ((n : ℕ) (before : List Waiter) → judged n before left called.plea called.asked r ≡ (ruling, [], t)) → ((w : Waiter) → w.id ≡ called.id → w.party ≡ called.party → w.asked ≡ called.asked → w.wish ≡ called.wish → turned w ruling begun t ≡ (effects, u))
-    → (n : ℕ) → first_turn n left s earlier ws ≡ Some (effects, u)
-turn_is_found left s r t u earlier [] called begun ruling effects e way judges turns n = absurd cc
-turn_is_found left s r t u earlier (w ∷ ws) called begun ruling effects e way judges turns n =
+    → (n : ℕ) → ((before : List Waiter) → judged n before left called.plea called.asked r ≡ (ruling, [], t)) → ((w : Waiter) → w.id ≡ called.id → w.party ≡ called.party → w.asked ≡ called.asked → w.wish ≡ called.wish → turned w ruling begun t ≡ (effects, u))
+    → first_turn n left s earlier ws ≡ Some (effects, u)
+turn_is_found left s r t u earlier [] called begun ruling effects e way n judges turns = absurd cc
+turn_is_found left s r t u earlier (w ∷ ws) called begun ruling effects e way n judges turns =
     elim (cases_Bool (holds_up earlier s w w.asked)) [
       | inl up ↦
           rest_first n left s earlier w _ (up_rests n left s earlier w up)
-          ∙ turn_is_found left s r t u (earlier ++ w ∷ []) ws called begun ruling effects (sym (called_later s earlier w ws up) ∙ e) way judges turns n
+          ∙ turn_is_found left s r t u (earlier ++ w ∷ []) ws called begun ruling effects (sym (called_later s earlier w ws up) ∙ e) way n judges turns
       | inr free ↦
           let same : called_of s w ≡ called = same_called (called_of s w) called (sym (called_here s earlier w ws free) ∙ e) in
           let made : way_again earlier s w ≡ (begun, r) = ap (λ (x : Called). made_way earlier x.plea x.asked s) same ∙ way earlier in
           let ruled : again n left s earlier w ≡ (ruling, begun, t) =
           again_is n left s earlier w begun r made
-          ∙ ap (ruled_behind begun) (ap (λ (x : Called). judged n earlier left x.plea x.asked r) same ∙ judges n earlier)
+          ∙ ap (ruled_behind begun) (ap (λ (x : Called). judged n earlier left x.plea x.asked r) same ∙ judges earlier)
           ∙ (λ i. (ruling, append-nil begun i, t)) in
           move_first w (again n left s earlier w) _ (free_moves n left s earlier w free)
           ∙ ap (λ (x : Ruled). Some (turned w x.0 x.1 x.2)) ruled

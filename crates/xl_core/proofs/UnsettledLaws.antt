@@ -1,5 +1,5 @@
 -- The files that are noted as unsettled, and who is called by them.
-use Rattle.std.proofs.Common.{◌≡◌, ℕ, zero, suc, ◌+◌, ◌-◌, ◌<◌, Bool, true, false, not, ◌&&◌, ◌||◌, ◌==◌, nat_lt, inl, inr, List, [], ◌∷◌, ◌++◌, Option, Some, None, ◌⊎◌, slice_get, get_or, drop, length, IfSome, if◌then◌else◌, refl, sym, ap, subst, ◌∙◌, arith}
+use Rattle.std.proofs.Common.{◌≡◌, ℕ, zero, suc, ◌+◌, ◌-◌, ◌<◌, Bool, true, false, not, ◌&&◌, ◌||◌, ◌==◌, nat_lt, inl, inr, List, [], ◌∷◌, ◌++◌, Option, Some, None, ◌⊎◌, slice_get, get_or, drop, length, IfSome, is_some, if◌then◌else◌, refl, sym, ap, subst, ◌∙◌, arith}
 use Rattle.std.specs.List.{AllByRecursion, filter, list_any}
 use Rattle.std.proofs.lemmas.Bool.{cases_Bool, both_ways, or_parts, eqb-true, eq-eqb}
 use Rattle.std.proofs.lemmas.Bool.Decides.{nat_tests}
@@ -16,8 +16,9 @@ use Rattle.xl_table.specs.Leaving.{goes, IsNextLeft}
 use Rattle.xl_table.specs.declared.leaver.Leaver.{Leaver}
 use Rattle.xl_wait.specs.Waiting.{first_file, is_file, files_of, waits_on, places_from, places_on}
 use Rattle.xl_wait.specs.declared.waiter.Waiter.{Waiter}
-use Rattle.xl_core.specs.State.{CoreState}
-use Rattle.xl_core.specs.Good.{IsGood, IsWaiter, IsPled, is_held_up, holds_up}
+use Rattle.xl_core.specs.State.{CoreState, Aside}
+use Rattle.xl_core.proofs.AsideLaws.{with_aside}
+use Rattle.xl_core.specs.Good.{IsGood, IsWaiter, IsPled, is_held_up, of_first, holds_up}
 use Rattle.xl_core.specs.BreakAnswers.{ack}
 use Rattle.xl_core.specs.Ticks.{advanced, behind_told, in_turn}
 use Rattle.xl_core.specs.Settle.{called_of, first_called, waits_with, give_back, weaken, departed}
@@ -28,7 +29,7 @@ use Rattle.xl_core.specs.declared.ask.Effect.{Effect}
 use Rattle.xl_core.specs.declared.settling.Called.{Called}
 use Rattle.xl_core.specs.declared.unsettled.Unsettled.{Unsettled}
 use Rattle.xl_core.specs.declared.unsettled.Unsettled.TheVariants.{Files, All}
-use Rattle.xl_core.proofs.HeldUpLaws.{on_file, AreUp, each_up, up_each, held_up_still, give_back_up, weaken_up, ack_up}
+use Rattle.xl_core.proofs.HeldUpLaws.{on_file, AreUp, each_up, up_each, held_up_still, all_still_up, give_back_up, weaken_up, ack_up}
 
 -- ---- which files they are
 
@@ -100,7 +101,8 @@ narrowed u v file s ws notes all = all_from (λ (w : Waiter). IsHeldUp v [] s w 
         ]
 
 pub noted_up : (u v : Unsettled) (file : ℕ) (s : CoreState) → Notes u v file s.waiters → AreHeldUp (with_file file u) s → AreHeldUp v s
-noted_up u v file s notes all = up_each v s [] s.waiters (narrowed u v file s s.waiters notes (each_up (with_file file u) s [] s.waiters all))
+unfolding AreHeldUp
+noted_up u v file s notes all = λ calm. up_each v s [] s.waiters (narrowed u v file s s.waiters notes (each_up (with_file file u) s [] s.waiters (all calm)))
 
 pub asked_noted : (u v : Unsettled) (a : Ask) (answer : Answer) (told : List Effect) (t : CoreState) → AreHeldUp (left_by_ask a answer told u) t → (may_change a answer told ≡ true → Notes u v a.file t.waiters) → (may_change a answer told ≡ false → v ≡ u) → AreHeldUp v t
 asked_noted u v a answer told t all notes same =
@@ -129,8 +131,16 @@ removed_noted u v s claim held notes is all =
 
 -- the clock, and who has a lease, hold up nobody
 pub advanced_up : (u : Unsettled) (s : CoreState) (now : Moment) → AreHeldUp u s → AreHeldUp u (advanced s now)
-unfolding advanced
+unfolding advanced AreHeldUp
 advanced_up u s now all = all
+
+-- nor does anything but claims, waiters and grace
+pub kept_up : (u : Unsettled) (s t : CoreState) → t.claims ≡ s.claims → t.waiters ≡ s.waiters → t.grace ≡ s.grace → AreHeldUp u s → AreHeldUp u t
+kept_up u s t claims waiters grace all = all_still_up u u s t waiters (ap is_some grace) (λ file n. (n, ap (λ (cs : List Claim). on_file file cs) claims)) all
+
+-- nor the record and the stores of the step, as long as grace runs on
+pub aside_up : (u : Unsettled) (x : Aside) (s : CoreState) → is_some x.grace ≡ is_some s.grace → AreHeldUp u s → AreHeldUp u (with_aside x s)
+aside_up u x s runs all = all_still_up u u s (with_aside x s) refl runs (λ file n. (n, refl)) all
 
 -- ---- who leaves
 
@@ -209,10 +219,11 @@ kept_there file keep (c ∷ cs) stay =
     ]
 
 pub left_up : (u v : Unsettled) (s : CoreState) (leaver : Leaver) → NotesLeft u v leaver s.claims s.waiters → AreHeldUp u s → AreHeldUp v (departed s leaver).1
-left_up u v s leaver notes all =
+unfolding AreHeldUp
+left_up u v s leaver notes all = λ calm.
     up_each v after [] after.waiters
     (all_from (λ (w : Waiter). IsHeldUp v [] after w w.asked) after.waiters
-    (λ w there. let stood = (in_filter_from (λ (x : Waiter). not (waits_with leaver x)) w s.waiters there).0 in one w w.asked refl stood (all_in (λ (x : Waiter). IsHeldUp u [] s x x.asked) w s.waiters (each_up u s [] s.waiters all) stood)))
+    (λ w there. let stood = (in_filter_from (λ (x : Waiter). not (waits_with leaver x)) w s.waiters there).0 in one w w.asked refl stood (all_in (λ (x : Waiter). IsHeldUp u [] s x x.asked) w s.waiters (each_up u s [] s.waiters (all calm)) stood)))
   where
     after : CoreState
     after = (departed s leaver).1
@@ -291,23 +302,27 @@ free_one s file w pled up free = by w.asked pled up free where
   by (c ∷ cs) some up free =
       elim (cases_Bool (c.file == file)) [
         | inl on ↦ on
-        | inr off ↦ absurd (both_ways (is_held_up [] s w c) free (up (alone (c.file == file) off)))
+        | inr off ↦ absurd (both_ways (is_held_up [] s w c) (or_parts (is_some s.grace) (is_held_up [] s w c) free).1 (up (alone (c.file == file) off)))
       ]
 
-called_from : (s : CoreState) (file n : ℕ) (earlier ws : List Waiter) → IsTail s n ws → AllByRecursion (IsWaiter s.names s.counter) ws → AreUp (Files (file ∷ [])) s ws → called_at s (free_from s file n ws) ≡ first_called s earlier ws
+calm_if_free : (s : CoreState) (w : Waiter) → holds_up [] s w w.asked ≡ false → is_some s.grace ≡ false
+calm_if_free s w free = (or_parts (is_some s.grace) (of_first (λ c. is_held_up [] s w c) w.asked) free).0
+
+called_from : (s : CoreState) (file n : ℕ) (earlier ws : List Waiter) → IsTail s n ws → AllByRecursion (IsWaiter s.names s.counter) ws → (is_some s.grace ≡ false → AreUp (Files (file ∷ [])) s ws) → called_at s (free_from s file n ws) ≡ first_called s earlier ws
 called_from s file n earlier [] tail are all = refl
 called_from s file n earlier (w ∷ ws) tail are all =
     elim (cases_Bool (holds_up [] s w w.asked)) [
       | inl up ↦ elim (cases_Bool (is_file file (first_file w.asked))) [
-        | inl on ↦ rw (on, up) (called_from s file (n + 1) (earlier ++ w ∷ []) ws (tail_rest s n w ws tail) are.1 all.1)
-        | inr off ↦ rw (off, up) (called_from s file (n + 1) (earlier ++ w ∷ []) ws (tail_rest s n w ws tail) are.1 all.1)
+        | inl on ↦ rw (on, up) (called_from s file (n + 1) (earlier ++ w ∷ []) ws (tail_rest s n w ws tail) are.1 (λ calm. (all calm).1))
+        | inr off ↦ rw (off, up) (called_from s file (n + 1) (earlier ++ w ∷ []) ws (tail_rest s n w ws tail) are.1 (λ calm. (all calm).1))
       ]
-      | inr free ↦ rw (free_one s file w are.0.2 all.0 free, free, tail_first s n w ws tail) refl
+      | inr free ↦ rw (free_one s file w are.0.2 (all (calm_if_free s w free)).0 free, free, tail_first s n w ws tail) refl
     ]
 
 pub called_on : (s : CoreState) (file : ℕ) (place : Option ℕ) (called : Option Called) → IsGood s → AreHeldUp (Files (file ∷ [])) s → place ≡ first_free s (places_on file (files_of s.waiters)) → called ≡ called_at s place → called ≡ first_called s [] s.waiters
+unfolding AreHeldUp
 called_on s file place called good all at is =
-    is ∙ ap (λ (p : Option ℕ). called_at s p) (at ∙ free_on s file 0 s.waiters all_stand) ∙ called_from s file 0 [] s.waiters all_stand good.waiters (each_up (Files (file ∷ [])) s [] s.waiters all)
+    is ∙ ap (λ (p : Option ℕ). called_at s p) (at ∙ free_on s file 0 s.waiters all_stand) ∙ called_from s file 0 [] s.waiters all_stand good.waiters (λ calm. each_up (Files (file ∷ [])) s [] s.waiters (all calm))
   where
     all_stand : IsTail s 0 s.waiters
     all_stand i = let at : 0 + i ≡ i = omega arith in ap (λ (k : ℕ). slice_get s.waiters k) at

@@ -1,5 +1,12 @@
 -- What an ask is answered and leaves: that of the judgement at the state that its way left.
-use Rattle.std.proofs.Common.{◌≡◌, ℕ, ◌+◌, ◌≤◌, Bool, true, false, ◌&&◌, if◌then◌else◌, inl, inr, List, [], ◌∷◌, ◌++◌, Some, None, refl, sym, ap, subst, ◌∙◌, ◌↔◌, arith}
+use Rattle.std.proofs.Common.{◌≡◌, ℕ, ◌+◌, ◌≤◌, Bool, true, false, ◌&&◌, if◌then◌else◌, inl, inr, List, [], ◌∷◌, ◌++◌, Some, None, refl, sym, ap, subst, ◌∙◌, ◌↔◌, arith, Option}
+use Rattle.xl_core.specs.declared.standings.Standing.{Standing}
+use Rattle.xl_grace.specs.Grace.{reclaimed}
+use Rattle.xl_base.specs.declared.stable.Recorded.{Recorded}
+use Rattle.xl_base.specs.Stable.{Stable}
+use Rattle.xl_base.specs.RecordFile.{with_name}
+use Rattle.xl_core.specs.Stores.{may_record, recorded, unstored, stored, store_failed}
+use Rattle.xl_core.specs.Standings.{recorded_as, standing, stands, stands_alone, refusal, enters}
 use Rattle.std.proofs.lemmas.Bool.{cases_Bool, both_ways, and_right}
 use Rattle.std.specs.List.{filter, slice_get}
 use Rattle.xl_base.specs.Lists.{IsIn}
@@ -20,15 +27,15 @@ use Rattle.xl_table.specs.Least.{least}
 use Rattle.xl_table.specs.Relock.{shares_of, old_shares, is_share_of, with_share, united_by, unites}
 use Rattle.xl_wait.specs.declared.waiter.Rooms.{Rooms}
 use Rattle.xl_wait.specs.declared.waiter.Waiter.{Waiter}
-use Rattle.xl_core.specs.State.{CoreState}
+use Rattle.xl_core.specs.State.{CoreState, aside_of}
 use Rattle.xl_core.specs.Askers.{alone, asker, asking_party, asked_whats, asked_what, asked_claim, asked_claims, known_claim, is_client, is_named}
 use Rattle.xl_core.specs.BreaksBegun.{with_break, once_broken, breaks_begun}
 use Rattle.xl_core.specs.Frames.{calls_in, drawn_by}
 use Rattle.xl_core.specs.Leases.{moment_after}
 use Rattle.xl_cache.specs.BreakPlans.{is_running}
 use Rattle.xl_core.specs.Blockers.{is_stopped, all_run, test_blockers}
-use Rattle.xl_core.specs.Causes.{IsWishDue, IsSameAsker, IsConflict, IsClaimDue, IsTestDue, IsUnlockDue, IsOwn, limits_of_grant}
-use Rattle.xl_core.specs.Decide.{Answered, test_answered, tested, plea_of, waiter_of, decided, way, before_wish, does_wish, wish_after, with_wish, ask}
+use Rattle.xl_core.specs.Causes.{IsWishDue, IsSameAsker, IsConflict, IsClaimDue, IsTestDue, IsUnlockDue, IsOwn, limits_of_grant, IsFree, wanted, asks_claims, name_asked, noted_by}
+use Rattle.xl_core.specs.Decide.{Answered, test_answered, tested, plea_of, waiter_of, decided, way, before_wish, does_wish, wish_after, with_wish, ask, tested_by}
 use Rattle.xl_core.specs.Wishes.{wish_granted, wish_of, wish_for}
 use Rattle.xl_core.proofs.AskWishLaws.{ungranted_wish, after_keeps, after_claims, ungranted_after, empty_after, wish_beside_at}
 use Rattle.xl_core.proofs.WishLaws.{wish_spans, wish_shares}
@@ -59,6 +66,53 @@ ask_way_names left s a = way_names s.waiters (plea_of left s a) (asked_claims a 
 pub ask_way_waiters : (left : Rooms) (s : CoreState) (a : Ask) → (way left s a).1.waiters ≡ s.waiters
 ask_way_waiters left s a = way_waiters s.waiters (plea_of left s a) (asked_claims a (asked_whats a.act) s.names) s
 
+-- and so how it stands to grace
+begun_stands : (c : Claim) (s : CoreState) (a : Ask) → stands (breaks_begun c s).1 a ≡ stands s a
+unfolding breaks_begun standing
+begun_stands c s a = refl
+
+pub ask_way_stands : (left : Rooms) (s : CoreState) (a : Ask) → stands (way left s a).1 a ≡ stands s a
+ask_way_stands left s a = ask_way_keeps (λ t. stands t a) left s a (λ c. begun_stands c s a)
+
+begun_noted : (c : Claim) (s : CoreState) (a : Ask) (answer : Answer) → aside_of (noted_by (breaks_begun c s).1 a answer) ≡ aside_of (noted_by s a answer)
+unfolding breaks_begun stored store_failed
+begun_noted c s a (answers.Granted d) = by (name_asked s a) (asks_claims a.act) a.reclaim where
+  t : CoreState
+  t = (breaks_begun c s).1
+
+  back : Bool → CoreState → CoreState
+  back b u = if b then record u { grace = reclaimed (recorded_as a.party) u.grace } else u
+
+  by : (name : Option Recorded) (asks reclaims : Bool) → aside_of (if asks then back reclaims (recorded name t) else recorded name t) ≡ aside_of (if asks then back reclaims (recorded name s) else recorded name s)
+  by None true true = refl
+  by None true false = refl
+  by None false reclaims = refl
+  by (Some name) true true = refl
+  by (Some name) true false = refl
+  by (Some name) false reclaims = refl
+begun_noted c s a answers.StoreFailed = by (name_asked s a) where
+  t : CoreState
+  t = (breaks_begun c s).1
+
+  failed : (stable : Stable) (b : Bool) → s.failed ≡ b → aside_of (store_failed stable t) ≡ aside_of (store_failed stable s)
+  failed stable true e = rw e refl
+  failed stable false e = rw e refl
+
+  by : (name : Option Recorded) → aside_of (unstored name t) ≡ aside_of (unstored name s)
+  by None = refl
+  by (Some name) = failed (with_name name s.stable) s.failed refl
+begun_noted c s a (answers.Conflict d) = refl
+begun_noted c s a (answers.Queued number) = refl
+begun_noted c s a (answers.Recall d) = refl
+begun_noted c s a (answers.Grace until) = refl
+begun_noted c s a (answers.NoGrace clock) = refl
+begun_noted c s a answers.NotRecorded = refl
+begun_noted c s a (answers.Full limit) = refl
+begun_noted c s a answers.NotHeld = refl
+
+pub ask_way_noted : (left : Rooms) (s : CoreState) (a : Ask) (answer : Answer) → aside_of (noted_by (way left s a).1 a answer) ≡ aside_of (noted_by s a answer)
+ask_way_noted left s a answer = ask_way_keeps (λ t. aside_of (noted_by t a answer)) left s a (λ c. begun_noted c s a answer)
+
 -- what is asked for one thing is a list of one
 one_asked : (a : Ask) (what : What) (names : List Name) (whats : List What) → alone whats ≡ Some what → asked_claims a whats names ≡ asked_claim a what names ∷ []
 one_asked a what names [] e = absurd cc
@@ -78,10 +132,10 @@ ask_way_none left s a none = ap (λ (ws : List What). made_way s.waiters (plea_o
 
 -- ---- why it is answered so
 
-pub ask_due : (n : ℕ) (left : Rooms) (s : CoreState) (a : Ask) (what : What) (answer : Answer) → asked_what a.act ≡ Some what → ((ask n left s a).0 ≡ answer) ↔ IsClaimDue left (way left s a).1 a (asked_claim a what s.names) answer
+pub ask_due : (n : ℕ) (left : Rooms) (s : CoreState) (a : Ask) (what : What) (answer : Answer) → asked_what a.act ≡ Some what → ((ask n left s a).0 ≡ answer) ↔ IsClaimDue n left (way left s a).1 a (asked_claim a what s.names) answer
 unfolding ask before_wish
 ask_due n left s a what answer act =
-    subst (λ (names : List Name). ((decided n left (way left s a).1 a).0 ≡ answer) ↔ IsClaimDue left (way left s a).1 a (asked_claim a what names) answer) (ask_way_names left s a) (lock_due n left (way left s a).1 a what answer act)
+    subst (λ (names : List Name). ((decided n left (way left s a).1 a).0 ≡ answer) ↔ IsClaimDue n left (way left s a).1 a (asked_claim a what names) answer) (ask_way_names left s a) (lock_due n left (way left s a).1 a what answer act)
 
 -- a cache that is told of is one whose break runs
 pub ask_recalls : (n : ℕ) (left : Rooms) (s : CoreState) (a : Ask) (what : What) (c : Claim) → asked_what a.act ≡ Some what → (ask n left s a).0 ≡ answers.Recall c → is_running c.what ≡ true
@@ -93,7 +147,7 @@ ask_recalls n left s a what c act at = cache_runs t.claims claim c (runs (is_sto
   t : CoreState
   t = (way left s a).1
 
-  due : IsClaimDue left t a claim (answers.Recall c)
+  due : IsClaimDue n left t a claim (answers.Recall c)
   due = (ask_due n left s a what (answers.Recall c) act).0 at
 
   made : way left s a ≡ made_way s.waiters (plea_of left s a) (claim ∷ []) s
@@ -103,7 +157,7 @@ ask_recalls n left s a what c act at = cache_runs t.claims claim c (runs (is_sto
   runs true stops =
       let stays : t ≡ s = ap (λ (w : List Effect × CoreState). w.1) (made ∙ way_stopped s.waiters (plea_of left s a) claim [] s stops) in
       absurd (both_ways (is_stopped t.waiters t claim) due.2 (subst (λ (x : CoreState). is_stopped x.waiters x claim ≡ true) (sym stays) stops))
-  runs false moves = ap (λ (w : List Effect × CoreState). all_run w.1.claims claim) made ∙ way_runs_at_once s.waiters (plea_of left s a) claim [] s due.0 due.1 moves
+  runs false moves = ap (λ (w : List Effect × CoreState). all_run w.1.claims claim) made ∙ way_runs_at_once s.waiters (plea_of left s a) claim [] s (sym (ask_way_stands left s a) ∙ due.0) due.1 moves
 
 -- an ask for which no way is made is judged where it is
 pub ask_there : (n : ℕ) (left : Rooms) (s : CoreState) (a : Ask) → way left s a ≡ ([], s) → ask n left s a ≡ with_wish a (decided n left s a)
@@ -142,9 +196,9 @@ ask_unwished n left s a none = by (does_wish a.act) refl where
   by true does = ungranted_wish a.wish r.0 r.2 (λ c at. none c does at)
   by false doesnt = refl
 
-pub ask_free : (n : ℕ) (left : Rooms) (s : CoreState) (a : Ask) (what : What) → asked_what a.act ≡ Some what → a.reclaim ≡ false → is_blocked s.claims (asked_claim a what s.names) ≡ false
-    → IsRoom (limits_of_grant left s a (asked_claim a what s.names)) → (ask n left s a).0 ≡ answers.Granted (asked_claim a what s.names)
-ask_free n left s a what act timely free room = ap (λ (r : Answered). r.0) (ask_there n left s a (ask_way_free left s a what act free)) ∙ lock_free n left s a what act timely free room
+pub ask_free : (n : ℕ) (left : Rooms) (s : CoreState) (a : Ask) (what : What) → asked_what a.act ≡ Some what → enters (stands s a) ≡ true → IsFree s a (asked_claim a what s.names)
+    → IsRoom (limits_of_grant left s a (asked_claim a what s.names)) → may_record n s (wanted s a) ≡ true → (ask n left s a).0 ≡ answers.Granted (asked_claim a what s.names)
+ask_free n left s a what act in_time free room may = ap (λ (r : Answered). r.0) (ask_there n left s a (ask_way_free left s a what act free.0)) ∙ lock_free n left s a what act in_time free room may
 
 pub test_stands : (n : ℕ) (left : Rooms) (s : CoreState) (a : Ask) (extent : Extent) (exclusive : Bool) → a.act ≡ acts.Test extent exclusive → (ask n left s a).2 ≡ s
 test_stands n left s a extent exclusive act = ap (λ (r : Answered). r.2) (ask_there n left s a (ask_way_none left s a (ap asked_whats act))) ∙ no_wish_after a (decided n left s a).0 (decided n left s a).2 (ap does_wish act) ∙ test_leaves n left s a extent exclusive act
@@ -157,6 +211,7 @@ ask_own n left s a good client = record {
   claims = λ none. ap (λ (x : CoreState). x.claims) (ungranted_after a r.0 r.2 none) ∙ own.claims none;
   waiters = λ none. ap (λ (x : CoreState). x.waiters) (after_claims a r.0 r.2) ∙ own.waiters none;
   refused = λ none nobody. ungranted_after a r.0 r.2 none ∙ own.refused none nobody;
+  noted = ap aside_of (after_claims a r.0 r.2) ∙ own.noted;
   spans = λ file owner apart. after_keeps (λ x. spans_of file owner x.claims) a r.0 r.2 (λ wanted. wish_spans wanted r.2 file owner) ∙ own.spans file owner apart;
   shares = λ file owner apart. after_keeps (λ x. shares_of file owner x.claims) a r.0 r.2 (λ wanted. wish_shares wanted r.2 file owner) ∙ own.shares file owner apart;
   caches = beside (does_wish a.act) refl ∙ own.caches;
@@ -243,11 +298,14 @@ ask_left n left s a first last c good client named ends act at =
     ∙ decided_left n left s a first last c good client named ends act (sym (ap (λ (r : Answered). r.0) there) ∙ at)
 
 pub grant_frame : (n : ℕ) (left : Rooms) (s : CoreState) (a : Ask) (c : Claim) → IsGood s → is_client a.owner a.party ≡ true → (ask n left s a).0 ≡ answers.Granted c
-    → ((ask n left s a).2.clock ≡ s.clock) × ((ask n left s a).2.stable ≡ s.stable) × ((ask n left s a).2.counter ≡ s.counter + calls_in (ask n left s a).1)
+    → ((ask n left s a).2.clock ≡ s.clock) × (aside_of (ask n left s a).2 ≡ aside_of (noted_by s a (answers.Granted c))) × ((ask n left s a).2.counter ≡ s.counter + calls_in (ask n left s a).1)
 grant_frame n left s a c good client at =
     let frame = ask_frame n left s a good client in
-    let none : drawn_by (ask n left s a).0 ≡ 0 = ap drawn_by at in
-    (frame.clock, frame.stable, omega (arith, frame.counter, none))
+    let none : drawn_by (ask n left s a).0 ≡ 0 = ap drawn_by at in (
+      frame.clock,
+      (ask_own n left s a good client).noted ∙ ask_way_noted left s a (ask n left s a).0 ∙ ap (λ (answer : Answer). aside_of (noted_by s a answer)) at,
+      omega (arith, frame.counter, none),
+    )
 
 -- ---- a test and the lock that it foretells
 
@@ -280,20 +338,23 @@ begun_tests s c claim =
     none : (d : Claim) → is_cache d.what ≡ true → (blocks claim d && is_range d.what) ≡ false
     none d cache = rw (no_range d.what cache) (and_right (blocks claim d) false refl)
 
-same_test : (s t : CoreState) (a : Ask) (claim : Claim) → t.names ≡ s.names → t.clock ≡ s.clock → test_blockers t claim ≡ test_blockers s claim → tested t a claim ≡ tested s a claim
-unfolding tested
-same_test s t a claim names clock blockers = λ i. if a.reclaim then answers.NoGrace (clock i) else test_answered claim (least (names i) (blockers i))
+begun_alone : (c : Claim) (s : CoreState) (a : Ask) → stands_alone (breaks_begun c s).1 a ≡ stands_alone s a
+unfolding breaks_begun standing
+begun_alone c s a = refl
 
-begun_clock : (c : Claim) (s : CoreState) → (breaks_begun c s).1.clock ≡ s.clock
-unfolding breaks_begun
-begun_clock c s = refl
+same_test : (s t : CoreState) (a : Ask) (claim : Claim) → t.names ≡ s.names → stands_alone t a ≡ stands_alone s a → test_blockers t claim ≡ test_blockers s claim → tested t a claim ≡ tested s a claim
+unfolding tested
+same_test s t a claim names stand blockers = ap (λ (st : Standing). tested_by (refusal st) t claim) stand ∙ by (refusal (stands_alone s a)) where
+  by : (r : Option Answer) → tested_by r t claim ≡ tested_by r s claim
+  by (Some answer) = refl
+  by None = λ i. test_answered claim (least (names i) (blockers i))
 
 pub ask_foretells : (n : ℕ) (left : Rooms) (s : CoreState) (test lock : Ask) (first last : ℕ) (exclusive : Bool) → IsGood s → is_client lock.owner lock.party ≡ true → is_named lock.owner ≡ true → IsSameAsker test lock
-    → test.act ≡ acts.Test (Bytes first last) exclusive → lock.act ≡ acts.Ranges ((Bytes first last, exclusive) ∷ []) → lock.blocking ≡ false
+    → test.act ≡ acts.Test (Bytes first last) exclusive → lock.act ≡ acts.Ranges ((Bytes first last, exclusive) ∷ []) → lock.blocking ≡ false → lock.reclaim ≡ false
     → IsConflict (ask n left s lock).0 ↔ IsConflict (ask n left s test).0
 unfolding ask before_wish
-ask_foretells n left s test lock first last exclusive good client has same tests locks hurries =
-    subst (λ (answer : Answer). IsConflict (ask n left s lock).0 ↔ IsConflict answer) told (test_foretells n left t test lock first last exclusive (asked_way_good left s lock good) client has same tests locks hurries)
+ask_foretells n left s test lock first last exclusive good client has same tests locks hurries fresh =
+    subst (λ (answer : Answer). IsConflict (ask n left s lock).0 ↔ IsConflict answer) told (test_foretells n left t test lock first last exclusive (asked_way_good left s lock good) client has same tests locks hurries fresh)
   where
     t : CoreState
     t = (way left s lock).1
@@ -304,7 +365,7 @@ ask_foretells n left s test lock first last exclusive good client has same tests
     alike : tested t test (known_claim test (Bytes first last) exclusive t.names) ≡ tested s test claim
     alike =
         ap (λ (names : List Name). tested t test (known_claim test (Bytes first last) exclusive names)) (ask_way_names left s lock)
-        ∙ same_test s t test claim (ask_way_names left s lock) (ask_way_keeps (λ x. x.clock) left s lock (λ c. begun_clock c s)) (ask_way_keeps (λ x. test_blockers x claim) left s lock (λ c. begun_tests s c claim))
+        ∙ same_test s t test claim (ask_way_names left s lock) (ask_way_keeps (λ x. stands_alone x test) left s lock (λ c. begun_alone c s test)) (ask_way_keeps (λ x. test_blockers x claim) left s lock (λ c. begun_tests s c claim))
 
     told : (decided n left t test).0 ≡ (ask n left s test).0
     told =

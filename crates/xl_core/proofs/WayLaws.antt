@@ -20,6 +20,8 @@ use Rattle.xl_core.specs.Blockers.{is_stopped, first_broken, all_run}
 use Rattle.xl_core.specs.Frames.{serves_none}
 use Rattle.xl_core.specs.Good.{IsGood, IsKnown}
 use Rattle.xl_core.specs.Ways.{begins, made_way}
+use Rattle.xl_core.specs.Standings.{is_timely}
+use Rattle.xl_core.specs.declared.standings.Standing.TheVariants.{Timely}
 use Rattle.xl_core.specs.declared.ask.Effect.{Effect}
 use Rattle.xl_core.specs.declared.judge.Plea.{Plea}
 use Rattle.xl_core.proofs.AskBreaksLaws.{none_begins_again, fewer_idle}
@@ -73,10 +75,16 @@ way_unbroken earlier p c cs s none = ap (λ (r : Told). if begins earlier p c s 
 
 pub way_stopped : (earlier : List Waiter) (p : Plea) (c : Claim) (cs : List Claim) (s : CoreState) → is_stopped earlier s c ≡ true → made_way earlier p (c ∷ cs) s ≡ ([], s)
 unfolding made_way
-way_stopped earlier p c cs s stops = by p.reclaim where
-  by : (b : Bool) → (if not b && (not (is_stopped earlier s c) && not (p.awaits && (is_some p.crowded && is_some (recalled_by (planned c s.claims))))) then breaks_begun c s else ([], s)) ≡ ([], s)
-  by true = refl
-  by false = rw stops refl
+way_stopped earlier p c cs s stops = by (is_timely p.standing) where
+  by : (b : Bool) → (if b && (not (is_stopped earlier s c) && not (p.awaits && (is_some p.crowded && is_some (recalled_by (planned c s.claims))))) then breaks_begun c s else ([], s)) ≡ ([], s)
+  by false = refl
+  by true = rw stops refl
+
+-- nor is one made where grace runs, or for a reclaim
+pub way_graced : (earlier : List Waiter) (p : Plea) (asked : List Claim) (s : CoreState) → is_timely p.standing ≡ false → made_way earlier p asked s ≡ ([], s)
+unfolding made_way
+way_graced earlier p [] s out = refl
+way_graced earlier p (c ∷ cs) s out = ap (λ (b : Bool). if b && (not (is_stopped earlier s c) && not (p.awaits && (is_some p.crowded && is_some (recalled_by (planned c s.claims))))) then breaks_begun c s else ([], s)) out
 
 pub way_free : (earlier : List Waiter) (p : Plea) (c : Claim) (cs : List Claim) (s : CoreState) → is_blocked s.claims c ≡ false → made_way earlier p (c ∷ cs) s ≡ ([], s)
 way_free earlier p c cs s free = way_unbroken earlier p c cs s (free_unbroken s.claims c free)
@@ -176,19 +184,19 @@ unfolding breaks_begun
 begun_runs c s = runs (once_broken (moment_after s.clock s.times.break_time) c s.claims) c (none_begins_again (moment_after s.clock s.times.break_time) c s.claims)
 
 -- so it is for one whose wait passes no limit, and who doesn't come too late, where nothing blocks it for good
-pub way_runs : (earlier : List Waiter) (p : Plea) (c : Claim) (cs : List Claim) (s : CoreState) → p.reclaim ≡ false → p.crowded ≡ None → is_stopped earlier s c ≡ false → all_run (made_way earlier p (c ∷ cs) s).1.claims c ≡ true
+pub way_runs : (earlier : List Waiter) (p : Plea) (c : Claim) (cs : List Claim) (s : CoreState) → p.standing ≡ Timely → p.crowded ≡ None → is_stopped earlier s c ≡ false → all_run (made_way earlier p (c ∷ cs) s).1.claims c ≡ true
 unfolding made_way
 way_runs earlier p c cs s timely room moves =
-    let does : begins earlier p c s ≡ true = rw (timely, moves, room) (both p.awaits) in
+    let does : begins earlier p c s ≡ true = ap (λ (b : Bool). b && (not (is_stopped earlier s c) && not (p.awaits && (is_some p.crowded && is_some (recalled_by (planned c s.claims)))))) (ap is_timely timely) ∙ rw (moves, room) (both p.awaits) in
     ap (λ (b : Bool). all_run (if b then breaks_begun c s else ([], s)).1.claims c) does ∙ begun_runs c s
   where
-    both : (b : Bool) → (not false && (not false && not (b && (false && is_some (recalled_by (planned c s.claims)))))) ≡ true
+    both : (b : Bool) → (true && (not false && not (b && (false && is_some (recalled_by (planned c s.claims)))))) ≡ true
     both true = refl
     both false = refl
 
 -- and those of one that waits for no answer
-pub way_runs_at_once : (earlier : List Waiter) (p : Plea) (c : Claim) (cs : List Claim) (s : CoreState) → p.reclaim ≡ false → p.awaits ≡ false → is_stopped earlier s c ≡ false → all_run (made_way earlier p (c ∷ cs) s).1.claims c ≡ true
+pub way_runs_at_once : (earlier : List Waiter) (p : Plea) (c : Claim) (cs : List Claim) (s : CoreState) → p.standing ≡ Timely → p.awaits ≡ false → is_stopped earlier s c ≡ false → all_run (made_way earlier p (c ∷ cs) s).1.claims c ≡ true
 unfolding made_way
 way_runs_at_once earlier p c cs s timely hurries moves =
-    let does : begins earlier p c s ≡ true = rw (timely, moves, hurries) refl in
+    let does : begins earlier p c s ≡ true = ap (λ (b : Bool). b && (not (is_stopped earlier s c) && not (p.awaits && (is_some p.crowded && is_some (recalled_by (planned c s.claims)))))) (ap is_timely timely) ∙ rw (moves, hurries) refl in
     ap (λ (b : Bool). all_run (if b then breaks_begun c s else ([], s)).1.claims c) does ∙ begun_runs c s

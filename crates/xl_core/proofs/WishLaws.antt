@@ -35,7 +35,7 @@ use Rattle.xl_core.specs.BreaksBegun.{is_idle, idle_caches, others_of, is_recall
 use Rattle.xl_core.specs.Good.{are_kept, IsHeldBy, IsHeld, is_single, IsGood, holding}
 use Rattle.xl_core.specs.Places.{CacheOf, is_cache_on, held_in, else_was}
 use Rattle.xl_core.specs.State.{CoreState}
-use Rattle.xl_core.specs.Wishes.{has_room, wished_kind, cached, once_wished, wish_granted, wish_of, wished_at}
+use Rattle.xl_core.specs.Wishes.{has_room, wished_kind, cached, once_wished, wish_granted, wish_of, wished_at, is_waited_for}
 use Rattle.xl_core.proofs.BreaksBegunLaws.{same_others, no_two}
 use Rattle.xl_core.proofs.CachePlaces.{IsSameButCaches, stays_beside, stays_rest}
 use Rattle.xl_core.proofs.ClaimLaws.{is_single-sym}
@@ -121,7 +121,7 @@ pub room_left : (held : List Claim) (o : Option Claim) → o ≡ None → has_ro
 room_left held None e room = ltb-true (length held) 16384 room
 room_left held (Some c) e room = absurd cc
 
-pub waits_granted : (wanted : Wish) (s : CoreState) → waits_on wanted.file s.waiters ≡ true → s ≡ wish_granted wanted s
+pub waits_granted : (wanted : Wish) (s : CoreState) → is_waited_for wanted.file s ≡ true → s ≡ wish_granted wanted s
 unfolding wished_kind wish_granted
 waits_granted wanted s waits = rw waits refl
 
@@ -129,17 +129,17 @@ pub full_granted : (wanted : Wish) (s : CoreState) (own : Option Claim) → own 
 unfolding wished_kind wish_granted
 full_granted wanted s own is full =
     let none : has_room (find (is_its_cache wanted) s.claims) s.claims ≡ false = ap (λ (o : Option Claim). has_room o s.claims) (sym is) ∙ full in
-    elim (cases_Bool (waits_on wanted.file s.waiters)) [ inl waits ↦ rw waits refl | inr free ↦ rw (free, none) refl ]
+    elim (cases_Bool (is_waited_for wanted.file s)) [ inl waits ↦ rw waits refl | inr free ↦ rw (free, none) refl ]
 
 pub none_granted : (wanted : Wish) (s : CoreState) → granted_kind wanted s.claims ≡ None → s ≡ wish_granted wanted s
 unfolding wished_kind wish_granted
 none_granted wanted s none =
-    elim (cases_Bool (waits_on wanted.file s.waiters)) [
+    elim (cases_Bool (is_waited_for wanted.file s)) [
       | inl waits ↦ rw waits refl
       | inr free ↦ elim (cases_Bool (has_room (find (is_its_cache wanted) s.claims) s.claims)) [ inl room ↦ rw (free, room, none) refl | inr full ↦ rw (free, full) refl ]
     ]
 
-pub kind_granted : (wanted : Wish) (s : CoreState) (own : Option Claim) (kind : CacheKind) (claims : List Claim) → waits_on wanted.file s.waiters ≡ false → own ≡ find (is_its_cache wanted) s.claims → has_room own s.claims ≡ true → granted_kind wanted s.claims ≡ Some kind → claims ≡ cached wanted kind own s.claims
+pub kind_granted : (wanted : Wish) (s : CoreState) (own : Option Claim) (kind : CacheKind) (claims : List Claim) → is_waited_for wanted.file s ≡ false → own ≡ find (is_its_cache wanted) s.claims → has_room own s.claims ≡ true → granted_kind wanted s.claims ≡ Some kind → claims ≡ cached wanted kind own s.claims
     → record s { claims = claims } ≡ wish_granted wanted s
 unfolding wished_kind wish_granted
 kind_granted wanted s own kind claims free is room some e =
@@ -173,7 +173,7 @@ all_true p (c ∷ cs) h = let both = and_parts (p c) (list_all p cs) h in (both.
 -- why it gets this kind
 gets : (wanted : Wish) (s : CoreState) (kind : CacheKind) → wished_kind wanted s ≡ Some kind → (has_room (find (is_its_cache wanted) s.claims) s.claims ≡ true) × (granted_kind wanted s.claims ≡ Some kind)
 unfolding wished_kind
-gets wanted s kind e = by (waits_on wanted.file s.waiters) (has_room (find (is_its_cache wanted) s.claims) s.claims) refl e where
+gets wanted s kind e = by (is_waited_for wanted.file s) (has_room (find (is_its_cache wanted) s.claims) s.claims) refl e where
   by : (waits room : Bool) → has_room (find (is_its_cache wanted) s.claims) s.claims ≡ room → (if waits then None else if room then granted_kind wanted s.claims else None) ≡ Some kind → (has_room (find (is_its_cache wanted) s.claims) s.claims ≡ true) × (granted_kind wanted s.claims ≡ Some kind)
   by true room at e = absurd cc
   by false true at e = (at, e)
@@ -450,7 +450,7 @@ running_stays wanted s c there runs = own_stays wanted s.claims (wished_kind wan
 
 -- ---- where it gets nothing
 
-pub waits_stand : (wanted : Wish) (s : CoreState) → waits_on wanted.file s.waiters ≡ true → wish_granted wanted s ≡ s
+pub waits_stand : (wanted : Wish) (s : CoreState) → is_waited_for wanted.file s ≡ true → wish_granted wanted s ≡ s
 waits_stand wanted s waits = sym (waits_granted wanted s waits)
 
 pub full_stands : (wanted : Wish) (s : CoreState) → find (is_its_cache wanted) s.claims ≡ None → most_claims ≤ length s.claims → wish_granted wanted s ≡ s

@@ -13,6 +13,9 @@ use Rattle.xl_core.specs.Askers.{asking_party, both_entered, asked_whats, asked_
 use Rattle.xl_table.specs.Least.{least}
 use Rattle.xl_core.specs.Blockers.{test_blockers}
 use Rattle.xl_core.specs.Judge.{judged}
+use Rattle.xl_core.specs.Standings.{recorded_as, stands, stands_alone, refusal}
+use Rattle.xl_core.specs.Stores.{unrecorded}
+use Rattle.xl_grace.specs.Grace.{reclaimed}
 use Rattle.xl_core.specs.Ways.{made_way}
 use Rattle.xl_core.specs.Wishes.{wish_for}
 use Rattle.xl_core.specs.Limits.{wait_limits, wish_limits, first_passed}
@@ -23,7 +26,7 @@ use Rattle.xl_table.specs.Relock.{most_claims, relocked_in, holds_byte}
 use Rattle.xl_core.specs.declared.ask.Act.{Act}
 use Rattle.xl_core.specs.declared.ask.Act.TheVariants.{Share, Ranges, Test, Unlock, Wish}
 use Rattle.xl_core.specs.declared.ask.Answer.{Answer}
-use Rattle.xl_core.specs.declared.ask.Answer.TheVariants.{Granted, Conflict, Queued, NoGrace, Full, NotHeld}
+use Rattle.xl_core.specs.declared.ask.Answer.TheVariants.{Granted, Conflict, Queued, Full, NotHeld}
 use Rattle.xl_core.specs.declared.ask.Ask.{Ask}
 use Rattle.xl_core.specs.declared.ask.Effect.{Effect}
 use Rattle.xl_core.specs.declared.judge.Plea.{Plea}
@@ -36,11 +39,16 @@ Answered = Answer × List Effect × CoreState
 
 -- ---- a share or a lock
 
+-- the cache that is reclaimed with what is asked for
+abbrev pub beside_of : Bool → List CacheKind → Option CacheKind
+beside_of true (kind ∷ kinds) = Some kind
+beside_of _ _ = None
+
 -- what the ask pleads: with the names that are kept once it is granted, and the limit that its wait would pass
 unfoldable pub plea_of : Rooms → CoreState → Ask → Plea
 plea_of left s a =
     let kept = length (both_entered a s.names) in
-    record { blocking = a.blocking; awaits = a.awaits; reclaim = a.reclaim; rows = a.rows; kept = kept; crowded = first_passed (wait_limits left a.rows (length s.waiters) kept) }
+    record { blocking = a.blocking; awaits = a.awaits; standing = stands s a; beside = beside_of a.reclaim a.wish; unrecorded = unrecorded a.monitored (recorded_as a.party) s.stable; rows = a.rows; kept = kept; crowded = first_passed (wait_limits left a.rows (length s.waiters) kept) }
 
 -- one who waits counts among the hosts from then on (CORE-6)
 abbrev pub waiting_rows : Rooms → Rooms
@@ -58,9 +66,13 @@ named a s = record s { names = both_entered a s.names }
 abbrev pub waiting : Ask → List Claim → CoreState → CoreState
 waiting a claims s = record s { waiters = s.waiters ++ waiter_of (s.counter + 1) a (asking_party a s.names) claims ∷ []; names = both_entered a s.names; counter = s.counter + 1 }
 
+-- the client has reclaimed something in the grace that runs
+abbrev pub is_back : Ask → CoreState → CoreState
+is_back a s = if a.reclaim then record s { grace = reclaimed (recorded_as a.party) s.grace } else s
+
 -- what an ask is answered by the ruling on its claims: the first of them granted, a refusal, or the number under which it waits
 abbrev pub answered : Ask → List Claim → Claim → Ruling → List Effect → CoreState → Answered
-answered a claims first Gets told s = (Granted first, told, named a s)
+answered a claims first Gets told s = (Granted first, told, named a (is_back a s))
 answered a claims first Waits told s = (Queued (s.counter + 1), told, waiting a claims s)
 answered a claims first (Told answer) told s = (answer, told, s)
 
@@ -76,9 +88,14 @@ abbrev pub test_answered : Claim → Option Claim → Answer
 test_answered claim None = Granted claim
 test_answered claim (Some c) = Conflict c
 
+-- a test that grace refuses, or that goes on
+abbrev pub tested_by : Option Answer → CoreState → Claim → Answer
+tested_by (Some answer) s claim = answer
+tested_by None s claim = test_answered claim (least s.names (test_blockers s claim))
+
 -- a test is answered with what a lock of this claim would meet, and changes nothing (CORE-4)
 unfoldable pub tested : CoreState → Ask → Claim → Answer
-tested s a claim = if a.reclaim then NoGrace s.clock else test_answered claim (least s.names (test_blockers s claim))
+tested s a claim = tested_by (refusal (stands_alone s a)) s claim
 
 -- ---- an unlock
 
@@ -114,11 +131,16 @@ abbrev pub wish_by : CoreState → Ask → Claim → Option ℕ → Answered
 wish_by s a claim None = (Granted claim, [], named a s)
 wish_by s a claim (Some limit) = (Full limit, [], s)
 
--- a wish by itself is granted, with its first choice, if it passes no limit: which cache it gets, if any, is seen then.
--- It never waits, and breaks nothing (CACHE-10).
+-- a wish by itself that grace refuses, or that goes on
+abbrev pub wish_graced : Rooms → CoreState → Ask → Claim → Option Answer → Answered
+wish_graced left s a claim (Some answer) = (answer, [], s)
+wish_graced left s a claim None = wish_by s a claim (first_passed (wish_limits left a.rows (length (both_entered a s.names))))
+
+-- a wish by itself is granted, with its first choice, if no grace runs and it passes no limit: which cache it gets, if any, is
+-- seen then. It never waits, and breaks nothing (CACHE-10).
 unfoldable pub wish_asked : Rooms → CoreState → Ask → List CacheKind → Answered
 wish_asked left s a [] = (NotHeld, [], s)
-wish_asked left s a (kind ∷ kinds) = wish_by s a (asked_claim a (Cache kind None) s.names) (first_passed (wish_limits left a.rows (length (both_entered a s.names))))
+wish_asked left s a (kind ∷ kinds) = wish_graced left s a (asked_claim a (Cache kind None) s.names) (refusal (stands_alone s a))
 
 -- ---- an ask
 

@@ -2,6 +2,7 @@
 use Rattle.std.specs.Prelude.{◌≡◌, ◌==◌, if◌then◌else◌, ℕ, Bool, true, false, not, ◌||◌, List, [], ◌∷◌, ◌++◌, Option, Some, None}
 use Rattle.std.specs.List.{filter, slice_get}
 use Rattle.xl_base.specs.Lists.{IsIn}
+use Rattle.xl_base.specs.Stable.{Stable}
 use Rattle.xl_base.specs.declared.event.Moment.{Moment}
 use Rattle.xl_base.specs.declared.name.Party.{Party}
 use Rattle.xl_matrix.specs.Equal.{same_parties, same_claims}
@@ -25,7 +26,9 @@ use Rattle.xl_core.specs.BreakAnswers.{may_be_left, with_rest, ack, due, client_
 use Rattle.xl_core.specs.Leases.{ended}
 use Rattle.xl_core.specs.Good.{caches_of}
 use Rattle.xl_core.specs.Settle.{next_way, settle, waits_for, waits_as, cancel, give_back, share_has, weaken, end_party, close_open}
-use Rattle.xl_core.specs.Ticks.{advanced, renew, expire, lapse, is_still_held, is_lease_over}
+use Rattle.xl_core.specs.Stores.{may_store, store_failed, client_name, without_name}
+use Rattle.xl_core.specs.Ticks.{advanced, renew, expire, lapse, may_expire, end_grace, is_still_held, is_lease_over}
+use Rattle.xl_grace.specs.Grace.{is_over, shortened}
 use Rattle.xl_core.specs.declared.ask.Answer.{Answer}
 use Rattle.xl_core.specs.declared.ask.Answer.TheVariants.{Queued}
 use Rattle.xl_core.specs.declared.ask.Ask.{Ask}
@@ -37,7 +40,8 @@ use Rattle.xl_core.specs.declared.ask.Effect.TheVariants.{Served}
 -- an ask, with the room left in the fronts' tables; a claim given back; a share made weaker, to this access and deny; the
 -- break of this cache answered, so that this much is left of it; the waiter of this number taken out; a party ended; a
 -- turn; a number given out; the clock read; the break of this cache over without an answer; the lease of the NFSv4 client
--- of this id string renewed; such a client expired; an SMB open closed, with which the caches of this party go (CORE-7)
+-- of this id string renewed; such a client expired; an SMB open closed, with which the caches of this party go; the store of
+-- this record failed; the grace that runs ended (CORE-7)
 pub data Deed : Type 0 where
   Asks : Rooms → Ask → Deed
   GivesBack : Claim → Deed
@@ -52,6 +56,8 @@ pub data Deed : Type 0 where
   Renews : List ℕ → Deed
   Expires : List ℕ → Deed
   Closes : ℕ → Option Party → Deed
+  FailsStore : Stable → Deed
+  EndsGrace : Deed
 
 -- the answer, if the call has one, the effects besides, and the state that is left
 abbrev pub Given : Type 0
@@ -83,6 +89,8 @@ given n s (Lapses cache) = unanswered (lapse s cache)
 given n s (Renews client) = unanswered (renew s client)
 given n s (Expires client) = unanswered (expire s client)
 given n s (Closes number party) = unanswered (close_open s number party)
+given n s (FailsStore stable) = (None, [], store_failed stable s)
+given n s EndsGrace = (None, [], end_grace s)
 
 -- the state after one deed, and after these in a row
 abbrev pub done : ℕ → CoreState → Deed → CoreState
@@ -110,7 +118,8 @@ answers_of n s (d ∷ ds) = with_answer (given n s d).0 (answers_of n (done n s 
 
 -- an ask that is fit; a share or a cache that is held, given back; a share that is held, which comes to have no more than it
 -- has; a cache that is held and whose break runs, of which no more is left than the break leaves; a waiter who stands; a cache
--- whose deadline has come; and a client whose lease has ended. Ranges are unlocked by an ask (CORE-7).
+-- whose deadline has come; a client whose lease has ended; and a grace whose end has come. Ranges are unlocked by an ask
+-- (CORE-7).
 abbrev pub IsFitDeed : CoreState → Deed → Type 0
 IsFitDeed s (Asks left a) = IsFit a
 IsFitDeed s (GivesBack claim) = IsIn claim s.claims × (is_range claim.what ≡ false)
@@ -119,6 +128,7 @@ IsFitDeed s (Acks cache to) = IsIn cache s.claims × (may_be_left cache.what to 
 IsFitDeed s (Cancels id) = is_waiting id s.waiters ≡ true
 IsFitDeed s (Lapses cache) = IsIn cache (due s)
 IsFitDeed s (Expires client) = IsIn client (ended s.clock s.leases)
+IsFitDeed s EndsGrace = is_over s.grace s.clock ≡ true
 IsFitDeed s _ = Unit {0}
 
 abbrev pub AreFit : ℕ → CoreState → List Deed → Type 0
@@ -167,22 +177,37 @@ queue_after n s (d ∷ ds) waiters = queue_after n (done n s d) ds (waits_after 
 -- ---- a tick
 
 -- each of these that is still to be done once its turn has come, as a deed
-abbrev pub deeds_in_turn : {A : Type 0} → (CoreState → A → Bool) → (A → Deed) → ℕ → List A → CoreState → List Deed
+abbrev pub deeds_in_turn : {A : Type 0} → (CoreState → A → Bool) → (CoreState → A → Deed) → ℕ → List A → CoreState → List Deed
 deeds_in_turn is_left does n [] s = []
-deeds_in_turn is_left does n (x ∷ xs) s = if is_left s x then does x ∷ deeds_in_turn is_left does n xs (done n s (does x)) else deeds_in_turn is_left does n xs s
+deeds_in_turn is_left does n (x ∷ xs) s = if is_left s x then does s x ∷ deeds_in_turn is_left does n xs (done n s (does s x)) else deeds_in_turn is_left does n xs s
+
+-- the deed, unless the store fails that the expiry of this client wants first
+abbrev pub or_fails : ℕ → CoreState → List ℕ → Deed → Deed
+or_fails n s client d = if may_expire n s client then d else FailsStore (without_name (client_name client) s.stable)
+
+abbrev pub lapse_of : ℕ → CoreState → Claim → Option (List ℕ) → Deed
+lapse_of n s cache None = Lapses cache
+lapse_of n s cache (Some client) = or_fails n s client (Lapses cache)
 
 -- the breaks whose deadline has come, in the order in which they are due
 abbrev pub lapses : ℕ → CoreState → List Deed
-lapses n s = deeds_in_turn is_still_held Lapses n (due s) s
+lapses n s = deeds_in_turn is_still_held (λ t cache. lapse_of n t cache (client_of t.names cache.party)) n (due s) s
 
 -- the clients whose lease has ended, in the order of their id strings
 abbrev pub expiries : ℕ → CoreState → List Deed
-expiries n s = deeds_in_turn is_lease_over Expires n (ended s.clock s.leases) s
+expiries n s = deeds_in_turn is_lease_over (λ t client. or_fails n t client (Expires client)) n (ended s.clock s.leases) s
 
--- what a reading of the clock does: it rises, each break is over whose deadline has come, and each client whose lease has
--- ended expires
+-- the end of the grace that runs, if it has come, or the store that failed first
+abbrev pub grace_deeds : ℕ → CoreState → List Deed
+grace_deeds n s = if is_over s.grace s.clock then (if may_store n s then EndsGrace else FailsStore (shortened s.grace s.stable)) ∷ [] else []
+
+abbrev pub and_grace : ℕ → CoreState → List Deed → List Deed
+and_grace n s ds = ds ++ grace_deeds n (all_done n s ds)
+
+-- what a reading of the clock does: it rises, each break is over whose deadline has come, each client whose lease has ended
+-- expires, and the grace that runs ends
 abbrev pub tick_deeds : ℕ → CoreState → Moment → List Deed
-tick_deeds n s now = let t = advanced s now in Advances now ∷ (lapses n t ++ expiries n (all_done n t (lapses n t)))
+tick_deeds n s now = let t = advanced s now in Advances now ∷ and_grace n t (lapses n t ++ expiries n (all_done n t (lapses n t)))
 
 -- ---- caches
 

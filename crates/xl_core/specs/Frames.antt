@@ -4,7 +4,7 @@ use Rattle.xl_names.specs.declared.name.Name.{Name}
 use Rattle.xl_wait.specs.Waiting.{is_waiting, cancelled}
 use Rattle.xl_wait.specs.declared.waiter.Waiter.{Waiter}
 use Rattle.xl_base.specs.declared.event.Moment.{Moment}
-use Rattle.xl_core.specs.State.{CoreState}
+use Rattle.xl_core.specs.State.{CoreState, aside_of}
 use Rattle.xl_core.specs.Leases.{Lease, moment_after, later, with_lease, without_lease}
 use Rattle.xl_core.specs.Askers.{asking_party, both_entered, asked_whats, asked_claims}
 use Rattle.xl_core.specs.Decide.{waiter_of}
@@ -65,14 +65,12 @@ serves_none (effect ∷ effects) = serves_none effects
 
 -- ---- a call
 
--- A call with these effects: the record, the clock, the times, the leases and the stores of the step stay, so many
--- numbers are given out, these names are kept then, who leaves the queue is told of once, and these come behind those
--- who stay.
+-- A call with these effects: the epoch, the clock, the times and the leases stay, so many numbers are given out, these names are
+-- kept then, who leaves the queue is told of once, and these come behind those who stay. Of the record, grace and stores see
+-- `aside_of`.
 pub record IsFrame (s : CoreState) (told : List Effect) (t : CoreState) (given : ℕ) (known : List Name) (come : List Waiter) : Type 0 where
-  pub stable : t.stable ≡ s.stable
+  pub epoch : t.stable.epoch ≡ s.stable.epoch
   pub clock : t.clock ≡ s.clock
-  pub made : t.made ≡ s.made
-  pub failed : t.failed ≡ s.failed
   pub counter : t.counter ≡ s.counter + given
   pub names : t.names ≡ known
   pub leave : AllLeave (who_left told) s.waiters
@@ -86,22 +84,17 @@ pub record IsRenewed (s : CoreState) (client : List ℕ) (told : List Effect) (t
   pub claims : t.claims ≡ s.claims
   pub waiters : t.waiters ≡ s.waiters
   pub names : t.names ≡ s.names
-  pub stable : t.stable ≡ s.stable
   pub clock : t.clock ≡ s.clock
   pub times : t.times ≡ s.times
   pub leases : t.leases ≡ with_lease client (moment_after s.clock s.times.lease) s.leases
   pub counter : t.counter ≡ s.counter
-  pub made : t.made ≡ s.made
-  pub failed : t.failed ≡ s.failed
+  pub aside : aside_of t ≡ aside_of s
 
 -- A reading of the clock with these effects: the clock shows the later moment, who leaves the queue is told of once and
--- nobody comes, a lease goes if its client is told of, and the record, the times, the stores of the step, the numbers
--- and the names stay.
+-- nobody comes, a lease goes if its client is told of, and the epoch, the times, the numbers and the names stay.
 pub record IsTicked (s : CoreState) (now : Moment) (told : List Effect) (t : CoreState) : Type 0 where
   pub clock : t.clock ≡ later s.clock now
-  pub stable : t.stable ≡ s.stable
-  pub made : t.made ≡ s.made
-  pub failed : t.failed ≡ s.failed
+  pub epoch : t.stable.epoch ≡ s.stable.epoch
   pub counter : t.counter ≡ s.counter
   pub names : t.names ≡ s.names
   pub leave : AllLeave (who_left told) s.waiters

@@ -1,5 +1,5 @@
 -- What the core's state keeps at each free moment.
-use Rattle.std.specs.Prelude.{◌≡◌, ℕ, ◌≤◌, Bool, true, false, not, ◌&&◌, ◌==◌, if◌then◌else◌, List, [], ◌∷◌, ◌++◌, length, Option, Some, None, is_some}
+use Rattle.std.specs.Prelude.{◌≡◌, ℕ, ◌≤◌, Bool, true, false, not, ◌&&◌, ◌||◌, ◌==◌, if◌then◌else◌, List, [], ◌∷◌, ◌++◌, length, Option, Some, None, is_some}
 use Rattle.std.specs.List.{AllByRecursion, filter, slice_get}
 use Rattle.xl_base.specs.Lists.{Pairwise}
 use Rattle.xl_base.specs.Stable.{same_protocol}
@@ -160,9 +160,9 @@ abbrev pub of_first : (Claim → Bool) → List Claim → Bool
 of_first test [] = false
 of_first test (c ∷ cs) = test c
 
--- of several claims the first is held up
+-- grace runs, for whose end all who wait are waiting, or of several claims the first is held up
 abbrev pub holds_up : List Waiter → CoreState → Waiter → List Claim → Bool
-holds_up earlier s w asked = of_first (λ c. is_held_up earlier s w c) asked
+holds_up earlier s w asked = is_some s.grace || of_first (λ c. is_held_up earlier s w c) asked
 
 -- the waiter is held up behind these
 abbrev pub IsUp : CoreState → List Waiter → Waiter → Type 0

@@ -1,12 +1,15 @@
 -- The order of decisions: one judgement of those who ask and of those who wait, as a row of steps.
-use Rattle.std.specs.Prelude.{◌≡◌, ℕ, ◌≤◌, Bool, true, false, ◌&&◌, if◌then◌else◌, List, [], ◌∷◌, ◌++◌, length, Option, Some, None, option_map}
-use Rattle.std.specs.List.{AllByRecursion}
+use Rattle.std.specs.Prelude.{◌≡◌, ℕ, ◌+◌, ◌≤◌, Bool, true, false, not, ◌&&◌, if◌then◌else◌, List, [], ◌∷◌, ◌++◌, length, Option, Some, None, option_map}
+use Rattle.std.specs.List.{AllByRecursion, filter, list_any}
 use Rattle.xl_base.specs.Lists.{Pairwise}
 use Rattle.xl_matrix.specs.Equal.{same_parties}
 use Rattle.xl_matrix.specs.Owners.{posix}
+use Rattle.xl_base.specs.declared.stable.Recorded.{Recorded}
+use Rattle.xl_matrix.specs.declared.claim.CacheKind.{CacheKind}
 use Rattle.xl_matrix.specs.declared.claim.Claim.{Claim}
+use Rattle.xl_matrix.specs.declared.claim.What.TheVariants.{Cache}
 use Rattle.xl_names.specs.Names.{most_names}
-use Rattle.xl_table.specs.Flat.{is_blocked}
+use Rattle.xl_table.specs.Flat.{blocks, is_blocked, with_what}
 use Rattle.xl_table.specs.Held.{is_range, IsGrantable}
 use Rattle.xl_wait.specs.declared.waiter.Rooms.{Rooms}
 use Rattle.xl_wait.specs.declared.waiter.Waiter.{Waiter}
@@ -17,11 +20,16 @@ use Rattle.xl_core.specs.declared.blockers.Passage.{Passage}
 use Rattle.xl_core.specs.declared.blockers.Passage.TheVariants.{Barred, Open}
 use Rattle.xl_core.specs.Limits.{grant_limits, first_passed}
 use Rattle.xl_table.specs.Relock.{granted_claims}
-use Rattle.xl_core.specs.declared.ask.Answer.TheVariants.{Conflict, Recall, NoGrace, Full}
+use Rattle.xl_cache.specs.Wishing.{is_its_cache}
+use Rattle.xl_core.specs.Wishes.{wish_of}
+use Rattle.xl_core.specs.Stores.{may_record, recorded, unstored, bytes_with}
+use Rattle.xl_core.specs.declared.ask.Answer.TheVariants.{Conflict, Recall, Grace, NoGrace, NotRecorded, Full, StoreFailed}
 use Rattle.xl_core.specs.declared.ask.Effect.{Effect}
 use Rattle.xl_core.specs.declared.judge.Plea.{Plea}
 use Rattle.xl_core.specs.declared.judge.Ruling.{Ruling}
 use Rattle.xl_core.specs.declared.judge.Ruling.TheVariants.{Gets, Waits, Told}
+use Rattle.xl_core.specs.declared.standings.Standing.{Standing}
+use Rattle.xl_core.specs.declared.standings.Standing.TheVariants.{Timely, Reclaims, Stays, Early, Late, Unrecorded}
 
 -- ---- a row of steps
 
@@ -85,9 +93,15 @@ abbrev pub stop_by : Plea → Passage → Option Ruling
 stop_by p (Barred c) = Some (stopped p c)
 stop_by p (Open plan) = option_map (kept_off p) (cache_in plan)
 
+-- how many claims are held once the claim is granted, and a cache of this kind beside it: that comes with it, or in the place of
+-- the one that its party has on the file
+abbrev pub held_then : Option CacheKind → Claim → List Claim → ℕ
+held_then None c held = length (granted_claims c held)
+held_then (Some kind) c held = length (granted_claims c held) + (if list_any (is_its_cache (wish_of [] c)) held then 0 else 1)
+
 -- the least limit that the claim passes (CORE-5)
 unfoldable pub check_room : Rooms → Plea → Claim → CoreState → Option Ruling
-check_room left p c s = option_map full (first_passed (grant_limits left p.rows (length (granted_claims c s.claims)) p.kept))
+check_room left p c s = option_map full (first_passed (grant_limits left p.rows (held_then p.beside c s.claims) (bytes_with p.unrecorded s.stable) p.kept))
 
 -- the first of two stops, if there is one
 abbrev pub or_else : Option Ruling → Option Ruling → Option Ruling
@@ -100,7 +114,7 @@ stop_of earlier left p c s = or_else (check_held earlier p c s) (or_else (check_
 
 -- of several claims the first alone may wait (MS-SMB2 3.3.5.14.2) (CORE-14)
 abbrev pub at_once : Plea → Plea
-at_once p = record p { blocking = false; awaits = false }
+at_once p = record p { blocking = false; awaits = false; beside = None; unrecorded = None }
 
 -- what stops the first of these that is stopped, each once those before it are held (CORE-14)
 abbrev pub first_stop : List Waiter → Rooms → Plea → List Claim → CoreState → Option Ruling
@@ -109,17 +123,81 @@ first_stop earlier left p (c ∷ cs) s = or_else (stop_of earlier left p c s) (f
 
 -- ---- the steps
 
--- no grace runs, so a reclaim comes too late (CORE-1)
+-- what grace rules of one who stands so to it: it goes on, waits for the end, or is refused
+abbrev pub graced : Plea → Standing → Option Ruling
+graced p Timely = None
+graced p Reclaims = None
+graced p Stays = Some (waits p.crowded)
+graced p (Early until) = Some (Told (Grace until))
+graced p (Late clock) = Some (Told (NoGrace clock))
+graced p Unrecorded = Some (Told NotRecorded)
+
+-- grace lets nobody in but those who reclaim (CORE-1)
 unfoldable pub check_grace : Plea → Step
-check_grace p s = if p.reclaim then (Some (Told (NoGrace s.clock)), [], s) else (None, [], s)
+check_grace p s = (graced p p.standing, [], s)
+
+abbrev pub conflicts : Claim → Ruling
+conflicts c = Told (Conflict c)
+
+-- the cache beside the claim
+abbrev pub cache_beside : CacheKind → Claim → Claim
+cache_beside kind c = with_what c (Cache kind None)
+
+-- the held claim blocks a cache of this kind beside the claim, if it isn't the one in whose place that comes
+abbrev pub blocks_beside : CacheKind → Claim → Claim → Bool
+blocks_beside kind c held = not (is_its_cache (wish_of [] c) held) && blocks (cache_beside kind c) held
+
+-- the held claim blocks the cache that is reclaimed with the claim, if one is
+abbrev pub blocks_its_cache : Option CacheKind → Claim → Claim → Bool
+blocks_its_cache None c held = false
+blocks_its_cache (Some kind) c held = blocks_beside kind c held
+
+-- the least of what blocks the cache
+abbrev pub least_beside : Option CacheKind → Claim → CoreState → Option Claim
+least_beside None c s = None
+least_beside (Some kind) c s = least s.names (filter (λ held. blocks_beside kind c held) s.claims)
+
+abbrev pub first_of : Option Claim → Option Claim → Option Claim
+first_of (Some c) later = Some c
+first_of None later = later
+
+-- what stands against a reclaim: the least of what blocks the claim, caches too, or else the cache with it
+abbrev pub reclaim_blocker : Option CacheKind → Claim → CoreState → Option Claim
+reclaim_blocker beside c s = first_of (least s.names (filter (λ held. blocks c held) s.claims)) (least_beside beside c s)
+
+-- What comes of the claim of one who reclaims. It lies within what was held before, so nothing that others reclaimed may be in its
+-- way; and a delegation that is reclaimed with a share is there with it, or neither is (RFC 7530 10.2.1) (CORE-18).
+abbrev pub reclaim_by : Standing → Option CacheKind → Claim → CoreState → Option Ruling
+reclaim_by Reclaims beside c s = option_map conflicts (reclaim_blocker beside c s)
+reclaim_by _ beside c s = None
+
+abbrev pub reclaim_stop : Standing → Option CacheKind → List Claim → CoreState → Option Ruling
+reclaim_stop standing beside [] s = None
+reclaim_stop standing beside (c ∷ cs) s = reclaim_by standing beside c s
+
+unfoldable pub check_reclaim : Plea → List Claim → Step
+check_reclaim p asked s = (reclaim_stop p.standing p.beside asked s, [], s)
 
 -- ends if a claim is stopped
 unfoldable pub check_row : List Waiter → Rooms → Plea → List Claim → Step
 check_row earlier left p asked s = (first_stop earlier left p asked s, [], s)
 
--- no record is kept yet, so no store is made (CORE-16)
-unfoldable pub record_name : ℕ → Plea → Step
-record_name n p s = (None, [], s)
+-- the name is recorded before anything is granted, or nothing is granted
+abbrev pub recorded_or : Bool → Option Recorded → CoreState → Option Ruling × List Effect × CoreState
+recorded_or true name s = (None, [], recorded name s)
+recorded_or false name s = (Some (Told StoreFailed), [], unstored name s)
+
+abbrev pub recorded_by : ℕ → Option Recorded → CoreState → Option Ruling × List Effect × CoreState
+recorded_by n name s = recorded_or (may_record n s name) name s
+
+-- several claims are those of an SMB open, which no record names
+abbrev pub to_record : Option Recorded → List Claim → Option Recorded
+to_record name (c ∷ []) = name
+to_record name _ = None
+
+-- the name that the record lacks is stored in it, behind the others (CORE-16, RECORD-11)
+unfoldable pub record_name : ℕ → Plea → List Claim → Step
+record_name n p asked s = recorded_by n (to_record p.unrecorded asked) s
 
 -- all claims are held, and only now
 unfoldable pub enter_all : List Claim → CoreState → Ruled
@@ -130,7 +208,8 @@ enter_all asked s = (Gets, [], held_with asked s)
 -- What comes of a plea for these claims, behind these waiters, if this room is left in the fronts' tables and n stores
 -- succeed in the step: all of them are granted, or none (CORE-1).
 unfoldable pub judged : ℕ → List Waiter → Rooms → Plea → List Claim → CoreState → Ruled
-judged n earlier left p asked = after (check_grace p) (after (check_row earlier left p asked) (after (record_name n p) (enter_all asked)))
+judged n earlier left p asked =
+    after (check_grace p) (after (check_reclaim p asked) (after (check_row earlier left p asked) (after (record_name n p asked) (enter_all asked))))
 
 -- something held blocks the claim of one who pleads so behind these waiters, and it waits for that
 abbrev pub does_wait : List Waiter → Plea → CoreState → Claim → Bool

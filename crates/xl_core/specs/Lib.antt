@@ -1,6 +1,8 @@
 pub mod Leases
 pub mod State
 pub mod Askers
+pub mod Standings
+pub mod Stores
 pub mod Blockers
 pub mod Limits
 pub mod Judge
@@ -26,3 +28,4 @@ pub mod Dues
 pub mod Clients
 pub mod Smallest
 pub mod Ids
+pub mod Knowing

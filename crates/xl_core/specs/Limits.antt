@@ -2,6 +2,7 @@
 use Rattle.std.specs.Prelude.{◌≡◌, ℕ, ◌≤◌, Bool, true, false, ◌&&◌, ◌==◌, nat_lt, nat_le, if◌then◌else◌, List, [], ◌∷◌, Option, Some, None}
 use Rattle.std.specs.List.{list_any}
 pub use Rattle.xl_base.specs.Limits.{most_waiters, most_opens, most_owners}
+use Rattle.xl_base.specs.RecordFile.{most_record_bytes}
 use Rattle.xl_names.specs.Names.{most_names}
 use Rattle.xl_wait.specs.declared.waiter.Rooms.{Rooms}
 use Rattle.xl_table.specs.Relock.{most_claims}
@@ -10,11 +11,11 @@ abbrev pub most_hosts : ℕ
 most_hosts = 256
 
 -- each limit of a grant, the lesser first, and whether it is passed: so many rows are left and come, so many claims are
--- held afterwards, and so many names are kept (CORE-5)
-abbrev pub grant_limits : Rooms → Rooms → ℕ → ℕ → List (ℕ × Bool)
-grant_limits left rows held kept =
+-- held afterwards, the record that is stored for it has so many bytes, and so many names are kept (CORE-5)
+abbrev pub grant_limits : Rooms → Rooms → ℕ → ℕ → ℕ → List (ℕ × Bool)
+grant_limits left rows held bytes kept =
     (most_hosts, nat_lt left.hosts rows.hosts) ∷ (most_opens, nat_lt left.opens rows.opens) ∷ (most_owners, nat_lt left.owners rows.owners)
-    ∷ (most_claims, nat_lt most_claims held) ∷ (most_names, nat_lt most_names kept) ∷ []
+    ∷ (most_claims, nat_lt most_claims held) ∷ (most_record_bytes, nat_lt most_record_bytes bytes) ∷ (most_names, nat_lt most_names kept) ∷ []
 
 -- each limit of a wait, if so many wait already (CORE-5)
 abbrev pub wait_limits : Rooms → Rooms → ℕ → ℕ → List (ℕ × Bool)

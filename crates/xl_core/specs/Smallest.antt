@@ -1,5 +1,5 @@
 -- The smallest ask, at a start; and breaks that nobody answers.
-use Rattle.std.specs.Prelude.{pos, true, false, List, [], ◌∷◌, Some, None}
+use Rattle.std.specs.Prelude.{ℕ, pos, true, false, List, [], ◌∷◌, Some, None}
 use Rattle.xl_base.specs.Stable.{Stable}
 use Rattle.xl_base.specs.declared.name.Owner.TheVariants as owners
 use Rattle.xl_base.specs.declared.name.Party.TheVariants as parties
@@ -67,3 +67,7 @@ broken_delegation = record {
 -- a state at moment 0 that holds these
 abbrev pub with_claims : Stable → Times → List Claim → CoreState
 with_claims stable times claims = record (started stable (record { 0 = 0 }) times) { claims = claims; names = NfsParty [] ∷ NfsShare [] [] ∷ [] }
+
+-- a record of this epoch without names, so that no grace begins with it
+abbrev pub unnamed : ℕ → Stable
+unnamed epoch = record { epoch = epoch; names = [] }

@@ -1,6 +1,6 @@
 -- What is kept beside the state, so that not all who wait are looked at after each change: the files on which someone may
 -- wait whom nothing blocks.
-use Rattle.std.specs.Prelude.{◌≡◌, ℕ, Bool, true, false, ◌==◌, if◌then◌else◌, List, [], ◌∷◌, Option, Some, None, slice_get, take}
+use Rattle.std.specs.Prelude.{◌≡◌, ℕ, Bool, true, false, ◌==◌, if◌then◌else◌, List, [], ◌∷◌, Option, Some, None, is_some, slice_get, take}
 use Rattle.std.specs.List.{AllByRecursion, list_any}
 use Rattle.xl_matrix.specs.declared.claim.Claim.{Claim}
 use Rattle.xl_table.specs.Leaving.{goes}
@@ -105,6 +105,6 @@ IsOfFirst P (c ∷ cs) = P c
 abbrev pub IsHeldUp : Unsettled → List Waiter → CoreState → Waiter → List Claim → Type 0
 IsHeldUp unsettled earlier s w asked = IsOfFirst (λ c. is_among unsettled c.file ≡ false → is_held_up earlier s w c ≡ true) asked
 
--- who isn't held up behind those before it waits on one of these files (TABLE-17)
-abbrev pub AreHeldUp : Unsettled → CoreState → Type 0
-AreHeldUp unsettled s = AllBehind (λ earlier w. IsHeldUp unsettled earlier s w w.asked) [] s.waiters
+-- who isn't held up behind those before it waits on one of these files, unless grace runs (TABLE-17)
+unfoldable pub AreHeldUp : Unsettled → CoreState → Type 0
+AreHeldUp unsettled s = is_some s.grace ≡ false → AllBehind (λ earlier w. IsHeldUp unsettled earlier s w w.asked) [] s.waiters

@@ -1,5 +1,5 @@
 -- What the claims are once a wish for a cache is granted (MS-SMB2 3.3.5.9, RFC 7530 10.4).
-use Rattle.std.specs.Prelude.{ℕ, Bool, true, ◌&&◌, ◌==◌, nat_lt, if◌then◌else◌, List, [], ◌∷◌, length, Option, Some, None, find}
+use Rattle.std.specs.Prelude.{ℕ, Bool, true, not, ◌&&◌, ◌==◌, nat_lt, if◌then◌else◌, List, [], ◌∷◌, length, Option, Some, None, is_some, find}
 use Rattle.xl_base.specs.declared.name.Party.{Party}
 use Rattle.xl_cache.specs.Wishing.{wished_claim, is_its_cache, granted_kind}
 use Rattle.xl_cache.specs.declared.wish.Wish.{Wish}
@@ -20,10 +20,15 @@ abbrev pub has_room : Option Claim → List Claim → Bool
 has_room (Some own) held = true
 has_room None held = nat_lt (length held) most_claims
 
+-- Someone waits on the file for what the cache would keep from it. Who waits while grace runs waits for its end, and what is
+-- granted then was held before.
+abbrev pub is_waited_for : ℕ → CoreState → Bool
+is_waited_for file s = not (is_some s.grace) && waits_on file s.waiters
+
 -- The kind that the party is to have on the file from now on. A wish breaks nothing: it gets none if that takes a
 -- break, nor if someone waits on the file or there is no room (CACHE-8, CACHE-9).
 unfoldable pub wished_kind : Wish → CoreState → Option CacheKind
-wished_kind wanted s = if waits_on wanted.file s.waiters then None else if has_room (find (is_its_cache wanted) s.claims) s.claims then granted_kind wanted s.claims else None
+wished_kind wanted s = if is_waited_for wanted.file s then None else if has_room (find (is_its_cache wanted) s.claims) s.claims then granted_kind wanted s.claims else None
 
 -- the claims once the party's cache on the file, if this is what it has there, is of this kind
 abbrev pub cached : Wish → CacheKind → Option Claim → List Claim → List Claim

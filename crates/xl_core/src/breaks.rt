@@ -174,7 +174,8 @@ pub(crate) fn begin_breaks(
     ensures state { IfOk result (λ effects. breaks_begun ask.now (state_of parts.old) ≡ (effects, state_of parts.new)) }
     ensures queue { parts.new.queue ≡ parts.old.queue }
     ensures names { parts.new.names ≡ parts.old.names }
-    ensures made { parts.new.made ≡ parts.old.made }
+    ensures stable { parts.new.stable ≡ parts.old.stable }
+    ensures given { parts.new.given ≡ parts.old.given }
     ensures failed { parts.new.failed ≡ parts.old.failed }
 {
     let breaks = plan.breaks.as_slice();

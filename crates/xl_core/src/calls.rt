@@ -1,5 +1,5 @@
 //! What is done to the core, and the files that it leaves unsettled.
-ghost use Rattle.std.specs.Prelude.{◌≡◌, ℕ, ◌+◌, ◌<◌, ◌^◌, if◌then◌else◌, [], Ok, None, option_map, IfOk};
+ghost use Rattle.std.specs.Prelude.{◌≡◌, ℕ, ◌+◌, ◌<◌, ◌^◌, if◌then◌else◌, [], Ok, None, option_map, IfOk, OnOk};
 ghost use Rattle.xl_base.specs.Limits.{numbers_left};
 ghost use Rattle.xl_base.specs.Lists.{IsIn};
 ghost use Rattle.xl_core.specs.Askers.{IsFit};
@@ -9,6 +9,8 @@ ghost use Rattle.xl_core.specs.Good.{IsGood};
 ghost use Rattle.xl_core.specs.Settle.{settle, cancel, give_back, weaken, departed};
 ghost use Rattle.xl_core.specs.Ticks.{renew};
 ghost use Rattle.xl_core.specs.Unsettled.{AreHeldUp};
+ghost use Rattle.xl_core.specs.State.{MayBe, GoesOn};
+ghost use Rattle.xl_core.specs.Stores.{HandsOn};
 ghost use Rattle.xl_core.specs.Whole.{state_of};
 ghost use Rattle.xl_core.specs.declared.unsettled.Unsettled.TheVariants.{Files};
 
@@ -18,7 +20,7 @@ use crate::unsettled::{Unsettled, is_none, note, note_asked, note_left};
 use crate::{decide, leaving, settling, ticking};
 use std::alloc::{AllocError, Global};
 use std::mem;
-use xl_base::Sequence;
+use xl_base::{Keeper, Sequence};
 use xl_matrix::{CacheKind, Claim, Rwd};
 use xl_table::Leaver;
 use xl_wait::Rooms;
@@ -26,10 +28,11 @@ use xl_wait::Rooms;
 /// Answers an ask, and tells of the breaks that it begins. Its file is noted, if some began, or if it was granted what
 /// changes it.
 #[tactic(auto, using(crate::proofs::HeldUpLaws::any_up))]
-pub(crate) fn answer(
+pub(crate) fn answer<K: Keeper>(
     alloc: Global,
     parts: &mut Parts,
     unsettled: &mut Unsettled,
+    keeper: &mut K,
     left: &Rooms,
     request: &Ask,
 ) -> Result<(Answer, Sequence<Effect>), AllocError>
@@ -37,13 +40,13 @@ pub(crate) fn answer(
     requires good { IsGood (state_of parts.old) }
     requires numbers { parts.old.counter + numbers_left < 2 ^ 32 }
     requires held_up { AreHeldUp unsettled.old (state_of parts.old) }
-    ensures answer { (n : ℕ) → IfOk result (λ r. ask n left.now (state_of parts.old) request.now ≡ (r.0, r.1, state_of parts.new)) }
-    ensures made { parts.new.made ≡ parts.old.made }
-    ensures failed { parts.new.failed ≡ parts.old.failed }
+    ensures answer { (n : ℕ) → IfOk result (λ r. MayBe n (state_of parts.new) → ask n left.now (state_of parts.old) request.now ≡ (r.0, r.1, state_of parts.new)) }
+    ensures on { OnOk result (GoesOn (state_of parts.old) (state_of parts.new)) }
+    ensures keeper { OnOk result (HandsOn (state_of parts.old) (state_of parts.new) (record { held = K.held keeper.old; given = K.given keeper.old; faults = K.faults keeper.old; left = K.left keeper.old }) (record { held = K.held keeper.new; given = K.given keeper.new; faults = K.faults keeper.new; left = K.left keeper.new })) }
     ensures held_up { AreHeldUp unsettled.new (state_of parts.new) }
 {
     let before = mem::replace(unsettled, Unsettled::All);
-    let (answer, told) = decide::answer(alloc, parts, left, request)?;
+    let (answer, told) = decide::answer(alloc, parts, keeper, left, request)?;
     *unsettled = before;
     note_asked(&parts.queue, unsettled, request, answer, told.as_slice());
     Ok((answer, told))
@@ -61,26 +64,27 @@ fn left_by_turn(alloc: Global, had_turn: bool, before: Unsettled) -> Unsettled
 }
 
 /// One turn, if a waiter has one. It is looked for among those alone who wait on an unsettled file.
-pub(crate) fn settle(
+pub(crate) fn settle<K: Keeper>(
     alloc: Global,
     parts: &mut Parts,
     unsettled: &mut Unsettled,
+    keeper: &mut K,
     left: &Rooms,
 ) -> Result<Option<Sequence<Effect>>, AllocError>
     requires good { IsGood (state_of parts.old) }
     requires numbers { parts.old.counter + numbers_left < 2 ^ 32 }
     requires held_up { AreHeldUp unsettled.old (state_of parts.old) }
-    ensures turn { (n : ℕ) → IfOk result (λ r. settle n left.now (state_of parts.old) ≡ option_map (λ effects. (effects, state_of parts.new)) r) }
+    ensures turn { (n : ℕ) → IfOk result (λ r. MayBe n (state_of parts.new) → settle n left.now (state_of parts.old) ≡ option_map (λ effects. (effects, state_of parts.new)) r) }
     ensures none { result ≡ Ok None → parts.new ≡ parts.old }
-    ensures made { parts.new.made ≡ parts.old.made }
-    ensures failed { parts.new.failed ≡ parts.old.failed }
+    ensures on { OnOk result (GoesOn (state_of parts.old) (state_of parts.new)) }
+    ensures keeper { OnOk result (HandsOn (state_of parts.old) (state_of parts.new) (record { held = K.held keeper.old; given = K.given keeper.old; faults = K.faults keeper.old; left = K.left keeper.old }) (record { held = K.held keeper.new; given = K.given keeper.new; faults = K.faults keeper.new; left = K.left keeper.new })) }
     ensures held_up { AreHeldUp unsettled.new (state_of parts.new) }
 {
     if is_none(unsettled) {
         return Ok(None);
     }
     let before = mem::replace(unsettled, Unsettled::All);
-    let turn = settling::settle(alloc, parts, &before, left)?;
+    let turn = settling::settle(alloc, parts, &before, keeper, left)?;
     *unsettled = left_by_turn(alloc, turn.is_some(), before);
     Ok(turn)
 }

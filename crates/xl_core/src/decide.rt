@@ -7,10 +7,12 @@ ghost use Rattle.xl_names.specs.Names.{most_names};
 ghost use Rattle.xl_table.specs.Held.{is_range, has_one_party, IsShareOrLock, IsGrantable};
 ghost use Rattle.xl_table.specs.Relock.{most_claims};
 ghost use Rattle.xl_core.specs.Askers.{both_entered, asked_whats, asked_claims, IsFitAct, IsFit, IsOrdered, is_client, may_hold, may_hold_all};
-ghost use Rattle.xl_core.specs.Decide.{plea_of, waiter_of, waiting, claims_asked, tested, unlocked_bytes, unlocked_one, unlocked, wish_asked, decided, way, before_wish, does_wish, ask};
+ghost use Rattle.xl_core.specs.Decide.{plea_of, waiter_of, waiting, claims_asked, tested, beside_of, is_back, unlocked_bytes, unlocked_one, unlocked, wish_asked, decided, way, before_wish, does_wish, wish_after, ask};
 ghost use Rattle.xl_core.specs.Blockers.{IsKnown};
 ghost use Rattle.xl_core.specs.Good.{IsGood};
 ghost use Rattle.xl_core.specs.Judge.{IsRow};
+ghost use Rattle.xl_core.specs.State.{MayBe, GoesOn};
+ghost use Rattle.xl_core.specs.Stores.{HandsOn};
 ghost use Rattle.xl_core.specs.Whole.{state_of};
 ghost use Rattle.xl_core.specs.declared.ask.Act.TheVariants.{Ranges};
 
@@ -22,31 +24,59 @@ use crate::blockers::Passage;
 use crate::judge::{Plea, Ruling, judge_all};
 use crate::limits::{passed_by_wait, passed_by_wish};
 use crate::parts::Parts;
+use crate::standings::{is_smb, recorded_as, refusal, standing_of};
+use crate::stores::unrecorded;
 use crate::ways::make_way;
 use crate::wishes::grant_for;
 use std::alloc::{AllocError, Global};
-use xl_base::{Party, Sequence};
-use xl_matrix::{Claim, Extent, What, is_posix};
+use xl_base::{Keeper, Party, Sequence};
+use xl_matrix::{CacheKind, Claim, Extent, What, is_posix};
 use xl_table::CLAIMS;
 use xl_wait::{QueueErr, Rooms, Waiter};
 
+/// The cache that is reclaimed with what is asked for.
+fn beside_of(ask: &Ask) -> Option<CacheKind>
+    ensures { result ≡ beside_of ask.now.reclaim ask.now.wish }
+{
+    match ask.wish.as_slice() {
+        [kind, ..] if ask.reclaim => Some(*kind),
+        _ => None,
+    }
+}
+
 /// What an ask pleads.
 #[tactic(auto, unfolding(crate::specs::Decide::plea_of), using(crate::proofs::LimitLaws::wait_fits))]
-fn plea_of(parts: &Parts, left: &Rooms, ask: &Ask) -> Plea
+fn plea_of(alloc: Global, parts: &Parts, left: &Rooms, ask: &Ask) -> Result<Plea, AllocError>
     requires { is_client ask.now.owner ask.now.party ≡ true }
-    ensures plea { result ≡ plea_of left.now (state_of parts.now) ask.now }
-    ensures kept { result.kept ≡ length (both_entered ask.now parts.now.names) }
-    ensures room { result.crowded ≡ None → (length parts.now.queue < most_waiters) × (length (both_entered ask.now parts.now.names) ≤ most_names) }
+    ensures plea { IfOk result (λ p. p ≡ plea_of left.now (state_of parts.now) ask.now) }
+    ensures kept { IfOk result (λ p. p.kept ≡ length (both_entered ask.now parts.now.names)) }
+    ensures room { IfOk result (λ p. p.crowded ≡ None → (length parts.now.queue < most_waiters) × (length (both_entered ask.now parts.now.names) ≤ most_names)) }
 {
     let kept = count_names(&parts.names, ask);
-    Plea {
+    Ok(Plea {
         blocking: ask.blocking,
         awaits: ask.awaits,
-        reclaim: ask.reclaim,
+        standing: standing_of(alloc, parts, &ask.party, is_smb(&ask.party), ask.reclaim)?,
+        beside: beside_of(ask),
+        unrecorded: unrecorded(
+            &parts.stable,
+            ask.monitored,
+            recorded_as(alloc, &ask.party)?,
+        ),
         rows: ask.rows,
         kept,
         crowded: passed_by_wait(left, &ask.rows, parts.queue.len(), kept),
+    })
+}
+
+/// Notes that the client has reclaimed something in the grace that runs, if this ask is a reclaim.
+fn note_back(alloc: Global, parts: &mut Parts, ask: &Ask) -> Result<(), AllocError>
+    ensures { OnOk result (state_of parts.new ≡ is_back ask.now (state_of parts.old)) }
+{
+    if ask.reclaim {
+        parts.grace.reclaimed(&recorded_as(alloc, &ask.party)?);
     }
+    Ok(())
 }
 
 /// This party, which waits for these claims.
@@ -82,7 +112,8 @@ fn wait(alloc: Global, parts: &mut Parts, ask: &Ask, claims: &[Claim]) -> Result
     requires numbers { parts.old.counter + 1 < 2 ^ 32 }
     ensures state { IfOk result (λ answer. state_of parts.new ≡ waiting ask.now claims.now (state_of parts.old)) }
     ensures answer { IfOk result (λ answer. answer ≡ Answer.Queued (parts.old.counter + 1)) }
-    ensures made { parts.new.made ≡ parts.old.made }
+    ensures stable { parts.new.stable ≡ parts.old.stable }
+    ensures given { parts.new.given ≡ parts.old.given }
     ensures failed { parts.new.failed ≡ parts.old.failed }
 {
     let id = parts.counter + 1;
@@ -100,9 +131,10 @@ fn wait(alloc: Global, parts: &mut Parts, ask: &Ask, claims: &[Claim]) -> Result
 
 /// Answers an ask for these claims. It may be known how the way of the first stands.
 #[tactic(auto, unfolding(crate::specs::Decide::claims_asked))]
-fn ask_claims(
+fn ask_claims<K: Keeper>(
     alloc: Global,
     parts: &mut Parts,
+    keeper: &mut K,
     left: &Rooms,
     ask: &Ask,
     claims: &[Claim],
@@ -113,16 +145,17 @@ fn ask_claims(
     requires row { IsRow claims.now }
     requires party { AllByRecursion (λ c. AllByRecursion (λ d. has_one_party c d ≡ true) parts.old.table) claims.now }
     requires numbers { parts.old.counter + 1 < 2 ^ 32 }
-    ensures answer { (n : ℕ) → IfOk result (λ answer. claims_asked n left.now (state_of parts.old) ask.now claims.now ≡ (answer, [], state_of parts.new)) }
-    ensures made { parts.new.made ≡ parts.old.made }
-    ensures failed { parts.new.failed ≡ parts.old.failed }
+    ensures answer { (n : ℕ) → IfOk result (λ answer. MayBe n (state_of parts.new) → claims_asked n left.now (state_of parts.old) ask.now claims.now ≡ (answer, [], state_of parts.new)) }
+    ensures on { OnOk result (GoesOn (state_of parts.old) (state_of parts.new)) }
+    ensures keeper { OnOk result (HandsOn (state_of parts.old) (state_of parts.new) (record { held = K.held keeper.old; given = K.given keeper.old; faults = K.faults keeper.old; left = K.left keeper.old }) (record { held = K.held keeper.new; given = K.given keeper.new; faults = K.faults keeper.new; left = K.left keeper.new })) }
 {
     let [first, ..] = claims else {
         return Ok(Answer::NotHeld);
     };
-    let plea = plea_of(parts, left, ask);
-    match judge_all(alloc, parts, left, &plea, claims, known)? {
+    let plea = plea_of(alloc, parts, left, ask)?;
+    match judge_all(alloc, parts, keeper, left, &plea, claims, known)? {
         Ruling::Gets => {
+            note_back(alloc, parts, ask)?;
             enter_both(&mut parts.names, ask)?;
             Ok(Answer::Granted(*first))
         }
@@ -136,8 +169,8 @@ fn ask_claims(
 fn test(alloc: Global, parts: &Parts, ask: &Ask, claim: &Claim) -> Result<Answer, AllocError>
     ensures { IfOk result (λ answer. answer ≡ tested (state_of parts.now) ask.now claim.now) }
 {
-    if ask.reclaim {
-        return Ok(Answer::NoGrace(parts.clock));
+    if let Some(answer) = refusal(standing_of(alloc, parts, &ask.party, false, ask.reclaim)?) {
+        return Ok(answer);
     }
     Ok(match parts.table.least_range(alloc, &parts.names, claim)? {
         Some(blocker) => Answer::Conflict(blocker),
@@ -158,7 +191,8 @@ fn unlock_bytes(
     requires ends { first ≤ last }
     requires party { AllByRecursion (λ c. has_one_party claim.now c ≡ true) parts.old.table }
     ensures answer { IfOk result (λ answer. unlocked_bytes (state_of parts.old) claim.now first last ≡ (answer, [], state_of parts.new)) }
-    ensures made { parts.new.made ≡ parts.old.made }
+    ensures stable { parts.new.stable ≡ parts.old.stable }
+    ensures given { parts.new.given ≡ parts.old.given }
     ensures failed { parts.new.failed ≡ parts.old.failed }
 {
     if !parts.table.holds_byte(claim.file, claim.owner, first, last) {
@@ -182,7 +216,8 @@ fn unlock_one(
 ) -> Result<Answer, AllocError>
     requires open { posix claim.now.owner ≡ false }
     ensures answer { IfOk result (λ answer. unlocked_one (state_of parts.old) claim.now extent ≡ (answer, [], state_of parts.new)) }
-    ensures made { parts.new.made ≡ parts.old.made }
+    ensures stable { parts.new.stable ≡ parts.old.stable }
+    ensures given { parts.new.given ≡ parts.old.given }
     ensures failed { parts.new.failed ≡ parts.old.failed }
 {
     match parts.table.element_held(alloc, claim, extent)? {
@@ -207,7 +242,8 @@ fn unlock(
     requires party { AllByRecursion (λ c. has_one_party claim.now c ≡ true) parts.old.table }
     requires good { IsGood (state_of parts.old) }
     ensures answer { IfOk result (λ answer. unlocked (state_of parts.old) claim.now extent ≡ (answer, [], state_of parts.new)) }
-    ensures made { parts.new.made ≡ parts.old.made }
+    ensures stable { parts.new.stable ≡ parts.old.stable }
+    ensures given { parts.new.given ≡ parts.old.given }
     ensures failed { parts.new.failed ≡ parts.old.failed }
 {
     match extent {
@@ -229,9 +265,10 @@ fn unlock(
 }
 
 /// Answers an ask for what is to be held.
-fn ask_for(
+fn ask_for<K: Keeper>(
     alloc: Global,
     parts: &mut Parts,
+    keeper: &mut K,
     left: &Rooms,
     ask: &Ask,
     what: What,
@@ -243,18 +280,19 @@ fn ask_for(
     requires real { IsShareOrLock what }
     requires good { IsGood (state_of parts.old) }
     requires numbers { parts.old.counter + 1 < 2 ^ 32 }
-    ensures answer { (n : ℕ) → IfOk result (λ answer. claims_asked n left.now (state_of parts.old) ask.now (asked_claims ask.now (what ∷ []) parts.old.names) ≡ (answer, [], state_of parts.new)) }
-    ensures made { parts.new.made ≡ parts.old.made }
-    ensures failed { parts.new.failed ≡ parts.old.failed }
+    ensures answer { (n : ℕ) → IfOk result (λ answer. MayBe n (state_of parts.new) → claims_asked n left.now (state_of parts.old) ask.now (asked_claims ask.now (what ∷ []) parts.old.names) ≡ (answer, [], state_of parts.new)) }
+    ensures on { OnOk result (GoesOn (state_of parts.old) (state_of parts.new)) }
+    ensures keeper { OnOk result (HandsOn (state_of parts.old) (state_of parts.new) (record { held = K.held keeper.old; given = K.given keeper.old; faults = K.faults keeper.old; left = K.left keeper.old }) (record { held = K.held keeper.new; given = K.given keeper.new; faults = K.faults keeper.new; left = K.left keeper.new })) }
 {
     let claims = [asked_claim(&parts.names, ask, what)];
-    ask_claims(alloc, parts, left, ask, &claims, known)
+    ask_claims(alloc, parts, keeper, left, ask, &claims, known)
 }
 
 /// Answers an ask for ranges.
-fn ask_ranges(
+fn ask_ranges<K: Keeper>(
     alloc: Global,
     parts: &mut Parts,
+    keeper: &mut K,
     left: &Rooms,
     ask: &Ask,
     ranges: &[(Extent, bool)],
@@ -266,25 +304,34 @@ fn ask_ranges(
     requires own { may_hold_all ask.now.owner ranges.now ≡ true }
     requires good { IsGood (state_of parts.old) }
     requires numbers { parts.old.counter + 1 < 2 ^ 32 }
-    ensures answer { (n : ℕ) → IfOk result (λ answer. claims_asked n left.now (state_of parts.old) ask.now (asked_claims ask.now (asked_whats (Ranges ranges.now)) parts.old.names) ≡ (answer, [], state_of parts.new)) }
-    ensures made { parts.new.made ≡ parts.old.made }
-    ensures failed { parts.new.failed ≡ parts.old.failed }
+    ensures answer { (n : ℕ) → IfOk result (λ answer. MayBe n (state_of parts.new) → claims_asked n left.now (state_of parts.old) ask.now (asked_claims ask.now (asked_whats (Ranges ranges.now)) parts.old.names) ≡ (answer, [], state_of parts.new)) }
+    ensures on { OnOk result (GoesOn (state_of parts.old) (state_of parts.new)) }
+    ensures keeper { OnOk result (HandsOn (state_of parts.old) (state_of parts.new) (record { held = K.held keeper.old; given = K.given keeper.old; faults = K.faults keeper.old; left = K.left keeper.old }) (record { held = K.held keeper.new; given = K.given keeper.new; faults = K.faults keeper.new; left = K.left keeper.new })) }
 {
     let claims = asked_claims(alloc, &parts.names, ask, ranges)?;
-    ask_claims(alloc, parts, left, ask, &claims, known)
+    ask_claims(alloc, parts, keeper, left, ask, &claims, known)
 }
 
 /// Answers a wish by itself.
 #[tactic(auto, unfolding(crate::specs::Decide::wish_asked), using(crate::proofs::LimitLaws::wish_fits))]
-fn wish_alone(parts: &mut Parts, left: &Rooms, ask: &Ask) -> Result<Answer, AllocError>
+fn wish_alone(
+    alloc: Global,
+    parts: &mut Parts,
+    left: &Rooms,
+    ask: &Ask,
+) -> Result<Answer, AllocError>
     requires client { is_client ask.now.owner ask.now.party ≡ true }
     ensures answer { IfOk result (λ answer. wish_asked left.now (state_of parts.old) ask.now ask.now.wish ≡ (answer, [], state_of parts.new)) }
-    ensures made { parts.new.made ≡ parts.old.made }
+    ensures stable { parts.new.stable ≡ parts.old.stable }
+    ensures given { parts.new.given ≡ parts.old.given }
     ensures failed { parts.new.failed ≡ parts.old.failed }
 {
     let [kind, ..] = ask.wish.as_slice() else {
         return Ok(Answer::NotHeld);
     };
+    if let Some(answer) = refusal(standing_of(alloc, parts, &ask.party, false, ask.reclaim)?) {
+        return Ok(answer);
+    }
     let claim = asked_claim(&parts.names, ask, What::Cache(*kind, None));
     let kept = count_names(&parts.names, ask);
     if let Some(limit) = passed_by_wish(left, &ask.rows, kept) {
@@ -296,9 +343,10 @@ fn wish_alone(parts: &mut Parts, left: &Rooms, ask: &Ask) -> Result<Answer, Allo
 
 /// Answers an ask, once its way is made, of which it may be known how it stands.
 #[tactic(auto, unfolding(crate::specs::Decide::decided))]
-fn decided(
+fn decided<K: Keeper>(
     alloc: Global,
     parts: &mut Parts,
+    keeper: &mut K,
     left: &Rooms,
     request: &Ask,
     known: Option<Passage>,
@@ -307,16 +355,26 @@ fn decided(
     requires fit { IsFit request.now }
     requires good { IsGood (state_of parts.old) }
     requires numbers { parts.old.counter + 1 < 2 ^ 32 }
-    ensures answer { (n : ℕ) → IfOk result (λ answer. decided n left.now (state_of parts.old) request.now ≡ (answer, [], state_of parts.new)) }
-    ensures made { parts.new.made ≡ parts.old.made }
-    ensures failed { parts.new.failed ≡ parts.old.failed }
+    ensures answer { (n : ℕ) → IfOk result (λ answer. MayBe n (state_of parts.new) → decided n left.now (state_of parts.old) request.now ≡ (answer, [], state_of parts.new)) }
+    ensures on { OnOk result (GoesOn (state_of parts.old) (state_of parts.new)) }
+    ensures keeper { OnOk result (HandsOn (state_of parts.old) (state_of parts.new) (record { held = K.held keeper.old; given = K.given keeper.old; faults = K.faults keeper.old; left = K.left keeper.old }) (record { held = K.held keeper.new; given = K.given keeper.new; faults = K.faults keeper.new; left = K.left keeper.new })) }
 {
     match &request.act {
         Act::Share(access, deny) => {
             let what = What::Share(*access, *deny);
-            ask_for(alloc, parts, left, request, what, known)
+            ask_for(alloc, parts, keeper, left, request, what, known)
         }
-        Act::Ranges(ranges) => { ask_ranges(alloc, parts, left, request, ranges.as_slice(), known) }
+        Act::Ranges(ranges) => {
+            ask_ranges(
+                alloc,
+                parts,
+                keeper,
+                left,
+                request,
+                ranges.as_slice(),
+                known,
+            )
+        }
         Act::Test(extent, exclusive) => {
             let claim = known_claim(&parts.names, request, *extent, *exclusive);
             test(alloc, parts, request, &claim)
@@ -325,7 +383,7 @@ fn decided(
             let claim = known_claim(&parts.names, request, *extent, false);
             unlock(alloc, parts, &claim, *extent)
         }
-        Act::Wish => wish_alone(parts, left, request),
+        Act::Wish => wish_alone(alloc, parts, left, request),
     }
 }
 
@@ -344,7 +402,8 @@ fn make_way_for(
     ensures way { IfOk result (λ r. way left.now (state_of parts.old) request.now ≡ (r.0, state_of parts.new)) }
     ensures known { IfOk result (λ r. IsKnown r.1 (state_of parts.new) (asked_claims request.now (asked_whats request.now.act) parts.new.names)) }
     ensures few { OnOk result (parts.new.counter ≤ parts.old.counter + most_claims) }
-    ensures made { parts.new.made ≡ parts.old.made }
+    ensures stable { parts.new.stable ≡ parts.old.stable }
+    ensures given { parts.new.given ≡ parts.old.given }
     ensures failed { parts.new.failed ≡ parts.old.failed }
 {
     if !parts.table.has_cache(request.file) {
@@ -353,12 +412,12 @@ fn make_way_for(
     match &request.act {
         Act::Share(access, deny) => {
             let claims = [asked_claim(&parts.names, request, What::Share(*access, *deny))];
-            let plea = plea_of(parts, left, request);
+            let plea = plea_of(alloc, parts, left, request)?;
             make_way(alloc, parts, &plea, &claims)
         }
         Act::Ranges(ranges) => {
             let claims = asked_claims(alloc, &parts.names, request, ranges.as_slice())?;
-            let plea = plea_of(parts, left, request);
+            let plea = plea_of(alloc, parts, left, request)?;
             make_way(alloc, parts, &plea, &claims)
         }
         _ => Ok((Sequence::new(alloc), None)),
@@ -371,25 +430,43 @@ fn does_wish(act: &Act) -> bool
     matches!(act, Act::Share(_, _) | Act::Wish)
 }
 
-/// Answers an ask, tells of the breaks that it begins, and grants its wish if it is granted.
-#[tactic(auto, unfolding(crate::specs::Decide::before_wish, crate::specs::Decide::ask))]
-pub(crate) fn answer(
+/// Grants the wish of an ask that is answered so, if it is granted and its wish comes with what it asks for.
+fn wish_after(
     alloc: Global,
     parts: &mut Parts,
+    request: &Ask,
+    answer: Answer,
+) -> Result<(), AllocError>
+    ensures state { OnOk result (state_of parts.new ≡ wish_after request.now answer (state_of parts.old)) }
+    ensures stable { parts.new.stable ≡ parts.old.stable }
+    ensures given { parts.new.given ≡ parts.old.given }
+    ensures failed { parts.new.failed ≡ parts.old.failed }
+{
+    if does_wish(&request.act) {
+        grant_for(alloc, parts, request.wish.as_slice(), answer)
+    } else {
+        Ok(())
+    }
+}
+
+/// Answers an ask, tells of the breaks that it begins, and grants its wish if it is granted.
+#[tactic(auto, unfolding(crate::specs::Decide::before_wish, crate::specs::Decide::ask))]
+pub(crate) fn answer<K: Keeper>(
+    alloc: Global,
+    parts: &mut Parts,
+    keeper: &mut K,
     left: &Rooms,
     request: &Ask,
 ) -> Result<(Answer, Sequence<Effect>), AllocError>
     requires fit { IsFit request.now }
     requires good { IsGood (state_of parts.old) }
     requires numbers { parts.old.counter + numbers_left < 2 ^ 32 }
-    ensures answer { (n : ℕ) → IfOk result (λ r. ask n left.now (state_of parts.old) request.now ≡ (r.0, r.1, state_of parts.new)) }
-    ensures made { parts.new.made ≡ parts.old.made }
-    ensures failed { parts.new.failed ≡ parts.old.failed }
+    ensures answer { (n : ℕ) → IfOk result (λ r. MayBe n (state_of parts.new) → ask n left.now (state_of parts.old) request.now ≡ (r.0, r.1, state_of parts.new)) }
+    ensures on { OnOk result (GoesOn (state_of parts.old) (state_of parts.new)) }
+    ensures keeper { OnOk result (HandsOn (state_of parts.old) (state_of parts.new) (record { held = K.held keeper.old; given = K.given keeper.old; faults = K.faults keeper.old; left = K.left keeper.old }) (record { held = K.held keeper.new; given = K.given keeper.new; faults = K.faults keeper.new; left = K.left keeper.new })) }
 {
     let (told, known) = make_way_for(alloc, parts, left, request)?;
-    let answer = decided(alloc, parts, left, request, known)?;
-    if does_wish(&request.act) {
-        grant_for(alloc, parts, request.wish.as_slice(), answer)?;
-    }
+    let answer = decided(alloc, parts, keeper, left, request, known)?;
+    wish_after(alloc, parts, request, answer)?;
     Ok((answer, told))
 }

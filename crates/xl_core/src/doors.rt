@@ -2,7 +2,7 @@
 ghost use Rattle.std.specs.Prelude.{◌≡◌, ℕ, ◌+◌, ◌<◌, ◌^◌, true, List, Option, Some, None, Ok, option_map, OnOk, IfOk};
 ghost use Rattle.xl_base.specs.Limits.{numbers_left};
 ghost use Rattle.xl_base.specs.Lists.{IsIn};
-ghost use Rattle.xl_base.specs.Outside.{HandedOn};
+ghost use Rattle.xl_grace.specs.Grace.{begun};
 ghost use Rattle.xl_wait.specs.Waiting.{is_waiting};
 ghost use Rattle.xl_core.specs.State.{started, step_begun, drawn, MayBe, GoesOn};
 ghost use Rattle.xl_core.specs.Askers.{IsFit};
@@ -11,6 +11,7 @@ ghost use Rattle.xl_core.specs.Decide.{ask};
 ghost use Rattle.xl_core.specs.Settle.{settle, cancel, give_back, share_has, weaken, end_party, close_open};
 ghost use Rattle.xl_core.specs.BreakAnswers.{may_be_left, ack};
 ghost use Rattle.xl_core.specs.Ticks.{renew, tick};
+ghost use Rattle.xl_core.specs.Stores.{HandsOn};
 ghost use Rattle.xl_core.specs.Whole.{state_of};
 
 use crate::ask::{Answer, Ask, Effect};
@@ -22,6 +23,7 @@ use indexmap::IndexMap;
 use std::alloc::{AllocError, Global};
 use std::marker::Model;
 use xl_base::{Keeper, Moment, Party, Record, Sequence};
+use xl_grace::Grace;
 use xl_matrix::{CacheKind, Claim, Rwd};
 use xl_names::Names;
 use xl_table::{Leaver, Table};
@@ -49,9 +51,11 @@ impl Model for Core {
 }
 
 impl Core {
-    /// The core at a start, with the record as it is stored: nothing is held, nobody waits, no lease runs. It takes no memory.
+    /// The core at a start, with the record as it is stored and the grace that begins with it: nothing is held, nobody waits, no
+    /// lease runs. It takes no memory.
     #[tactic(auto, using(crate::proofs::GoodLaws::started_good))]
-    pub fn new(alloc: Global, stable: Record, clock: Moment, times: Times) -> Core
+    pub fn new(alloc: Global, stable: Record, grace: Grace, clock: Moment, times: Times) -> Core
+        requires grace { grace ≡ begun stable clock times.grace }
         ensures state { result ≡ started stable clock times }
         ensures good { IsGood result }
     {
@@ -61,12 +65,13 @@ impl Core {
                 queue: Queue::new(alloc),
                 names: Names::new(alloc),
                 stable,
+                grace,
                 clock,
                 times,
                 leases: IndexMap::new(alloc),
                 counter: 0,
-                made: 0,
                 failed: false,
+                given: Vec::new(alloc),
             },
             unsettled: Unsettled::Files(Sequence::new(alloc)),
         }
@@ -121,6 +126,13 @@ impl Core {
         &self.parts.stable
     }
 
+    /// How many stores this step made.
+    pub fn made(&self) -> u64
+        ensures { result ≡ self.now.made }
+    {
+        self.parts.made()
+    }
+
     /// Begins a step: from now on its stores are counted, and none has failed. It takes no memory.
     #[tactic(auto, using(crate::proofs::GoodLaws::begun_good))]
     pub fn begin_step(&mut self)
@@ -131,12 +143,13 @@ impl Core {
     }
 
     /// Answers an ask, and tells what else happened. `left` is the room that is left in the tables of the fronts. At least
-    /// 65,536 numbers must be left to give out. No ask stores the record yet.
+    /// 65,536 numbers must be left to give out. The name of one who is monitored is stored in the record before the grant, if the
+    /// record lacks it; StoreFailed comes only if the keeper's count of faults rose in this step.
     #[tactic(auto, using(crate::proofs::DoorLaws::ask_keeps))]
     pub fn ask<K: Keeper>(
         &mut self,
         alloc: Global,
-        _keeper: &mut K,
+        keeper: &mut K,
         request: &Ask,
         left: &Rooms,
     ) -> Result<(Answer, Sequence<Effect>), AllocError>
@@ -146,9 +159,16 @@ impl Core {
         ensures state { (n : ℕ) → IfOk result (λ r. MayBe n self.new → ask n left.now self.old request.now ≡ (r.0, r.1, self.new)) }
         ensures on { OnOk result (GoesOn self.old self.new) }
         ensures good { OnOk result (IsGood self.new) }
-        ensures keeper { HandedOn _keeper.old _keeper.new }
+        ensures keeper { OnOk result (HandsOn self.old self.new (record { held = K.held keeper.old; given = K.given keeper.old; faults = K.faults keeper.old; left = K.left keeper.old }) (record { held = K.held keeper.new; given = K.given keeper.new; faults = K.faults keeper.new; left = K.left keeper.new })) }
     {
-        let answered = calls::answer(alloc, &mut self.parts, &mut self.unsettled, left, request)?;
+        let answered = calls::answer(
+            alloc,
+            &mut self.parts,
+            &mut self.unsettled,
+            keeper,
+            left,
+            request,
+        )?;
         Ok(answered)
     }
 
@@ -159,7 +179,7 @@ impl Core {
     pub fn settle<K: Keeper>(
         &mut self,
         alloc: Global,
-        _keeper: &mut K,
+        keeper: &mut K,
         left: &Rooms,
     ) -> Result<Option<Sequence<Effect>>, AllocError>
         requires good { IsGood self.old }
@@ -168,9 +188,9 @@ impl Core {
         ensures none { result ≡ Ok None → self.new ≡ self.old }
         ensures on { OnOk result (GoesOn self.old self.new) }
         ensures good { OnOk result (IsGood self.new) }
-        ensures keeper { HandedOn _keeper.old _keeper.new }
+        ensures keeper { OnOk result (HandsOn self.old self.new (record { held = K.held keeper.old; given = K.given keeper.old; faults = K.faults keeper.old; left = K.left keeper.old }) (record { held = K.held keeper.new; given = K.given keeper.new; faults = K.faults keeper.new; left = K.left keeper.new })) }
     {
-        let turn = calls::settle(alloc, &mut self.parts, &mut self.unsettled, left)?;
+        let turn = calls::settle(alloc, &mut self.parts, &mut self.unsettled, keeper, left)?;
         Ok(turn)
     }
 
@@ -291,21 +311,23 @@ impl Core {
     /// Sets the clock to this moment, if that is later than what it shows. Then each break whose deadline has come is over, in
     /// the order of the deadlines, those of one deadline by the file and the text of the party: an SMB cache goes (MS-SMB2
     /// 3.3.6.1), and the client of a delegation expires (RFC 7530 10.4.6). Then each client whose lease has ended expires, in
-    /// the order of their id strings by bytes. A client that expires loses all that it has, and that is told. No expiry stores
-    /// the record yet.
-    #[tactic(auto, using(crate::proofs::GoodLaws::tick_good))]
+    /// the order of their id strings by bytes. A client that expires loses all that it has, and that is told. Before that
+    /// the record without it is stored, if it has it; if that fails all stays, and the next reading tries again. Last the grace that
+    /// runs ends, if its end has come and the record without the names that reclaimed nothing is stored.
     pub fn tick<K: Keeper>(
         &mut self,
         alloc: Global,
-        _keeper: &mut K,
+        keeper: &mut K,
         now: Moment,
     ) -> Result<Sequence<Effect>, AllocError>
         requires good { IsGood self.old }
-        ensures state { IfOk result (λ effects. tick self.old now ≡ (effects, self.new)) }
+        ensures state { (n : ℕ) → IfOk result (λ effects. MayBe n self.new → tick n self.old now ≡ (effects, self.new)) }
+        ensures on { OnOk result (GoesOn self.old self.new) }
         ensures good { OnOk result (IsGood self.new) }
-        ensures keeper { HandedOn _keeper.old _keeper.new }
+        ensures keeper { OnOk result (HandsOn self.old self.new (record { held = K.held keeper.old; given = K.given keeper.old; faults = K.faults keeper.old; left = K.left keeper.old }) (record { held = K.held keeper.new; given = K.given keeper.new; faults = K.faults keeper.new; left = K.left keeper.new })) }
     {
-        ticking::tick(alloc, &mut self.parts, &mut self.unsettled, now)
+        let effects = ticking::tick(alloc, &mut self.parts, &mut self.unsettled, keeper, now)?;
+        Ok(effects)
     }
 }
 
@@ -323,6 +345,6 @@ fn draw(parts: &mut Parts) -> u32
 fn begin_step(parts: &mut Parts)
     ensures { state_of parts.new ≡ step_begun (state_of parts.old) }
 {
-    parts.made = 0;
     parts.failed = false;
+    parts.given.clear();
 }

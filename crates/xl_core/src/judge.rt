@@ -1,21 +1,29 @@
 //! The order of decisions, read for those who ask and for those who wait.
-ghost use Rattle.std.specs.Prelude.{◌≡◌, ℕ, ◌≤◌, List, [], ◌∷◌, length, true, false, Option, Some, None, Ok, IfOk, IfSome};
+ghost use Rattle.std.specs.Prelude.{◌≡◌, ℕ, ◌≤◌, List, [], ◌∷◌, length, true, false, Option, Some, None, Ok, IfOk, IfSome, if◌then◌else◌, OnOk};
 ghost use Rattle.std.specs.List.{AllByRecursion};
 ghost use Rattle.xl_table.specs.Held.{has_one_party, IsGrantable, IsKept};
 ghost use Rattle.xl_table.specs.Relock.{granted_claims, most_claims};
 ghost use Rattle.xl_wait.specs.declared.waiter.Waiter.{Waiter};
 ghost use Rattle.xl_core.specs.Blockers.{passage_of, IsKnown};
-ghost use Rattle.xl_core.specs.Judge.{check_grace, stopped, waits, check_held, kept_off, check_caches, check_room, at_once, judged, or_else, stop_of, stop_by, first_stop, stop_left, IsRow, IsFew};
+ghost use Rattle.xl_core.specs.Judge.{after, check_grace, check_reclaim, check_row, recorded_by, record_name, enter_all, stopped, waits, check_held, kept_off, check_caches, check_room, at_once, judged, or_else, stop_of, stop_by, first_stop, stop_left, IsRow, IsFew};
+ghost use Rattle.xl_base.specs.Stable.{is_recordable, is_recorded};
+ghost use Rattle.xl_core.specs.State.{CoreState, MayBe, GoesOn};
+ghost use Rattle.xl_core.specs.Stores.{HandsOn};
+ghost use Rattle.xl_core.specs.declared.ask.Answer.TheVariants.{StoreFailed};
 ghost use Rattle.xl_core.specs.Whole.{state_of};
 ghost use Rattle.xl_core.specs.declared.judge.Ruling.{Ruling};
-ghost use Rattle.xl_core.specs.declared.judge.Ruling.TheVariants.{Gets, Waits};
+ghost use Rattle.xl_core.specs.declared.judge.Ruling.TheVariants.{Gets, Waits, Told};
 
 use crate::ask::Answer;
 use crate::blockers::{Passage, cache_in, look};
 use crate::limits::passed_by_grant;
 use crate::parts::Parts;
+use crate::reclaims::{held_then, reclaim_blocker};
+use crate::standings::Standing;
+use crate::stores::{bytes_with, store, with_name};
 use std::alloc::{AllocError, Global};
-use xl_matrix::Claim;
+use xl_base::{Keeper, Recorded};
+use xl_matrix::{CacheKind, Claim};
 use xl_table::Change;
 use xl_wait::Rooms;
 
@@ -31,32 +39,24 @@ pub(crate) enum Ruling {
 }
 
 /// What is judged besides the claims: of one who asks, or of one who waits already.
-#[derive(Clone, Copy)]
+#[derive(Drop)]
 pub(crate) struct Plea {
     /// Whether it waits if something held blocks it for good.
     pub blocking: bool,
     /// Whether it waits for the answer to a break.
     pub awaits: bool,
-    /// Whether it claims again what it had before a restart.
-    pub reclaim: bool,
+    /// How it stands to grace.
+    pub standing: Standing,
+    /// The cache that is reclaimed with what is asked for.
+    pub beside: Option<CacheKind>,
+    /// The name that is to be recorded before the grant.
+    pub unrecorded: Option<Recorded>,
     /// The rows of the fronts' tables that its grant adds.
     pub rows: Rooms,
     /// How many names are kept once it is granted or waits.
     pub kept: usize,
     /// The least limit that its wait would pass; None of one who waits already.
     pub crowded: Option<u32>,
-}
-
-/// No grace runs, so a reclaim comes too late.
-#[tactic(auto, unfolding(crate::specs::Judge::check_grace))]
-fn check_grace(parts: &Parts, plea: &Plea) -> Option<Ruling>
-    ensures ruling { check_grace plea.now (state_of parts.now) ≡ (result, [], state_of parts.now) }
-    ensures told { IfSome result (λ r. (r ≡ Gets → ⊥) × (r ≡ Waits → ⊥)) }
-{
-    if plea.reclaim {
-        return Some(Ruling::Told(Answer::NoGrace(parts.clock)));
-    }
-    None
 }
 
 /// Who may wait waits, if its wait passes no limit.
@@ -66,6 +66,45 @@ fn wait_for(plea: &Plea) -> Ruling
     match plea.crowded {
         Some(limit) => Ruling::Told(Answer::Full(limit)),
         None => Ruling::Waits,
+    }
+}
+
+/// Grace lets nobody in but those who reclaim.
+#[tactic(auto, unfolding(crate::specs::Judge::check_grace))]
+fn check_grace(plea: &Plea) -> Option<Ruling>
+    ensures ruling { (s : CoreState) → check_grace plea.now s ≡ (result, [], s) }
+    ensures gets { result ≡ Some Gets → ⊥ }
+    ensures waits { result ≡ Some Waits → plea.now.crowded ≡ None }
+{
+    match plea.standing {
+        Standing::Timely | Standing::Reclaims => None,
+        Standing::Stays => Some(wait_for(plea)),
+        Standing::Early(until) => Some(Ruling::Told(Answer::Grace(until))),
+        Standing::Late(clock) => Some(Ruling::Told(Answer::NoGrace(clock))),
+        Standing::Unrecorded => Some(Ruling::Told(Answer::NotRecorded)),
+    }
+}
+
+/// Anything held that blocks a claim which is reclaimed, or the cache that is reclaimed with it, is a conflict.
+#[tactic(auto, unfolding(crate::specs::Judge::check_reclaim))]
+fn check_reclaim(
+    alloc: Global,
+    parts: &Parts,
+    plea: &Plea,
+    claims: &[Claim],
+) -> Result<Option<Ruling>, AllocError>
+    ensures ruling { IfOk result (λ r. check_reclaim plea.now claims.now (state_of parts.now) ≡ (r, [], state_of parts.now)) }
+    ensures told { IfOk result (λ o. IfSome o (λ r. (r ≡ Gets → ⊥) × (r ≡ Waits → ⊥))) }
+{
+    if !matches!(plea.standing, Standing::Reclaims) {
+        return Ok(None);
+    }
+    let [claim, ..] = claims else {
+        return Ok(None);
+    };
+    match reclaim_blocker(alloc, parts, plea.beside, claim)? {
+        Some(blocker) => Ok(Some(Ruling::Told(Answer::Conflict(blocker)))),
+        None => Ok(None),
     }
 }
 
@@ -149,7 +188,9 @@ fn at_once(plea: &Plea) -> Plea
     Plea {
         blocking: false,
         awaits: false,
-        reclaim: plea.reclaim,
+        standing: plea.standing,
+        beside: None,
+        unrecorded: None,
         rows: plea.rows,
         kept: plea.kept,
         crowded: plea.crowded,
@@ -159,19 +200,22 @@ fn at_once(plea: &Plea) -> Plea
 /// The least limit that the claim passes.
 #[tactic(auto, unfolding(crate::specs::Judge::check_room))]
 fn check_room(
+    alloc: Global,
     parts: &Parts,
     left: &Rooms,
     plea: &Plea,
     claim: &Claim,
     change: &Change,
-) -> Option<Ruling>
+) -> Result<Option<Ruling>, AllocError>
     requires change { change.now.held ≡ length (granted_claims claim.now parts.now.table) }
-    ensures room { check_room left.now plea.now claim.now (state_of parts.now) ≡ result }
-    ensures fits { result ≡ None → change.now.held ≤ most_claims }
+    ensures room { IfOk result (λ r. check_room left.now plea.now claim.now (state_of parts.now) ≡ r) }
+    ensures fits { result ≡ Ok None → change.now.held ≤ most_claims }
 {
-    match passed_by_grant(left, &plea.rows, change.held, plea.kept) {
-        Some(limit) => Some(Ruling::Told(Answer::Full(limit))),
-        None => None,
+    let held = held_then(alloc, parts, plea.beside, claim, change.held)?;
+    let bytes = bytes_with(&parts.stable, &plea.unrecorded);
+    match passed_by_grant(left, &plea.rows, held, bytes, plea.kept) {
+        Some(limit) => Ok(Some(Ruling::Told(Answer::Full(limit)))),
+        None => Ok(None),
     }
 }
 
@@ -194,14 +238,15 @@ fn judge_one(
     ensures queue { parts.new.queue ≡ parts.old.queue }
     ensures names { parts.new.names ≡ parts.old.names }
     ensures counter { parts.new.counter ≡ parts.old.counter }
-    ensures made { parts.new.made ≡ parts.old.made }
+    ensures stable { parts.new.stable ≡ parts.old.stable }
+    ensures given { parts.new.given ≡ parts.old.given }
     ensures failed { parts.new.failed ≡ parts.old.failed }
 {
     if let Some(ruling) = check_known(alloc, parts, plea, claim, known)? {
         return Ok(Some(ruling));
     }
     let change = parts.table.granted(alloc, claim)?;
-    if let Some(ruling) = check_room(parts, left, plea, claim, &change) {
+    if let Some(ruling) = check_room(alloc, parts, left, plea, claim, &change)? {
         return Ok(Some(ruling));
     }
     parts.table.write(&change)?;
@@ -226,7 +271,8 @@ fn judge_row(
     ensures queue { parts.new.queue ≡ parts.old.queue }
     ensures names { parts.new.names ≡ parts.old.names }
     ensures counter { parts.new.counter ≡ parts.old.counter }
-    ensures made { parts.new.made ≡ parts.old.made }
+    ensures stable { parts.new.stable ≡ parts.old.stable }
+    ensures given { parts.new.given ≡ parts.old.given }
     ensures failed { parts.new.failed ≡ parts.old.failed }
 {
     let [claim, rest @ ..] = claims else {
@@ -242,12 +288,78 @@ fn judge_row(
     Ok(None)
 }
 
+/// Stores the name that is to be recorded before the grant, if there is one, and whether all is as it is to be then.
+#[tactic(auto, unfolding(crate::specs::Stores::stored, crate::specs::Stores::store_failed), using(crate::proofs::RowLaws::recorded_some))]
+fn record_name<K: Keeper>(
+    alloc: Global,
+    parts: &mut Parts,
+    keeper: &mut K,
+    plea: &Plea,
+) -> Result<bool, AllocError>
+    requires new { IfSome plea.now.unrecorded (λ name. (is_recordable name ≡ true) × (is_recorded name parts.old.stable.names ≡ false)) }
+    ensures recorded { (n : ℕ) → IfOk result (λ ok. MayBe n (state_of parts.new) → recorded_by n plea.now.unrecorded (state_of parts.old) ≡ (if ok then None else Some (Told StoreFailed), [], state_of parts.new)) }
+    ensures table { OnOk result (parts.new.table ≡ parts.old.table) }
+    ensures queue { OnOk result (parts.new.queue ≡ parts.old.queue) }
+    ensures names { OnOk result (parts.new.names ≡ parts.old.names) }
+    ensures counter { OnOk result (parts.new.counter ≡ parts.old.counter) }
+    ensures on { OnOk result (GoesOn (state_of parts.old) (state_of parts.new)) }
+    ensures keeper { OnOk result (HandsOn (state_of parts.old) (state_of parts.new) (record { held = K.held keeper.old; given = K.given keeper.old; faults = K.faults keeper.old; left = K.left keeper.old }) (record { held = K.held keeper.new; given = K.given keeper.new; faults = K.faults keeper.new; left = K.left keeper.new })) }
+{
+    let Some(name) = &plea.unrecorded else {
+        return Ok(true);
+    };
+    let same = name.copy(alloc)?;
+    let longer = with_name(alloc, &parts.stable, same)?;
+    let ok = store(alloc, parts, keeper, longer)?;
+    Ok(ok)
+}
+
+/// What comes of a plea for one claim alone: what stops it is looked for, then the name is recorded, and only then is the claim
+/// held.
+#[tactic(auto, unfolding(crate::specs::Judge::check_row, crate::specs::Judge::record_name, crate::specs::Judge::enter_all, crate::specs::Judge::held_with))]
+fn judge_alone<K: Keeper>(
+    alloc: Global,
+    parts: &mut Parts,
+    keeper: &mut K,
+    left: &Rooms,
+    plea: &Plea,
+    claim: &Claim,
+    known: Option<Passage>,
+) -> Result<Ruling, AllocError>
+    requires known { IfSome known (λ passage. passage ≡ passage_of [] (state_of parts.old) claim.now) }
+    requires grantable { IsGrantable claim.now }
+    requires party { AllByRecursion (λ c. has_one_party claim.now c ≡ true) parts.old.table }
+    requires new { IfSome plea.now.unrecorded (λ name. (is_recordable name ≡ true) × (is_recorded name parts.old.stable.names ≡ false)) }
+    ensures ruled { (n : ℕ) (earlier : List Waiter) → IfOk result (λ r. MayBe n (state_of parts.new) → after (check_row earlier left.now plea.now (claim.now ∷ [])) (after (record_name n plea.now (claim.now ∷ [])) (enter_all (claim.now ∷ []))) (state_of parts.old) ≡ (r, [], state_of parts.new)) }
+    ensures few { result ≡ Ok Gets → IsFew plea.now (claim.now ∷ []) }
+    ensures waits { result ≡ Ok Waits → plea.now.crowded ≡ None }
+    ensures queue { OnOk result (parts.new.queue ≡ parts.old.queue) }
+    ensures names { OnOk result (parts.new.names ≡ parts.old.names) }
+    ensures counter { OnOk result (parts.new.counter ≡ parts.old.counter) }
+    ensures on { OnOk result (GoesOn (state_of parts.old) (state_of parts.new)) }
+    ensures keeper { OnOk result (HandsOn (state_of parts.old) (state_of parts.new) (record { held = K.held keeper.old; given = K.given keeper.old; faults = K.faults keeper.old; left = K.left keeper.old }) (record { held = K.held keeper.new; given = K.given keeper.new; faults = K.faults keeper.new; left = K.left keeper.new })) }
+{
+    if let Some(ruling) = check_known(alloc, parts, plea, claim, known)? {
+        return Ok(ruling);
+    }
+    let change = parts.table.granted(alloc, claim)?;
+    if let Some(ruling) = check_room(alloc, parts, left, plea, claim, &change)? {
+        return Ok(ruling);
+    }
+    if !record_name(alloc, parts, keeper, plea)? {
+        return Ok(Ruling::Told(Answer::StoreFailed));
+    }
+    parts.table.write(&change)?;
+    Ok(Ruling::Gets)
+}
+
 /// What comes of a plea for these claims, of which there is one at least. It may be known how the way of the first stands.
 /// Only what is held changes.
 #[tactic(auto, unfolding(crate::specs::Judge::judged, crate::specs::Judge::check_row, crate::specs::Judge::record_name, crate::specs::Judge::enter_all))]
-pub(crate) fn judge_all(
+pub(crate) fn judge_all<K: Keeper>(
     alloc: Global,
     parts: &mut Parts,
+    keeper: &mut K,
     left: &Rooms,
     plea: &Plea,
     claims: &[Claim],
@@ -256,20 +368,25 @@ pub(crate) fn judge_all(
     requires known { IsKnown known (state_of parts.old) claims.now }
     requires row { IsRow claims.now }
     requires party { AllByRecursion (λ c. AllByRecursion (λ d. has_one_party c d ≡ true) parts.old.table) claims.now }
-    ensures judged { (n : ℕ) (earlier : List Waiter) → IfOk result (λ r. judged n earlier left.now plea.now claims.now (state_of parts.old) ≡ (r, [], state_of parts.new)) }
+    requires new { IfSome plea.now.unrecorded (λ name. (is_recordable name ≡ true) × (is_recorded name parts.old.stable.names ≡ false)) }
+    ensures judged { (n : ℕ) (earlier : List Waiter) → IfOk result (λ r. MayBe n (state_of parts.new) → judged n earlier left.now plea.now claims.now (state_of parts.old) ≡ (r, [], state_of parts.new)) }
     ensures few { result ≡ Ok Gets → IsFew plea.now claims.now }
     ensures waits { result ≡ Ok Waits → plea.now.crowded ≡ None }
-    ensures queue { parts.new.queue ≡ parts.old.queue }
-    ensures names { parts.new.names ≡ parts.old.names }
-    ensures counter { parts.new.counter ≡ parts.old.counter }
-    ensures made { parts.new.made ≡ parts.old.made }
-    ensures failed { parts.new.failed ≡ parts.old.failed }
+    ensures queue { OnOk result (parts.new.queue ≡ parts.old.queue) }
+    ensures names { OnOk result (parts.new.names ≡ parts.old.names) }
+    ensures counter { OnOk result (parts.new.counter ≡ parts.old.counter) }
+    ensures on { OnOk result (GoesOn (state_of parts.old) (state_of parts.new)) }
+    ensures keeper { OnOk result (HandsOn (state_of parts.old) (state_of parts.new) (record { held = K.held keeper.old; given = K.given keeper.old; faults = K.faults keeper.old; left = K.left keeper.old }) (record { held = K.held keeper.new; given = K.given keeper.new; faults = K.faults keeper.new; left = K.left keeper.new })) }
 {
-    if let Some(ruling) = check_grace(parts, plea) {
+    if let Some(ruling) = check_grace(plea) {
         return Ok(ruling);
     }
-    if let Some(ruling) = judge_row(alloc, parts, left, plea, claims, known)? {
+    if let Some(ruling) = check_reclaim(alloc, parts, plea, claims)? {
         return Ok(ruling);
     }
-    Ok(Ruling::Gets)
+    if let [claim] = claims {
+        return judge_alone(alloc, parts, keeper, left, plea, claim, known);
+    }
+    let stop = judge_row(alloc, parts, left, plea, claims, known)?;
+    Ok(stop.unwrap_or(Ruling::Gets))
 }

@@ -17,7 +17,6 @@ ghost use Rattle.xl_matrix.specs.Matrix.{compat};
 ghost use Rattle.xl_matrix.specs.Weaker.{weaker};
 ghost use Rattle.xl_table.specs.Flat.{inserted, removed, changed, with_what};
 ghost use Rattle.xl_table.specs.Least.{range_before, least};
-ghost use Rattle.xl_table.specs.Flat.{is_blocked};
 ghost use Rattle.xl_table.specs.Relock.{most_claims, with_share, shares_of, old_shares, unites, united_by};
 ghost use Rattle.xl_names.specs.declared.name.Name.{Name};
 ghost use Rattle.xl_spans.specs.Spans.{relocked};
@@ -25,9 +24,11 @@ ghost use Rattle.xl_table.specs.Held.{is_cache, mode_of, is_of, spans_of};
 ghost use Rattle.xl_wait.specs.Waiting.{is_waiting, cancelled};
 ghost use Rattle.xl_wait.specs.declared.waiter.Rooms.{Rooms};
 ghost use Rattle.xl_wait.specs.declared.waiter.Waiter.{Waiter};
-ghost use Rattle.xl_core.specs.State.{CoreState, started, step_begun, drawn};
+ghost use Rattle.xl_core.specs.State.{CoreState, aside_of, started, step_begun, drawn};
+ghost use Rattle.xl_core.specs.Standings.{stands, is_smb, enters};
+ghost use Rattle.xl_core.specs.Stores.{may_record};
 ghost use Rattle.xl_core.specs.Askers.{asker, asking_party, asked_whats, asked_what, asked_claim, asked_claims, known_claim, is_named, IsFit};
-ghost use Rattle.xl_core.specs.Causes.{IsSameAsker, IsConflict, limits_of_grant, IsClaimDue, IsTestDue, IsUnlockDue, IsWishDue, IsTurn, IsOwn};
+ghost use Rattle.xl_core.specs.Causes.{IsSameAsker, IsConflict, limits_of_grant, IsFree, wanted, noted_by, IsClaimDue, IsTestDue, IsUnlockDue, IsWishDue, IsTurn, IsOwn};
 ghost use Rattle.xl_core.specs.Decide.{waiter_of, way, ask};
 ghost use Rattle.xl_core.specs.Frames.{calls_in, drawn_by, names_after, come_by, who_left, serves_none, IsFrame, IsRenewed, IsTicked};
 ghost use Rattle.xl_core.specs.Good.{IsHeld, IsGood, IsSettled, holding, caches_of};
@@ -62,7 +63,7 @@ pub fn stays_good()
     ensures ended { (s : CoreState) (party : Party) → IsGood s → IsGood (end_party s party).1 }
     ensures closed { (s : CoreState) (number : ℕ) (party : Option Party) → IsGood s → IsGood (close_open s number party).1 }
     ensures renewed { (s : CoreState) (client : List ℕ) → IsGood s → IsGood (renew s client).1 }
-    ensures ticked { (s : CoreState) (now : Moment) → IsGood s → IsGood (tick s now).1 }
+    ensures ticked { (n : ℕ) (s : CoreState) (now : Moment) → IsGood s → IsGood (tick n s now).1 }
 {}
 
 /// The state stays good if a cache that its party may have comes to be held beside claims with which it goes, and there
@@ -93,7 +94,7 @@ pub fn breaks_may_begin()
 /// of several limits the least is answered. Of the claims that block an ask the one that is answered is held, and none
 /// of the others comes before it; the break of a cache that is answered runs by then.
 pub fn answers_have_causes()
-    ensures claims { (n : ℕ) (left : Rooms) (s : CoreState) (a : Ask) (what : What) (answer : Answer) → asked_what a.act ≡ Some what → ((ask n left s a).0 ≡ answer) ↔ IsClaimDue left (way left s a).1 a (asked_claim a what s.names) answer }
+    ensures claims { (n : ℕ) (left : Rooms) (s : CoreState) (a : Ask) (what : What) (answer : Answer) → asked_what a.act ≡ Some what → ((ask n left s a).0 ≡ answer) ↔ IsClaimDue n left (way left s a).1 a (asked_claim a what s.names) answer }
     ensures recalls { (n : ℕ) (left : Rooms) (s : CoreState) (a : Ask) (what : What) (c : Claim) → asked_what a.act ≡ Some what → (ask n left s a).0 ≡ Answer.Recall c → is_running c.what ≡ true }
     ensures tests { (n : ℕ) (left : Rooms) (s : CoreState) (a : Ask) (extent : Extent) (exclusive : Bool) (answer : Answer) → a.act ≡ Act.Test extent exclusive → ((ask n left s a).0 ≡ answer) ↔ IsTestDue s a (known_claim a extent exclusive s.names) answer }
     ensures unlocks { (n : ℕ) (left : Rooms) (s : CoreState) (a : Ask) (first last : ℕ) (answer : Answer) → IsGood s → IsFit a → is_named a.owner ≡ true → a.act ≡ Act.Unlock (Extent.Bytes first last) → ((ask n left s a).0 ≡ answer) ↔ IsUnlockDue s (known_claim a (Extent.Bytes first last) false s.names) first last answer }
@@ -101,11 +102,12 @@ pub fn answers_have_causes()
     ensures least { (names : List Name) (claims : List Claim) (c : Claim) → least names claims ≡ Some c → IsIn c claims × AllByRecursion (λ d. range_before names d c ≡ false) claims }
 {}
 
-/// A share or a lock that is no reclaim, that nothing held blocks and that passes no limit is granted. What is granted is
+/// A share or a lock that grace lets in, that nothing held blocks and that passes no limit is granted, if its client is recorded or
+/// can be. What is granted is
 /// held then, whatever the owner had in the range before, or shared, united with the share that an NFSv4 owner had; what is
 /// unlocked no more.
 pub fn free_asks_are_granted()
-    ensures granted { (n : ℕ) (left : Rooms) (s : CoreState) (a : Ask) (what : What) → asked_what a.act ≡ Some what → a.reclaim ≡ false → is_blocked s.claims (asked_claim a what s.names) ≡ false → IsRoom (limits_of_grant left s a (asked_claim a what s.names)) → (ask n left s a).0 ≡ Answer.Granted (asked_claim a what s.names) }
+    ensures granted { (n : ℕ) (left : Rooms) (s : CoreState) (a : Ask) (what : What) → asked_what a.act ≡ Some what → enters (stands s a) ≡ true → IsFree s a (asked_claim a what s.names) → IsRoom (limits_of_grant left s a (asked_claim a what s.names)) → may_record n s (wanted s a) ≡ true → (ask n left s a).0 ≡ Answer.Granted (asked_claim a what s.names) }
     ensures held { (n : ℕ) (left : Rooms) (s : CoreState) (a : Ask) (first last : ℕ) (exclusive : Bool) (c : Claim) → IsGood s → IsFit a → is_named a.owner ≡ true → a.act ≡ Act.Ranges ((Extent.Bytes first last, exclusive) ∷ []) → (ask n left s a).0 ≡ Answer.Granted c → spans_of a.file (asker a s.names) (ask n left s a).2.claims ≡ relocked (spans_of a.file (asker a s.names) s.claims) first last (Some (mode_of exclusive)) }
     ensures shared { (n : ℕ) (left : Rooms) (s : CoreState) (a : Ask) (access deny : Rwd) (c : Claim) → IsGood s → IsFit a → unites (asker a s.names) ≡ false → a.act ≡ Act.Share access deny → (ask n left s a).0 ≡ Answer.Granted c → shares_of a.file (asker a s.names) (ask n left s a).2.claims ≡ (access, deny) ∷ [] }
     ensures united { (n : ℕ) (left : Rooms) (s : CoreState) (a : Ask) (access deny : Rwd) (c : Claim) → IsGood s → IsFit a → a.act ≡ Act.Share access deny → (ask n left s a).0 ≡ Answer.Granted c → shares_of a.file (asker a s.names) (ask n left s a).2.claims ≡ with_share (united_by (asker a s.names) (What.Share access deny) (old_shares a.file (asker a s.names) s.claims)) [] }
@@ -131,7 +133,7 @@ pub fn nobody_is_forgotten()
     ensures waits { (n : ℕ) (left : Rooms) (s : CoreState) (a : Ask) (number : ℕ) → IsGood s → IsFit a → (ask n left s a).0 ≡ Answer.Queued number → (ask n left s a).2.waiters ≡ s.waiters ++ waiter_of number a (asking_party a s.names) (asked_claims a (asked_whats a.act) s.names) ∷ [] }
     ensures settled { (n : ℕ) (left : Rooms) (s : CoreState) → (settle n left s ≡ None) ↔ AllRest n left s [] s.waiters }
     ensures blocked { (n : ℕ) (left : Rooms) (s : CoreState) → AllRest n left s [] s.waiters ↔ IsSettled s }
-    ensures turns { (n : ℕ) (left : Rooms) (s : CoreState) → IsGood s → IfSome (settle n left s) (λ r. IsTurn left s r.0 r.1) }
+    ensures turns { (n : ℕ) (left : Rooms) (s : CoreState) → IsGood s → IfSome (settle n left s) (λ r. IsTurn n left s r.0 r.1) }
     ensures fewer { (n : ℕ) (left : Rooms) (s : CoreState) → IsGood s → IfSome (settle n left s) (λ r. turns_left r.1 + 1 ≤ turns_left s) }
 {}
 
@@ -175,7 +177,20 @@ pub fn calls_have_frames()
     ensures closes { (s : CoreState) (number : ℕ) (party : Option Party) → IsGood s → IsFrame s (close_open s number party).0 (close_open s number party).1 0 s.names [] }
     ensures draws { (s : CoreState) → IsFrame s [] (drawn s) 1 s.names [] }
     ensures renews { (s : CoreState) (client : List ℕ) → IsRenewed s client (renew s client).0 (renew s client).1 }
-    ensures ticks { (s : CoreState) (now : Moment) → IsGood s → IsTicked s now (tick s now).0 (tick s now).1 }
+    ensures ticks { (n : ℕ) (s : CoreState) (now : Moment) → IsGood s → IsTicked s now (tick n s now).0 (tick n s now).1 }
+{}
+
+/// No call stores the record but an ask, a turn and a reading of the clock, nor does another change what is stored, or the grace that
+/// runs. Of an ask and of a turn see `IsOwn` and `IsTurn`.
+pub fn few_calls_store()
+    ensures cancels { (s : CoreState) (id : ℕ) → aside_of (cancel s id).1 ≡ aside_of s }
+    ensures gives_back { (s : CoreState) (claim : Claim) → aside_of (give_back s claim).1 ≡ aside_of s }
+    ensures weakens { (s : CoreState) (share : Claim) (access deny : Rwd) → aside_of (weaken s share access deny).1 ≡ aside_of s }
+    ensures acks { (s : CoreState) (cache : Claim) (to : Option CacheKind) → aside_of (ack s cache to).1 ≡ aside_of s }
+    ensures ends { (s : CoreState) (party : Party) → aside_of (end_party s party).1 ≡ aside_of s }
+    ensures closes { (s : CoreState) (number : ℕ) (party : Option Party) → aside_of (close_open s number party).1 ≡ aside_of s }
+    ensures draws { (s : CoreState) → aside_of (drawn s) ≡ aside_of s }
+    ensures renews { (s : CoreState) (client : List ℕ) → aside_of (renew s client).1 ≡ aside_of s }
 {}
 
 /// Nobody is served except by a turn: not if a waiter cancels, a claim is given back, a share is made weaker, a break is
@@ -188,29 +203,30 @@ pub fn only_turns_serve()
     ensures acks { (s : CoreState) (cache : Claim) (to : Option CacheKind) → serves_none (ack s cache to).0 ≡ true }
     ensures ends { (s : CoreState) (party : Party) → serves_none (end_party s party).0 ≡ true }
     ensures closes { (s : CoreState) (number : ℕ) (party : Option Party) → serves_none (close_open s number party).0 ≡ true }
-    ensures ticks { (s : CoreState) (now : Moment) → serves_none (tick s now).0 ≡ true }
+    ensures ticks { (n : ℕ) (s : CoreState) (now : Moment) → serves_none (tick n s now).0 ≡ true }
 {}
 
-/// A test foretells the lock: the same lock of the same asker, not blocking, meets a conflict exactly if the test is
+/// A test foretells the lock: the same lock of the same asker, not blocking and no reclaim, meets a conflict exactly if the test is
 /// denied. A cache that keeps the lock off is a conflict to neither.
 pub fn a_test_foretells()
-    ensures { (n : ℕ) (left : Rooms) (s : CoreState) (test lock : Ask) (first last : ℕ) (exclusive : Bool) → IsGood s → IsFit lock → is_named lock.owner ≡ true → IsSameAsker test lock → test.act ≡ Act.Test (Extent.Bytes first last) exclusive → lock.act ≡ Act.Ranges ((Extent.Bytes first last, exclusive) ∷ []) → lock.blocking ≡ false → IsConflict (ask n left s lock).0 ↔ IsConflict (ask n left s test).0 }
+    ensures { (n : ℕ) (left : Rooms) (s : CoreState) (test lock : Ask) (first last : ℕ) (exclusive : Bool) → IsGood s → IsFit lock → is_named lock.owner ≡ true → IsSameAsker test lock → test.act ≡ Act.Test (Extent.Bytes first last) exclusive → lock.act ≡ Act.Ranges ((Extent.Bytes first last, exclusive) ∷ []) → lock.blocking ≡ false → lock.reclaim ≡ false → IsConflict (ask n left s lock).0 ↔ IsConflict (ask n left s test).0 }
 {}
 
-/// A granted ask leaves the record, the clock and the last number that was given out.
+/// A granted ask leaves the clock, and the last number that was given out but for the calls of its breaks. The record, the stores of
+/// the step and the grace are as `noted_by` says: its client is recorded, if it is monitored and the record lacked it.
 pub fn a_grant_leaves_the_clock()
-    ensures { (n : ℕ) (left : Rooms) (s : CoreState) (a : Ask) (c : Claim) → IsGood s → IsFit a → (ask n left s a).0 ≡ Answer.Granted c → ((ask n left s a).2.clock ≡ s.clock) × ((ask n left s a).2.stable ≡ s.stable) × ((ask n left s a).2.counter ≡ s.counter + calls_in (ask n left s a).1) }
+    ensures { (n : ℕ) (left : Rooms) (s : CoreState) (a : Ask) (c : Claim) → IsGood s → IsFit a → (ask n left s a).0 ≡ Answer.Granted c → ((ask n left s a).2.clock ≡ s.clock) × (aside_of (ask n left s a).2 ≡ aside_of (noted_by s a (Answer.Granted c))) × ((ask n left s a).2.counter ≡ s.counter + calls_in (ask n left s a).1) }
 {}
 
 /// Numbers go no further than `numbers_of` says: that counts the last number that was given out, one more for each who waits,
 /// as a call of the server's may tell that it is served, and one more for each delegation that may be recalled. An ask raises it
-/// by 2 at most, as one comes to wait under a number, or gets a delegation; one that doesn't wait by 1; a number that is given
+/// by 2 at most, as one comes to wait under a number, or gets a delegation; one that never waits by 1; a number that is given
 /// out by 1. A turn leaves one less for each who is served; no other call raises it.
 #[tactic(auto, using(crate::proofs::NumberLaws::counter_numbers, crate::proofs::NumberLaws::ask_numbers, crate::proofs::NumberLaws::ask_numbers_at_once, crate::proofs::NumberLaws::turn_numbers, crate::proofs::NumberLaws::drawn_numbers, crate::proofs::NumberLaws::cancel_numbers, crate::proofs::NumberLaws::give_back_numbers, crate::proofs::NumberLaws::weaken_numbers, crate::proofs::NumberLaws::ack_numbers, crate::proofs::NumberLaws::end_party_numbers, crate::proofs::NumberLaws::close_open_numbers, crate::proofs::NumberLaws::renew_numbers, crate::proofs::NumberLaws::expire_numbers, crate::proofs::NumberLaws::lapse_numbers, crate::proofs::NumberLaws::tick_numbers))]
 pub fn numbers_are_few()
     ensures counter { (s : CoreState) → s.counter ≤ numbers_of s }
     ensures asks { (n : ℕ) (left : Rooms) (s : CoreState) (a : Ask) → IsGood s → IsFit a → numbers_of (ask n left s a).2 ≤ numbers_of s + 2 }
-    ensures at_once { (n : ℕ) (left : Rooms) (s : CoreState) (a : Ask) → IsGood s → IsFit a → a.blocking ≡ false → a.awaits ≡ false → numbers_of (ask n left s a).2 ≤ numbers_of s + 1 }
+    ensures at_once { (n : ℕ) (left : Rooms) (s : CoreState) (a : Ask) → IsGood s → IsFit a → a.blocking ≡ false → a.awaits ≡ false → is_smb a.party ≡ false → numbers_of (ask n left s a).2 ≤ numbers_of s + 1 }
     ensures turns { (n : ℕ) (left : Rooms) (s : CoreState) → IsGood s → IfSome (settle n left s) (λ r. numbers_of r.1 + length (who_left r.0) ≤ numbers_of s) }
     ensures draws { (s : CoreState) → numbers_of (drawn s) ≡ numbers_of s + 1 }
     ensures cancels { (s : CoreState) (id : ℕ) → numbers_of (cancel s id).1 ≤ numbers_of s }
@@ -222,5 +238,5 @@ pub fn numbers_are_few()
     ensures renews { (s : CoreState) (client : List ℕ) → numbers_of (renew s client).1 ≤ numbers_of s }
     ensures expires { (s : CoreState) (client : List ℕ) → numbers_of (expire s client).1 ≤ numbers_of s }
     ensures lapses { (s : CoreState) (cache : Claim) → numbers_of (lapse s cache).1 ≤ numbers_of s }
-    ensures ticks { (s : CoreState) (now : Moment) → numbers_of (tick s now).1 ≤ numbers_of s }
+    ensures ticks { (n : ℕ) (s : CoreState) (now : Moment) → numbers_of (tick n s now).1 ≤ numbers_of s }
 {}

@@ -1,5 +1,5 @@
 //! The limits that a grant or a wait may pass.
-ghost use Rattle.std.specs.Prelude.{◌≡◌};
+ghost use Rattle.std.specs.Prelude.{◌≡◌, ℕ, ◌-◌, ◌^◌, min};
 ghost use Rattle.xl_core.specs.Limits.{grant_limits, wait_limits, wish_limits, first_passed};
 
 use xl_base::MOST_WAITERS;
@@ -28,15 +28,26 @@ fn first_passed(limits: &[(u32, bool)]) -> Option<u32>
     None
 }
 
-/// The least limit that a grant passes, if so many claims are held and names kept afterwards.
-pub(crate) fn passed_by_grant(left: &Rooms, rows: &Rooms, held: usize, kept: usize) -> Option<u32>
-    ensures { result ≡ first_passed (grant_limits left.now rows.now held kept) }
+/// The bytes of a record, at most.
+const MOST_RECORD_BYTES: u32 = 65_536;
+
+/// The least limit that a grant passes, if so many claims are held, bytes are in the record that is stored for it, and names
+/// are kept afterwards. Of claims and bytes 2^64 - 1 stands for more as well.
+pub(crate) fn passed_by_grant(
+    left: &Rooms,
+    rows: &Rooms,
+    held: usize,
+    bytes: u64,
+    kept: usize,
+) -> Option<u32>
+    ensures { (all whole : ℕ) → held ≡ min all (2 ^ 64 - 1) → bytes ≡ min whole (2 ^ 64 - 1) → result ≡ first_passed (grant_limits left.now rows.now all whole kept) }
 {
     first_passed(&[
         (MOST_HOSTS, left.hosts < rows.hosts),
         (MOST_OPENS, left.opens < rows.opens),
         (MOST_OWNERS, left.owners < rows.owners),
         (CLAIMS as u32, CLAIMS < held),
+        (MOST_RECORD_BYTES, u64::from(MOST_RECORD_BYTES) < bytes),
         (MOST_NAMES, (MOST_NAMES as usize) < kept),
     ])
 }

@@ -1,8 +1,11 @@
 //! What the core is made of.
+ghost use Rattle.std.specs.Prelude.{◌≡◌};
+ghost use Rattle.xl_core.specs.Stores.{made_of};
 
 use crate::lease::Times;
 use indexmap::IndexMap;
 use xl_base::{Moment, Record, Sequence};
+use xl_grace::Grace;
 use xl_names::Names;
 use xl_table::Table;
 use xl_wait::Queue;
@@ -18,6 +21,8 @@ pub(crate) struct Parts {
     pub names: Names,
     /// The record as it is stored.
     pub stable: Record,
+    /// The grace that runs, if one does.
+    pub grace: Grace,
     /// The clock.
     pub clock: Moment,
     /// How long leases, grace and breaks last.
@@ -26,8 +31,22 @@ pub(crate) struct Parts {
     pub leases: IndexMap<Sequence<u8>, Moment>,
     /// The last number that was given out; numbers count from 1.
     pub counter: u32,
-    /// How many stores this step made.
-    pub made: u64,
-    /// Whether a store of this step failed.
+    /// Whether a store of this step failed; then none is tried any more.
     pub failed: bool,
+    /// The records that the keeper was given in this step. All were stored but the last, if that store failed.
+    pub given: Vec<Record>,
+}
+
+impl Parts {
+    /// How many stores this step made.
+    pub(crate) fn made(&self) -> u64
+        ensures { result ≡ made_of self.now.failed self.now.given.items }
+    {
+        let given = self.given.len() as u64;
+        if self.failed {
+            given.saturating_sub(1)
+        } else {
+            given
+        }
+    }
 }

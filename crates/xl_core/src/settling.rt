@@ -1,22 +1,26 @@
 //! Whose turn comes, and what it gets.
-ghost use Rattle.std.specs.Prelude.{◌≡◌, ◌+◌, ◌<◌, ◌^◌, ℕ, List, [], ◌∷◌, Ok, None, option_copied, option_map, IfOk};
+ghost use Rattle.std.specs.Prelude.{◌≡◌, ◌+◌, ◌<◌, ◌^◌, ℕ, false, List, [], ◌∷◌, Ok, None, is_some, option_copied, option_map, IfOk, OnOk};
 ghost use Rattle.xl_base.specs.Limits.{numbers_left};
 ghost use Rattle.xl_wait.specs.declared.waiter.Waiter.{Waiter};
 ghost use Rattle.xl_core.specs.Good.{AllBehind, holds_back, is_held_up, holds_up, IsGood};
 ghost use Rattle.xl_core.specs.Settle.{plea_again, all_of, turned, settle, called_of, first_called};
 ghost use Rattle.xl_core.specs.Unsettled.{stays_up, first_free, called_at, IsHeldUp, AreHeldUp};
 ghost use Rattle.xl_core.specs.declared.unsettled.Unsettled.TheVariants.{Files};
+ghost use Rattle.xl_core.specs.State.{MayBe, GoesOn};
+ghost use Rattle.xl_core.specs.Stores.{HandsOn};
 ghost use Rattle.xl_core.specs.Whole.{state_of};
 
 use crate::ask::{Answer, Effect};
 use crate::blockers::{Passage, first_broken, look};
 use crate::judge::{Plea, Ruling, judge_all};
 use crate::parts::Parts;
+use crate::standings::{recorded_at, standing_again};
+use crate::stores::unrecorded;
 use crate::unsettled::{Unsettled, is_among, only_file};
 use crate::ways::make_way;
 use crate::wishes::grant_for;
 use std::alloc::{AllocError, Global};
-use xl_base::{Party, Sequence};
+use xl_base::{Keeper, Party, Sequence};
 use xl_matrix::{CacheKind, Claim};
 use xl_wait::{Rooms, Waiter};
 
@@ -37,17 +41,23 @@ pub(crate) struct Called {
 
 /// What a waiter pleads.
 #[tactic(auto, unfolding(crate::specs::Settle::plea_again))]
-fn plea_again(parts: &Parts, waiter: &Waiter) -> Plea
-    ensures { result ≡ plea_again (state_of parts.now) waiter.now }
+fn plea_again(alloc: Global, parts: &Parts, waiter: &Waiter) -> Result<Plea, AllocError>
+    ensures { IfOk result (λ p. p ≡ plea_again (state_of parts.now) waiter.now) }
 {
-    Plea {
+    Ok(Plea {
         blocking: waiter.blocking,
         awaits: true,
-        reclaim: false,
+        standing: standing_again(parts),
+        beside: None,
+        unrecorded: unrecorded(
+            &parts.stable,
+            waiter.monitored,
+            recorded_at(alloc, &parts.names, waiter.party)?,
+        ),
         rows: waiter.rows,
         kept: parts.names.as_slice().len(),
         crowded: None,
-    }
+    })
 }
 
 /// Whether the waiter waits on where the way of its claim stands so: barred, if it waits for that, or open with no break to
@@ -83,6 +93,7 @@ fn is_held_up(
 
 /// Whether the first claim that the waiter asks for is held up.
 fn is_up(alloc: Global, parts: &Parts, waiter: &Waiter) -> Result<bool, AllocError>
+    requires calm { is_some parts.now.grace ≡ false }
     ensures { IfOk result (λ b. b ≡ holds_up [] (state_of parts.now) waiter.now waiter.now.asked) }
 {
     match waiter.asked.as_slice() {
@@ -98,7 +109,8 @@ fn holds_up(
     unsettled: &Unsettled,
     waiter: &Waiter,
 ) -> Result<bool, AllocError>
-    requires { IsHeldUp unsettled.now [] (state_of parts.now) waiter.now waiter.now.asked }
+    requires calm { is_some parts.now.grace ≡ false }
+    requires up { IsHeldUp unsettled.now [] (state_of parts.now) waiter.now waiter.now.asked }
     ensures { IfOk result (λ b. b ≡ holds_up [] (state_of parts.now) waiter.now waiter.now.asked) }
 {
     if let [claim, ..] = waiter.asked.as_slice() {
@@ -111,6 +123,7 @@ fn holds_up(
 
 /// Whether nobody waits at this place of the queue, or one who is held up.
 fn stays_up(alloc: Global, parts: &Parts, waiter: Option<&Waiter>) -> Result<bool, AllocError>
+    requires calm { is_some parts.now.grace ≡ false }
     ensures { IfOk result (λ b. b ≡ stays_up [] (state_of parts.now) (option_copied waiter.entry)) }
 {
     match waiter {
@@ -121,6 +134,7 @@ fn stays_up(alloc: Global, parts: &Parts, waiter: Option<&Waiter>) -> Result<boo
 
 /// The first of these places where one waits who isn't held up.
 fn first_free(alloc: Global, parts: &Parts, places: &[usize]) -> Result<Option<usize>, AllocError>
+    requires calm { is_some parts.now.grace ≡ false }
     ensures { IfOk result (λ at. at ≡ first_free (state_of parts.now) places.now) }
 {
     for place in places {
@@ -140,7 +154,7 @@ fn called_of(alloc: Global, parts: &Parts, waiter: &Waiter) -> Result<Called, Al
         party: waiter.party,
         asked: Sequence::from_slice(alloc, waiter.asked.as_slice())?,
         wish: Sequence::from_slice(alloc, waiter.wish.as_slice())?,
-        plea: plea_again(parts, waiter),
+        plea: plea_again(alloc, parts, waiter)?,
     })
 }
 
@@ -163,6 +177,7 @@ fn called_at(
 
 /// The first who isn't held up, if this is the one unsettled file: the first such in its queue.
 fn called_on(alloc: Global, parts: &Parts, file: u32) -> Result<Option<Called>, AllocError>
+    requires calm { is_some parts.now.grace ≡ false }
     requires good { IsGood (state_of parts.now) }
     requires held_up { AreHeldUp (Files (file ∷ [])) (state_of parts.now) }
     ensures { IfOk result (λ called. called ≡ first_called (state_of parts.now) [] parts.now.queue) }
@@ -180,7 +195,8 @@ fn first_called(
     unsettled: &Unsettled,
     waiters: &[Waiter],
 ) -> Result<Option<Called>, AllocError>
-    requires { AllBehind (λ earlier w. IsHeldUp unsettled.now earlier (state_of parts.now) w w.asked) [] waiters.now }
+    requires calm { is_some parts.now.grace ≡ false }
+    requires up { AllBehind (λ earlier w. IsHeldUp unsettled.now earlier (state_of parts.now) w w.asked) [] waiters.now }
     ensures { IfOk result (λ called. called ≡ first_called (state_of parts.now) [] waiters.now) }
 {
     for waiter in waiters {
@@ -191,8 +207,9 @@ fn first_called(
     Ok(None)
 }
 
-/// The first who isn't held up, as it is called. It is looked for among those alone who wait on an unsettled file: in
+/// The first who isn't held up, as it is called; none while grace runs. It is looked for among those alone who wait on an unsettled file: in
 /// its queue, if it is one, and else in the order of arrival.
+#[tactic(auto, using(crate::proofs::TurnCode::none_called))]
 fn next_called(
     alloc: Global,
     parts: &Parts,
@@ -202,6 +219,9 @@ fn next_called(
     requires held_up { AreHeldUp unsettled.now (state_of parts.now) }
     ensures { IfOk result (λ called. called ≡ first_called (state_of parts.now) [] parts.now.queue) }
 {
+    if parts.grace.runs() {
+        return Ok(None);
+    }
     match only_file(unsettled) {
         Some(file) => called_on(alloc, parts, file),
         None => first_called(alloc, parts, unsettled, parts.queue.waiters()),
@@ -227,7 +247,8 @@ fn serve(
     begun: Sequence<Effect>,
 ) -> Result<Sequence<Effect>, AllocError>
     ensures turned { (w : Waiter) → w.id ≡ called.now.id → w.party ≡ called.now.party → w.asked ≡ called.now.asked → w.wish ≡ called.now.wish → IfOk result (λ effects. turned w ruling begun (state_of parts.old) ≡ (effects, state_of parts.new)) }
-    ensures made { parts.new.made ≡ parts.old.made }
+    ensures stable { parts.new.stable ≡ parts.old.stable }
+    ensures given { parts.new.given ≡ parts.old.given }
     ensures failed { parts.new.failed ≡ parts.old.failed }
 {
     let mut effects = begun;
@@ -249,19 +270,20 @@ fn serve(
 
 /// One turn, if a waiter has one. It is looked for among those who wait on the unsettled files.
 #[tactic(auto, unfolding(crate::specs::Settle::settle))]
-pub(crate) fn settle(
+pub(crate) fn settle<K: Keeper>(
     alloc: Global,
     parts: &mut Parts,
     unsettled: &Unsettled,
+    keeper: &mut K,
     left: &Rooms,
 ) -> Result<Option<Sequence<Effect>>, AllocError>
     requires good { IsGood (state_of parts.old) }
     requires held_up { AreHeldUp unsettled.now (state_of parts.old) }
     requires numbers { parts.old.counter + numbers_left < 2 ^ 32 }
-    ensures turn { (n : ℕ) → IfOk result (λ r. settle n left.now (state_of parts.old) ≡ option_map (λ effects. (effects, state_of parts.new)) r) }
+    ensures turn { (n : ℕ) → IfOk result (λ r. MayBe n (state_of parts.new) → settle n left.now (state_of parts.old) ≡ option_map (λ effects. (effects, state_of parts.new)) r) }
     ensures none { result ≡ Ok None → parts.new ≡ parts.old }
-    ensures made { parts.new.made ≡ parts.old.made }
-    ensures failed { parts.new.failed ≡ parts.old.failed }
+    ensures on { OnOk result (GoesOn (state_of parts.old) (state_of parts.new)) }
+    ensures keeper { OnOk result (HandsOn (state_of parts.old) (state_of parts.new) (record { held = K.held keeper.old; given = K.given keeper.old; faults = K.faults keeper.old; left = K.left keeper.old }) (record { held = K.held keeper.new; given = K.given keeper.new; faults = K.faults keeper.new; left = K.left keeper.new })) }
 {
     let Some(called) = next_called(alloc, parts, unsettled)? else {
         return Ok(None);
@@ -270,6 +292,7 @@ pub(crate) fn settle(
     let ruling = judge_all(
         alloc,
         parts,
+        keeper,
         left,
         &called.plea,
         called.asked.as_slice(),

@@ -1,12 +1,14 @@
 //! What the clock does.
-ghost use Rattle.std.specs.Prelude.{◌≡◌, ℕ, ◌++◌, List, [], ◌∷◌, option_map, IfOk, OnOk};
+ghost use Rattle.std.specs.Prelude.{◌≡◌, ℕ, ◌++◌, List, [], ◌∷◌, option_map, IfOk, OnOk, if◌then◌else◌};
 ghost use Rattle.xl_core.specs.BreakAnswers.{client_of};
 ghost use Rattle.xl_names.specs.declared.name.Name.TheVariants.{NfsParty};
 ghost use Rattle.xl_core.specs.Askers.{party_named};
 ghost use Rattle.xl_core.specs.Good.{IsGood};
-ghost use Rattle.xl_core.specs.Ticks.{advanced, renew, end_some, expire, behind_told, in_turn, is_still_held, is_lease_over, lapse_all, expire_all, lapse, tick};
+ghost use Rattle.xl_core.specs.Ticks.{advanced, renew, end_some, barred, gone_client, forgotten, may_expire, try_expire, behind_told, in_turn, is_still_held, is_lease_over, try_lapse, lapse_all, expire_all, try_end_grace, tick};
 ghost use Rattle.xl_core.specs.Unsettled.{AreHeldUp};
 ghost use Rattle.xl_core.specs.declared.unsettled.Unsettled.{Unsettled};
+ghost use Rattle.xl_core.specs.State.{MayBe, GoesOn};
+ghost use Rattle.xl_core.specs.Stores.{client_name, without_name, store_failed, HandsOn};
 ghost use Rattle.xl_core.specs.Whole.{state_of};
 
 use crate::ask::Effect;
@@ -14,9 +16,10 @@ use crate::calls::leave;
 use crate::due::due;
 use crate::lease::{drop_lease, ended, is_ended, later, moment_after, put_lease};
 use crate::parts::Parts;
+use crate::stores::{client_name, store, without_name};
 use crate::unsettled::{Unsettled, note};
 use std::alloc::{AllocError, Global};
-use xl_base::{Moment, Party, Protocol, Sequence};
+use xl_base::{Keeper, Moment, Party, Protocol, Sequence};
 use xl_matrix::Claim;
 use xl_names::{Name, Names};
 use xl_table::Leaver;
@@ -81,9 +84,20 @@ fn end_some(
     }
 }
 
-/// Takes out all that the client has, and its lease.
-#[tactic(auto, unfolding(crate::specs::Ticks::expire))]
-fn expire(
+/// The client may reclaim no more in the grace that runs.
+#[tactic(auto, unfolding(crate::specs::Ticks::barred), using(crate::proofs::TickCode::barred_good))]
+fn bar(alloc: Global, parts: &mut Parts, client: &[u8]) -> Result<(), AllocError>
+    requires good { IsGood (state_of parts.old) }
+    ensures state { OnOk result (state_of parts.new ≡ barred (state_of parts.old) client.now) }
+    ensures good { IsGood (state_of parts.new) }
+    ensures held_up { (u : Unsettled) → AreHeldUp u (state_of parts.old) → AreHeldUp u (state_of parts.new) }
+{
+    parts.grace.expired(&client_name(alloc, client)?);
+    Ok(())
+}
+
+/// Takes out all that the client has, its lease, and its right to reclaim in the grace that runs.
+fn take_out(
     alloc: Global,
     parts: &mut Parts,
     unsettled: &mut Unsettled,
@@ -91,13 +105,60 @@ fn expire(
 ) -> Result<Sequence<Effect>, AllocError>
     requires good { IsGood (state_of parts.old) }
     requires held_up { AreHeldUp unsettled.old (state_of parts.old) }
-    ensures state { IfOk result (λ effects. expire (state_of parts.old) client ≡ (effects, state_of parts.new)) }
+    ensures state { IfOk result (λ effects. gone_client (state_of parts.old) client ≡ (effects, state_of parts.new)) }
     ensures held_up { AreHeldUp unsettled.new (state_of parts.new) }
 {
+    bar(alloc, parts, client.as_slice())?;
     let party = party_of(alloc, &parts.names, client.as_slice())?;
     let mut effects = end_some(alloc, parts, unsettled, party)?;
     drop_lease(&mut parts.leases, &client);
     effects.push(Effect::Expired(client))?;
+    Ok(effects)
+}
+
+/// Stores the record without the client, if it has it, and whether the client may be taken out then.
+#[tactic(auto, using(crate::proofs::StoreLaws::goes_on_self, crate::proofs::StoreLaws::hands_self))]
+fn forget<K: Keeper>(
+    alloc: Global,
+    parts: &mut Parts,
+    keeper: &mut K,
+    client: &[u8],
+) -> Result<bool, AllocError>
+    ensures may { (n : ℕ) → IfOk result (λ ok. MayBe n (state_of parts.new) → may_expire n (state_of parts.old) client.now ≡ ok) }
+    ensures state { IfOk result (λ ok. state_of parts.new ≡ (if ok then forgotten (state_of parts.old) client.now else store_failed (without_name (client_name client.now) parts.old.stable) (state_of parts.old))) }
+    ensures on { OnOk result (GoesOn (state_of parts.old) (state_of parts.new)) }
+    ensures keeper { OnOk result (HandsOn (state_of parts.old) (state_of parts.new) (record { held = K.held keeper.old; given = K.given keeper.old; faults = K.faults keeper.old; left = K.left keeper.old }) (record { held = K.held keeper.new; given = K.given keeper.new; faults = K.faults keeper.new; left = K.left keeper.new })) }
+    ensures good { OnOk result (IsGood (state_of parts.old) → IsGood (state_of parts.new)) }
+    ensures held_up { (u : Unsettled) → AreHeldUp u (state_of parts.old) → AreHeldUp u (state_of parts.new) }
+{
+    let name = client_name(alloc, client)?;
+    if !parts.stable.contains(&name) {
+        return Ok(true);
+    }
+    let shorter = without_name(alloc, &parts.stable, &name)?;
+    store(alloc, parts, keeper, shorter)
+}
+
+/// Expires the client: stores the record without it, and takes out all that it has. If the store fails all stays.
+#[tactic(auto, using(crate::proofs::TickCode::expires_not))]
+fn expire<K: Keeper>(
+    alloc: Global,
+    parts: &mut Parts,
+    unsettled: &mut Unsettled,
+    keeper: &mut K,
+    client: Sequence<u8>,
+) -> Result<Sequence<Effect>, AllocError>
+    requires good { IsGood (state_of parts.old) }
+    requires held_up { AreHeldUp unsettled.old (state_of parts.old) }
+    ensures state { (n : ℕ) → IfOk result (λ effects. MayBe n (state_of parts.new) → try_expire n (state_of parts.old) client ≡ (effects, state_of parts.new)) }
+    ensures held_up { AreHeldUp unsettled.new (state_of parts.new) }
+    ensures on { OnOk result (GoesOn (state_of parts.old) (state_of parts.new)) }
+    ensures keeper { OnOk result (HandsOn (state_of parts.old) (state_of parts.new) (record { held = K.held keeper.old; given = K.given keeper.old; faults = K.faults keeper.old; left = K.left keeper.old }) (record { held = K.held keeper.new; given = K.given keeper.new; faults = K.faults keeper.new; left = K.left keeper.new })) }
+{
+    if !forget(alloc, parts, keeper, client.as_slice())? {
+        return Ok(Sequence::new(alloc));
+    }
+    let effects = take_out(alloc, parts, unsettled, client)?;
     Ok(effects)
 }
 
@@ -112,43 +173,51 @@ fn push_all(effects: &mut Sequence<Effect>, more: Sequence<Effect>) -> Result<()
 }
 
 /// Takes out all that the client has, and its lease, if that has ended, and adds its effects behind those before.
-fn expire_one(
+#[tactic(auto, using(crate::proofs::UnsettledLaws::told_more, crate::proofs::UnsettledLaws::told_no_more, crate::proofs::StoreLaws::goes_on_self, crate::proofs::StoreLaws::hands_self))]
+fn expire_one<K: Keeper>(
     alloc: Global,
     parts: &mut Parts,
     unsettled: &mut Unsettled,
+    keeper: &mut K,
     effects: &mut Sequence<Effect>,
     client: &Sequence<u8>,
 ) -> Result<(), AllocError>
     requires good { IsGood (state_of parts.old) }
     requires held_up { AreHeldUp unsettled.old (state_of parts.old) }
-    ensures turn { OnOk result ((clients : List (List ℕ)) → behind_told effects.old (in_turn is_lease_over expire (client.now ∷ clients) (state_of parts.old)) ≡ behind_told effects.new (in_turn is_lease_over expire clients (state_of parts.new))) }
+    ensures turn { (n : ℕ) → OnOk result ((clients : List (List ℕ)) → MayBe n (state_of parts.new) → behind_told effects.old (in_turn is_lease_over (try_expire n) (client.now ∷ clients) (state_of parts.old)) ≡ behind_told effects.new (in_turn is_lease_over (try_expire n) clients (state_of parts.new))) }
     ensures good { OnOk result (IsGood (state_of parts.new)) }
     ensures held_up { AreHeldUp unsettled.new (state_of parts.new) }
+    ensures on { OnOk result (GoesOn (state_of parts.old) (state_of parts.new)) }
+    ensures keeper { OnOk result (HandsOn (state_of parts.old) (state_of parts.new) (record { held = K.held keeper.old; given = K.given keeper.old; faults = K.faults keeper.old; left = K.left keeper.old }) (record { held = K.held keeper.new; given = K.given keeper.new; faults = K.faults keeper.new; left = K.left keeper.new })) }
 {
     if is_ended(&parts.leases, parts.clock, client.as_slice()) {
         let id = Sequence::from_slice(alloc, client.as_slice())?;
-        let told = expire(alloc, parts, unsettled, id)?;
+        let told = expire(alloc, parts, unsettled, keeper, id)?;
         push_all(effects, told)?;
     }
     Ok(())
 }
 
 /// Lets each client expire whose lease has ended, in the order of their id strings, and adds its effects behind those before.
-#[tactic(auto, unfolding(crate::specs::Ticks::expire_all))]
-fn expire_all(
+#[tactic(auto, unfolding(crate::specs::Ticks::expire_all), using(crate::proofs::StoreLaws::goes_on_self, crate::proofs::StoreLaws::hands_self))]
+fn expire_all<K: Keeper>(
     alloc: Global,
     parts: &mut Parts,
     unsettled: &mut Unsettled,
+    keeper: &mut K,
     effects: &mut Sequence<Effect>,
 ) -> Result<(), AllocError>
     requires good { IsGood (state_of parts.old) }
     requires held_up { AreHeldUp unsettled.old (state_of parts.old) }
-    ensures state { OnOk result (behind_told effects.old (expire_all (state_of parts.old)) ≡ (effects.new, state_of parts.new)) }
+    ensures state { (n : ℕ) → OnOk result (MayBe n (state_of parts.new) → behind_told effects.old (expire_all n (state_of parts.old)) ≡ (effects.new, state_of parts.new)) }
+    ensures good { OnOk result (IsGood (state_of parts.new)) }
     ensures held_up { AreHeldUp unsettled.new (state_of parts.new) }
+    ensures on { OnOk result (GoesOn (state_of parts.old) (state_of parts.new)) }
+    ensures keeper { OnOk result (HandsOn (state_of parts.old) (state_of parts.new) (record { held = K.held keeper.old; given = K.given keeper.old; faults = K.faults keeper.old; left = K.left keeper.old }) (record { held = K.held keeper.new; given = K.given keeper.new; faults = K.faults keeper.new; left = K.left keeper.new })) }
 {
     let clients = ended(alloc, &parts.leases, parts.clock)?;
     for client in clients.iter() {
-        expire_one(alloc, parts, unsettled, effects, client)?;
+        expire_one(alloc, parts, unsettled, keeper, effects, client)?;
     }
     Ok(())
 }
@@ -167,20 +236,23 @@ fn client_of(alloc: Global, names: &Names, party: Party) -> Result<Option<Sequen
 }
 
 /// Ends the break of a cache that nobody answered.
-#[tactic(auto, unfolding(crate::specs::Ticks::lapse))]
-fn lapse(
+#[tactic(auto, unfolding(crate::specs::Ticks::try_lapse), using(crate::proofs::TickCode::claims_on, crate::proofs::TickCode::claims_hands))]
+fn lapse<K: Keeper>(
     alloc: Global,
     parts: &mut Parts,
     unsettled: &mut Unsettled,
+    keeper: &mut K,
     cache: &Claim,
 ) -> Result<Sequence<Effect>, AllocError>
     requires good { IsGood (state_of parts.old) }
     requires held_up { AreHeldUp unsettled.old (state_of parts.old) }
-    ensures state { IfOk result (λ effects. lapse (state_of parts.old) cache.now ≡ (effects, state_of parts.new)) }
+    ensures state { (n : ℕ) → IfOk result (λ effects. MayBe n (state_of parts.new) → try_lapse n (state_of parts.old) cache.now ≡ (effects, state_of parts.new)) }
     ensures held_up { AreHeldUp unsettled.new (state_of parts.new) }
+    ensures on { OnOk result (GoesOn (state_of parts.old) (state_of parts.new)) }
+    ensures keeper { OnOk result (HandsOn (state_of parts.old) (state_of parts.new) (record { held = K.held keeper.old; given = K.given keeper.old; faults = K.faults keeper.old; left = K.left keeper.old }) (record { held = K.held keeper.new; given = K.given keeper.new; faults = K.faults keeper.new; left = K.left keeper.new })) }
 {
     match client_of(alloc, &parts.names, cache.party)? {
-        Some(client) => expire(alloc, parts, unsettled, client),
+        Some(client) => expire(alloc, parts, unsettled, keeper, client),
         None => {
             note(&parts.queue, unsettled, cache.file);
             parts.table.remove(cache);
@@ -190,64 +262,103 @@ fn lapse(
 }
 
 /// Ends the break of a cache, if it is still held, and adds its effects behind those before.
-fn lapse_one(
+#[tactic(auto, using(crate::proofs::UnsettledLaws::told_more, crate::proofs::UnsettledLaws::told_no_more, crate::proofs::StoreLaws::goes_on_self, crate::proofs::StoreLaws::hands_self))]
+fn lapse_one<K: Keeper>(
     alloc: Global,
     parts: &mut Parts,
     unsettled: &mut Unsettled,
+    keeper: &mut K,
     effects: &mut Sequence<Effect>,
     cache: &Claim,
 ) -> Result<(), AllocError>
     requires good { IsGood (state_of parts.old) }
     requires held_up { AreHeldUp unsettled.old (state_of parts.old) }
-    ensures turn { OnOk result ((caches : List Claim) → behind_told effects.old (in_turn is_still_held lapse (cache.now ∷ caches) (state_of parts.old)) ≡ behind_told effects.new (in_turn is_still_held lapse caches (state_of parts.new))) }
+    ensures turn { (n : ℕ) → OnOk result ((caches : List Claim) → MayBe n (state_of parts.new) → behind_told effects.old (in_turn is_still_held (try_lapse n) (cache.now ∷ caches) (state_of parts.old)) ≡ behind_told effects.new (in_turn is_still_held (try_lapse n) caches (state_of parts.new))) }
     ensures good { OnOk result (IsGood (state_of parts.new)) }
     ensures held_up { AreHeldUp unsettled.new (state_of parts.new) }
+    ensures on { OnOk result (GoesOn (state_of parts.old) (state_of parts.new)) }
+    ensures keeper { OnOk result (HandsOn (state_of parts.old) (state_of parts.new) (record { held = K.held keeper.old; given = K.given keeper.old; faults = K.faults keeper.old; left = K.left keeper.old }) (record { held = K.held keeper.new; given = K.given keeper.new; faults = K.faults keeper.new; left = K.left keeper.new })) }
 {
     if parts.table.contains(cache) {
-        let told = lapse(alloc, parts, unsettled, cache)?;
+        let told = lapse(alloc, parts, unsettled, keeper, cache)?;
         push_all(effects, told)?;
     }
     Ok(())
 }
 
 /// Ends the breaks whose deadline has come, in the order in which they are due, and adds its effects behind those before.
-#[tactic(auto, unfolding(crate::specs::Ticks::lapse_all))]
-fn lapse_all(
+#[tactic(auto, unfolding(crate::specs::Ticks::lapse_all), using(crate::proofs::StoreLaws::goes_on_self, crate::proofs::StoreLaws::hands_self))]
+fn lapse_all<K: Keeper>(
     alloc: Global,
     parts: &mut Parts,
     unsettled: &mut Unsettled,
+    keeper: &mut K,
     effects: &mut Sequence<Effect>,
 ) -> Result<(), AllocError>
     requires good { IsGood (state_of parts.old) }
     requires held_up { AreHeldUp unsettled.old (state_of parts.old) }
-    ensures state { OnOk result (behind_told effects.old (lapse_all (state_of parts.old)) ≡ (effects.new, state_of parts.new)) }
+    ensures state { (n : ℕ) → OnOk result (MayBe n (state_of parts.new) → behind_told effects.old (lapse_all n (state_of parts.old)) ≡ (effects.new, state_of parts.new)) }
     ensures good { OnOk result (IsGood (state_of parts.new)) }
     ensures held_up { AreHeldUp unsettled.new (state_of parts.new) }
+    ensures on { OnOk result (GoesOn (state_of parts.old) (state_of parts.new)) }
+    ensures keeper { OnOk result (HandsOn (state_of parts.old) (state_of parts.new) (record { held = K.held keeper.old; given = K.given keeper.old; faults = K.faults keeper.old; left = K.left keeper.old }) (record { held = K.held keeper.new; given = K.given keeper.new; faults = K.faults keeper.new; left = K.left keeper.new })) }
 {
     let rows = due(alloc, parts)?;
     for row in rows.iter() {
-        lapse_one(alloc, parts, unsettled, effects, &row.cache)?;
+        lapse_one(alloc, parts, unsettled, keeper, effects, &row.cache)?;
     }
     Ok(())
 }
 
-/// Reads the clock: each break is over whose deadline has come, and each client expires whose lease has ended. The files of
-/// the claims that go are noted.
-#[tactic(auto, unfolding(crate::specs::Ticks::tick))]
-pub(crate) fn tick(
+/// Ends the grace that runs, if its end has come and the record without the names that reclaimed nothing is stored. Then
+/// whoever waits for its end may have a turn.
+#[tactic(auto, using(crate::proofs::TickCode::ends_not, crate::proofs::TickCode::ends_failed, crate::proofs::TickCode::ends_so, crate::proofs::TickCode::graced_on, crate::proofs::TickCode::graced_hands, crate::proofs::HeldUpLaws::any_up, crate::proofs::StoreLaws::goes_on_self, crate::proofs::StoreLaws::hands_self))]
+fn end_grace<K: Keeper>(
     alloc: Global,
     parts: &mut Parts,
     unsettled: &mut Unsettled,
+    keeper: &mut K,
+) -> Result<(), AllocError>
+    requires good { IsGood (state_of parts.old) }
+    requires held_up { AreHeldUp unsettled.old (state_of parts.old) }
+    ensures state { (n : ℕ) → OnOk result (MayBe n (state_of parts.new) → try_end_grace n (state_of parts.old) ≡ state_of parts.new) }
+    ensures held_up { AreHeldUp unsettled.new (state_of parts.new) }
+    ensures on { OnOk result (GoesOn (state_of parts.old) (state_of parts.new)) }
+    ensures keeper { OnOk result (HandsOn (state_of parts.old) (state_of parts.new) (record { held = K.held keeper.old; given = K.given keeper.old; faults = K.faults keeper.old; left = K.left keeper.old }) (record { held = K.held keeper.new; given = K.given keeper.new; faults = K.faults keeper.new; left = K.left keeper.new })) }
+{
+    if !parts.grace.is_over(parts.clock) {
+        return Ok(());
+    }
+    let shorter = parts.grace.shorter(alloc, &parts.stable)?;
+    if store(alloc, parts, keeper, shorter)? {
+        parts.grace.end(parts.clock);
+        *unsettled = Unsettled::All;
+    }
+    Ok(())
+}
+
+/// Reads the clock: each break is over whose deadline has come, each client expires whose lease has ended, and the grace that runs
+/// ends if its end has come. The files of the claims that go are noted.
+#[tactic(auto, using(crate::proofs::TickCode::ticked_on_so))]
+pub(crate) fn tick<K: Keeper>(
+    alloc: Global,
+    parts: &mut Parts,
+    unsettled: &mut Unsettled,
+    keeper: &mut K,
     now: Moment,
 ) -> Result<Sequence<Effect>, AllocError>
     requires good { IsGood (state_of parts.old) }
     requires held_up { AreHeldUp unsettled.old (state_of parts.old) }
-    ensures state { IfOk result (λ effects. tick (state_of parts.old) now ≡ (effects, state_of parts.new)) }
+    ensures state { (n : ℕ) → IfOk result (λ effects. MayBe n (state_of parts.new) → tick n (state_of parts.old) now ≡ (effects, state_of parts.new)) }
+    ensures good { OnOk result (IsGood (state_of parts.new)) }
     ensures held_up { AreHeldUp unsettled.new (state_of parts.new) }
+    ensures on { OnOk result (GoesOn (state_of parts.old) (state_of parts.new)) }
+    ensures keeper { OnOk result (HandsOn (state_of parts.old) (state_of parts.new) (record { held = K.held keeper.old; given = K.given keeper.old; faults = K.faults keeper.old; left = K.left keeper.old }) (record { held = K.held keeper.new; given = K.given keeper.new; faults = K.faults keeper.new; left = K.left keeper.new })) }
 {
     advance(parts, now);
     let mut effects = Sequence::new(alloc);
-    lapse_all(alloc, parts, unsettled, &mut effects)?;
-    expire_all(alloc, parts, unsettled, &mut effects)?;
+    lapse_all(alloc, parts, unsettled, keeper, &mut effects)?;
+    expire_all(alloc, parts, unsettled, keeper, &mut effects)?;
+    end_grace(alloc, parts, unsettled, keeper)?;
     Ok(effects)
 }

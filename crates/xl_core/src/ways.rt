@@ -16,6 +16,7 @@ use crate::breaks::{begin_breaks, plan_then};
 use crate::judge::Plea;
 use crate::lease::moment_after;
 use crate::parts::Parts;
+use crate::standings::is_timely;
 use std::alloc::{AllocError, Global};
 use xl_base::Sequence;
 use xl_cache::{BreakPlan, recalled};
@@ -25,7 +26,7 @@ use xl_matrix::Claim;
 fn begins_some(plea: &Plea, plan: &BreakPlan) -> bool
     ensures { result ≡ begins_some plea.now plan.now }
 {
-    if plea.reclaim || first_broken(plan.breaks.as_slice()).is_none() {
+    if !is_timely(plea.standing) || first_broken(plan.breaks.as_slice()).is_none() {
         return false;
     }
     !(plea.awaits && plea.crowded.is_some() && recalled(plan).is_some())
@@ -47,7 +48,8 @@ fn carry_out(
     ensures few { OnOk result (parts.new.counter ≤ parts.old.counter + most_claims) }
     ensures queue { parts.new.queue ≡ parts.old.queue }
     ensures names { parts.new.names ≡ parts.old.names }
-    ensures made { parts.new.made ≡ parts.old.made }
+    ensures stable { parts.new.stable ≡ parts.old.stable }
+    ensures given { parts.new.given ≡ parts.old.given }
     ensures failed { parts.new.failed ≡ parts.old.failed }
 {
     if !begins_some(plea, &plan) {
@@ -76,7 +78,8 @@ fn make_way_of(
     ensures few { OnOk result (parts.new.counter ≤ parts.old.counter + most_claims) }
     ensures queue { parts.new.queue ≡ parts.old.queue }
     ensures names { parts.new.names ≡ parts.old.names }
-    ensures made { parts.new.made ≡ parts.old.made }
+    ensures stable { parts.new.stable ≡ parts.old.stable }
+    ensures given { parts.new.given ≡ parts.old.given }
     ensures failed { parts.new.failed ≡ parts.old.failed }
 {
     match passage_of(alloc, parts, claim)? {
@@ -104,7 +107,8 @@ pub(crate) fn make_way(
     ensures few { OnOk result (parts.new.counter ≤ parts.old.counter + most_claims) }
     ensures queue { parts.new.queue ≡ parts.old.queue }
     ensures names { parts.new.names ≡ parts.old.names }
-    ensures made { parts.new.made ≡ parts.old.made }
+    ensures stable { parts.new.stable ≡ parts.old.stable }
+    ensures given { parts.new.given ≡ parts.old.given }
     ensures failed { parts.new.failed ≡ parts.old.failed }
 {
     let [claim, ..] = claims else {

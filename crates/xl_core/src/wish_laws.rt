@@ -7,7 +7,6 @@ ghost use Rattle.xl_base.specs.declared.name.Party.{Party};
 ghost use Rattle.xl_cache.specs.Parties.{is_kind_of};
 ghost use Rattle.xl_cache.specs.BreakPlans.{is_running};
 ghost use Rattle.xl_matrix.specs.declared.claim.Claim.{Claim};
-ghost use Rattle.xl_wait.specs.Waiting.{waits_on};
 ghost use Rattle.xl_wait.specs.declared.waiter.Rooms.{Rooms};
 ghost use Rattle.xl_cache.specs.Wishing.{is_its_cache};
 ghost use Rattle.xl_cache.specs.declared.wish.Wish.{Wish};
@@ -21,7 +20,7 @@ ghost use Rattle.xl_core.specs.declared.ask.Answer.{Answer};
 ghost use Rattle.xl_core.specs.declared.ask.Ask.{Ask};
 ghost use Rattle.xl_core.specs.Places.{CacheOf, held_in, else_was};
 ghost use Rattle.xl_core.specs.State.{CoreState};
-ghost use Rattle.xl_core.specs.Wishes.{wished_kind, wish_granted, wish_of, wished_at};
+ghost use Rattle.xl_core.specs.Wishes.{is_waited_for, wished_kind, wish_granted, wish_of, wished_at};
 
 /// A wish of a party for kinds that it may have keeps the state good. All shares and ranges stay, each claim on another
 /// file, and on its file each cache except the party's: of that there is the kind that the wish gets, else what was
@@ -51,7 +50,7 @@ pub fn wishes_change_one_cache()
 /// party has no cache there and the table is full with 16,384 claims. A cache whose break runs stays as it is.
 #[tactic(auto, using(crate::proofs::WishLaws::waits_stand, crate::proofs::WishLaws::full_stands, crate::proofs::WishLaws::running_stays))]
 pub fn wishes_stand_back()
-    ensures waits { (wanted : Wish) (s : CoreState) → waits_on wanted.file s.waiters ≡ true → wish_granted wanted s ≡ s }
+    ensures waits { (wanted : Wish) (s : CoreState) → is_waited_for wanted.file s ≡ true → wish_granted wanted s ≡ s }
     ensures full { (wanted : Wish) (s : CoreState) → find (is_its_cache wanted) s.claims ≡ None → most_claims ≤ length s.claims → wish_granted wanted s ≡ s }
     ensures breaks { (wanted : Wish) (s : CoreState) (c : Claim) → IsIn c s.claims → is_running c.what ≡ true → IsIn c (wish_granted wanted s).claims }
 {}

@@ -5,7 +5,7 @@ ghost use Rattle.xl_table.specs.Flat.{inserted};
 ghost use Rattle.xl_table.specs.Held.{IsKept};
 ghost use Rattle.xl_table.specs.Relock.{most_claims};
 ghost use Rattle.xl_core.specs.Whole.{state_of};
-ghost use Rattle.xl_core.specs.Wishes.{has_room, wished_kind, cached, wish_granted, wish_for};
+ghost use Rattle.xl_core.specs.Wishes.{has_room, is_waited_for, wished_kind, cached, wish_granted, wish_for};
 
 use crate::ask::Answer;
 use crate::parts::Parts;
@@ -67,18 +67,26 @@ fn put_cache(
     }
 }
 
+/// Whether someone waits on the file for what a cache would keep from it: who waits while grace runs waits for its end.
+fn is_waited_for(parts: &Parts, file: u32) -> bool
+    ensures { result ≡ is_waited_for file (state_of parts.now) }
+{
+    !parts.grace.runs() && parts.queue.waits_on(file)
+}
+
 /// Grants a wish, as far as it may be: the party's cache on the file is of the best kind that goes with all that is
-/// held, if nobody waits on the file and there is room. It breaks nothing, and there is nothing to tell.
+/// held, if nobody waits on the file, grace aside, and there is room. It breaks nothing, and there is nothing to tell.
 #[tactic(auto, unfolding(crate::specs::Wishes::wished_kind, crate::specs::Wishes::wish_granted))]
 pub(crate) fn grant_wish(alloc: Global, parts: &mut Parts, wanted: &Wish) -> Result<(), AllocError>
     ensures state { OnOk result (state_of parts.new ≡ wish_granted wanted.now (state_of parts.old)) }
     ensures queue { parts.new.queue ≡ parts.old.queue }
     ensures names { parts.new.names ≡ parts.old.names }
     ensures counter { parts.new.counter ≡ parts.old.counter }
-    ensures made { parts.new.made ≡ parts.old.made }
+    ensures stable { parts.new.stable ≡ parts.old.stable }
+    ensures given { parts.new.given ≡ parts.old.given }
     ensures failed { parts.new.failed ≡ parts.old.failed }
 {
-    if parts.queue.waits_on(wanted.file) {
+    if is_waited_for(parts, wanted.file) {
         return Ok(());
     }
     let held = parts.table.of_file(alloc, wanted.file)?;
@@ -100,7 +108,8 @@ pub(crate) fn grant_for(
     answer: Answer,
 ) -> Result<(), AllocError>
     ensures state { OnOk result (state_of parts.new ≡ wish_for kinds.now answer (state_of parts.old)) }
-    ensures made { parts.new.made ≡ parts.old.made }
+    ensures stable { parts.new.stable ≡ parts.old.stable }
+    ensures given { parts.new.given ≡ parts.old.given }
     ensures failed { parts.new.failed ≡ parts.old.failed }
 {
     let Answer::Granted(claim) = answer else {

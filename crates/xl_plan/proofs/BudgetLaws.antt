@@ -5,6 +5,7 @@ use Rattle.std.specs.List.{AllByRecursion}
 use Rattle.xl_base.proofs.Members.{all_append, all_weaker}
 use Rattle.xl_base.specs.Limits.{numbers_left}
 use Rattle.xl_base.specs.Lists.{IsIn}
+use Rattle.xl_base.specs.Stable.{Stable}
 use Rattle.xl_base.specs.declared.name.Party.{Party}
 use Rattle.xl_matrix.specs.declared.claim.CacheKind.{CacheKind}
 use Rattle.xl_matrix.specs.declared.claim.Claim.{Claim}
@@ -20,7 +21,7 @@ use Rattle.xl_core.specs.Good.{IsGood}
 use Rattle.xl_core.specs.Numbers.{numbers_of}
 use Rattle.xl_core.specs.BreakAnswers.{ack, may_be_left}
 use Rattle.xl_core.specs.Settle.{cancel, close_open, end_party, give_back, weaken}
-use Rattle.xl_core.specs.State.{CoreState, GoesOn, MayBe, drawn}
+use Rattle.xl_core.specs.State.{CoreState, Aside, aside_of, GoesOn, MayBe, drawn}
 use Rattle.xl_core.specs.Ticks.{renew}
 use Rattle.xl_core.specs.declared.ask.Answer.{Answer}
 use Rattle.xl_core.specs.declared.ask.Answer.TheVariants as answers
@@ -28,8 +29,9 @@ use Rattle.xl_core.specs.declared.ask.Ask.{Ask}
 use Rattle.xl_core.specs.declared.ask.Effect.{Effect}
 use Rattle.xl_core.specs.declared.ask.Who.{Who}
 use Rattle.xl_core.specs.declared.ask.Who.TheVariants.{Named, Open}
-use Rattle.xl_core.proofs.FrameLaws.{ack_frame, ask_frame, cancel_frame, close_open_frame, drawn_frame, end_party_frame, frame_goes_on, give_back_frame, goes_on_self, renew_frame, weaken_frame}
+use Rattle.xl_core.proofs.FrameLaws.{ack_frame, ask_frame, cancel_frame, close_open_frame, drawn_frame, end_party_frame, give_back_frame, renew_frame, weaken_frame}
 use Rattle.xl_core.proofs.NumberLaws.{ack_numbers, ask_numbers, cancel_numbers, close_open_numbers, drawn_numbers, end_party_numbers, give_back_numbers, renew_numbers, weaken_numbers}
+use Rattle.xl_plan.proofs.AsideLaws.{aside_goes_on, drawn_aside, cancel_aside, give_aside, weaken_aside, ack_aside, end_aside, close_aside, renew_aside}
 use Rattle.xl_plan.specs.Budgets.{Come, IsReady, Leaves, IsWho, IsAskOf}
 
 -- ---- names that come
@@ -68,12 +70,17 @@ both_come a names is = come_then names (who_entered a.owner names) (both_entered
 -- ---- one step behind the other
 
 pub leaves_self : {P : Name → Type 0} (s : CoreState) (more least : ℕ) → IsReady more s → Leaves P least s s
-leaves_self s more least ready = record { on = goes_on_self s; good = ready.good; numbers = omega arith; names = come_self s.names }
+leaves_self s more least ready = record { on = aside_goes_on s s refl; good = ready.good; numbers = omega arith; names = come_self s.names }
 
 pub leaves_then : {P : Name → Type 0} (s t u : CoreState) (a b : ℕ) → Leaves P a s t → Leaves P b t u → Leaves P (a + b) s u
 leaves_then s t u a b first second =
     record {
-      on = record { made = omega (arith, first.on.made, second.on.made); failed = λ f. (let g = first.on.failed f in let h = second.on.failed g.0 in (h.0, h.1 ∙ g.1)) };
+      on = record {
+        made = omega (arith, first.on.made, second.on.made);
+        failed = λ f. (let g = first.on.failed f in let h = second.on.failed g.0 in (h.0, h.1 ∙ g.1));
+        more = first.on.more ++ second.on.more;
+        given = second.on.given ∙ ap (λ (given : List Stable). given ++ second.on.more) first.on.given ∙ append_assoc s.given first.on.more second.on.more;
+      };
       good = second.good;
       numbers = omega (arith, first.numbers, second.numbers);
       names = come_then s.names t.names u.names first.names second.names;
@@ -110,55 +117,55 @@ may_before n most s t leaves may = record {
 -- ---- the calls of the core
 
 -- who is let go is told of
-pub frame_leaves : {P : Name → Type 0} (s t : CoreState) (told : List Effect) (given most : ℕ) → IsFrame s told t given s.names [] → numbers_of t ≤ numbers_of s + most → IsGood t → Leaves P most s t
-frame_leaves s t told given most frame numbers good = record {
-  on = (frame_goes_on s t told given s.names frame).0;
+pub frame_leaves : {P : Name → Type 0} (s t : CoreState) (told : List Effect) (given most : ℕ) → IsFrame s told t given s.names [] → aside_of t ≡ aside_of s → numbers_of t ≤ numbers_of s + most → IsGood t → Leaves P most s t
+frame_leaves s t told given most frame same numbers good = record {
+  on = aside_goes_on s t same;
   good = good;
   numbers = numbers;
   names = come_same s.names t.names frame.names;
 }
 
 -- the same of a call, by what it gives
-call_leaves : {P : Name → Type 0} (s new : CoreState) (effects : List Effect) (call : List Effect × CoreState) → call ≡ (effects, new) → IsFrame s call.0 call.1 0 s.names [] → numbers_of call.1 ≤ numbers_of s → IsGood new → Leaves P 0 s new
-call_leaves s new effects call e frame numbers good =
-    frame_leaves s new effects 0 0 (subst (λ (r : List Effect × CoreState). IsFrame s r.0 r.1 0 s.names []) e frame) (subst (λ (r : List Effect × CoreState). numbers_of r.1 ≤ numbers_of s + 0) e (omega (arith, numbers))) good
+call_leaves : {P : Name → Type 0} (s new : CoreState) (effects : List Effect) (call : List Effect × CoreState) → call ≡ (effects, new) → IsFrame s call.0 call.1 0 s.names [] → aside_of call.1 ≡ aside_of s → numbers_of call.1 ≤ numbers_of s → IsGood new → Leaves P 0 s new
+call_leaves s new effects call e frame same numbers good =
+    frame_leaves s new effects 0 0 (subst (λ (r : List Effect × CoreState). IsFrame s r.0 r.1 0 s.names []) e frame) (subst (λ (r : List Effect × CoreState). aside_of r.1 ≡ aside_of s) e same) (subst (λ (r : List Effect × CoreState). numbers_of r.1 ≤ numbers_of s + 0) e (omega (arith, numbers))) good
 
 pub cancel_leaves : {P : Name → Type 0} (s new : CoreState) (id : ℕ) (effects : List Effect) → is_waiting id s.waiters ≡ true → cancel s id ≡ (effects, new) → IsGood new → Leaves P 0 s new
-cancel_leaves s new id effects waits e good = call_leaves s new effects (cancel s id) e (cancel_frame s id waits) (omega (arith, cancel_numbers s id)) good
+cancel_leaves s new id effects waits e good = call_leaves s new effects (cancel s id) e (cancel_frame s id waits) (cancel_aside s id) (omega (arith, cancel_numbers s id)) good
 
 pub give_leaves : {P : Name → Type 0} (s new : CoreState) (claim : Claim) (effects : List Effect) → give_back s claim ≡ (effects, new) → IsGood new → Leaves P 0 s new
-give_leaves s new claim effects e good = call_leaves s new effects (give_back s claim) e (give_back_frame s claim) (omega (arith, give_back_numbers s claim)) good
+give_leaves s new claim effects e good = call_leaves s new effects (give_back s claim) e (give_back_frame s claim) (give_aside s claim) (omega (arith, give_back_numbers s claim)) good
 
 pub weaken_leaves : {P : Name → Type 0} (s new : CoreState) (claim : Claim) (access deny : Rwd) (effects : List Effect) → weaken s claim access deny ≡ (effects, new) → IsGood new → Leaves P 0 s new
-weaken_leaves s new claim access deny effects e good = call_leaves s new effects (weaken s claim access deny) e (weaken_frame s claim access deny) (omega (arith, weaken_numbers s claim access deny)) good
+weaken_leaves s new claim access deny effects e good = call_leaves s new effects (weaken s claim access deny) e (weaken_frame s claim access deny) (weaken_aside s claim access deny) (omega (arith, weaken_numbers s claim access deny)) good
 
 pub ack_leaves : {P : Name → Type 0} (s new : CoreState) (cache : Claim) (to : Option CacheKind) (effects : List Effect) → ack s cache to ≡ (effects, new) → IsIn cache s.claims → may_be_left cache.what to ≡ true → IsGood new → Leaves P 0 s new
-ack_leaves s new cache to effects e held may good = call_leaves s new effects (ack s cache to) e (ack_frame s cache to) (omega (arith, ack_numbers s cache to held may)) good
+ack_leaves s new cache to effects e held may good = call_leaves s new effects (ack s cache to) e (ack_frame s cache to) (ack_aside s cache to) (omega (arith, ack_numbers s cache to held may)) good
 
 pub end_leaves : {P : Name → Type 0} (s new : CoreState) (party : Party) (effects : List Effect) → IsGood s → end_party s party ≡ (effects, new) → IsGood new → Leaves P 0 s new
-end_leaves s new party effects first e good = call_leaves s new effects (end_party s party) e (end_party_frame s party first) (omega (arith, end_party_numbers s party)) good
+end_leaves s new party effects first e good = call_leaves s new effects (end_party s party) e (end_party_frame s party first) (end_aside s party) (omega (arith, end_party_numbers s party)) good
 
 pub close_leaves : {P : Name → Type 0} (s new : CoreState) (number : ℕ) (party : Option Party) (effects : List Effect) → close_open s number party ≡ (effects, new) → IsGood s → IsGood new → Leaves P 0 s new
-close_leaves s new number party effects e first good = call_leaves s new effects (close_open s number party) e (close_open_frame s number party first) (omega (arith, close_open_numbers s number party)) good
+close_leaves s new number party effects e first good = call_leaves s new effects (close_open s number party) e (close_open_frame s number party first) (close_aside s number party) (omega (arith, close_open_numbers s number party)) good
 
 pub renew_leaves : {P : Name → Type 0} (s new : CoreState) (id : List ℕ) (effects : List Effect) → renew s id ≡ (effects, new) → IsGood new → Leaves P 0 s new
 renew_leaves {P} s new id effects e good =
     let frame = renew_frame s id in
     let same : (renew s id).1 ≡ new = ap (λ (r : List Effect × CoreState). r.1) e in record {
-      on = subst (λ (t : CoreState). GoesOn s t) same (record { made = omega (arith, frame.made); failed = λ f. (frame.failed ∙ f, frame.made) });
+      on = subst (λ (t : CoreState). GoesOn s t) same (aside_goes_on s (renew s id).1 frame.aside);
       good = good;
       numbers = subst (λ (t : CoreState). numbers_of t ≤ numbers_of s + 0) same (omega (arith, renew_numbers s id));
       names = subst (λ (t : CoreState). Come P s.names t.names) same (come_same s.names (renew s id).1.names frame.names);
     }
 
 pub drawn_leaves : {P : Name → Type 0} (s new : CoreState) → new ≡ drawn s → IsGood new → Leaves P 1 s new
-drawn_leaves {P} s new e good = subst (λ (t : CoreState). Leaves P 1 s t) (sym e) (frame_leaves s (drawn s) [] 1 1 (drawn_frame s) (omega (arith, drawn_numbers s)) (subst (λ (t : CoreState). IsGood t) e good))
+drawn_leaves {P} s new e good = subst (λ (t : CoreState). Leaves P 1 s t) (sym e) (frame_leaves s (drawn s) [] 1 1 (drawn_frame s) (drawn_aside s) (omega (arith, drawn_numbers s)) (subst (λ (t : CoreState). IsGood t) e good))
 
 pub drawn_number : (s : CoreState) → (drawn s).counter ≡ s.counter + 1
 drawn_number s = (drawn_frame s).counter
 
 pub drawn_stable : (s : CoreState) → (drawn s).stable ≡ s.stable
-drawn_stable s = (drawn_frame s).stable
+drawn_stable s = ap (λ (x : Aside). x.stable) (drawn_aside s)
 
 -- ---- an ask
 

@@ -1,12 +1,14 @@
 //! Laws of plans. The functions do nothing: each has laws as its clauses.
 ghost use Rattle.std.specs.Prelude.{◌≡◌, ℕ, ◌+◌, Bool, true, false, List, ◌∷◌, ◌++◌};
 ghost use Rattle.std.specs.List.{AllByRecursion};
-ghost use Rattle.xl_core.specs.State.{CoreState};
+ghost use Rattle.xl_core.specs.State.{CoreState, GoesOn, step_begun};
+ghost use Rattle.xl_core.specs.Stores.{Telling, Holds, HandsOn};
 ghost use Rattle.xl_core.specs.Good.{IsGood};
 ghost use Rattle.xl_core.specs.Deeds.{Deed, all_done, all_told_of, IsFitDeed, AreFit};
 ghost use Rattle.xl_plan.specs.Plans.{Plan, deeds_of, told_behind, carried, bind, carried_next, deeds_next, within, ended_within, AllDeeds, AllEnds, AllKept};
 ghost use Rattle.xl_names.specs.declared.name.Name.{Name};
 ghost use Rattle.xl_plan.specs.Budgets.{IsReady, Leaves};
+ghost use Rattle.xl_plan.specs.Keepers.{IsTold};
 ghost use Rattle.xl_plan.specs.Rows.{row};
 
 /// A plan leaves what its deeds leave, and tells of what they tell of. If each of its deeds is one that the core takes,
@@ -58,4 +60,11 @@ pub fn plans_stand_within_others<F, G, T, U>()
 pub fn budgets_add_up()
     ensures leaves { (test : Name → Bool) (s t u : CoreState) (a b : ℕ) → Leaves (λ name. test name ≡ true) a s t → Leaves (λ name. test name ≡ true) b t u → Leaves (λ name. test name ≡ true) (a + b) s u }
     ensures ready { (test : Name → Bool) (s t : CoreState) (a b : ℕ) → IsReady (a + b) s → Leaves (λ name. test name ≡ true) a s t → IsReady b t }
+{}
+
+/// The parts of a step hand the keeper of the record on: a step begins with the keeper that holds the record as it is stored,
+/// and behind each call that may store the keeper tells of the stores of the whole step until then.
+pub fn keepers_are_handed_on()
+    ensures begun { (s : CoreState) (now : Telling) → Holds now.held s.stable → IsTold now (step_begun s) now }
+    ensures on { (s t : CoreState) (old new before : Telling) → HandsOn s t old new → GoesOn s t → IsTold before s old → IsTold before t new }
 {}

@@ -2,4 +2,5 @@
 
 mod asks;
 mod cases;
+mod grace;
 mod steps;

@@ -71,6 +71,8 @@ pub(crate) enum Asked {
     Test(u8),
     /// A caller of NLM locks ten bytes of this file, and waits if something stands in its way.
     Lock(u32, u8),
+    /// A caller of NLM reclaims the lock of ten bytes; it would wait.
+    ReclaimedLock(u8),
     /// An SMB open locks one range, shared or exclusively; it doesn't wait.
     Range(u32, Place, bool),
     /// An SMB open locks the bytes 0 to 9, the bytes 20 to 29, and ten bytes from here on, in one request.
@@ -86,8 +88,12 @@ pub(crate) enum Asked {
     Wish(u32),
     /// An NFSv4 client's share for reading.
     ClientShare(u8),
+    /// An NFSv4 client's share, as a reclaim.
+    ReclaimedShare(u8, Rwd, Rwd),
     /// An NFSv4 client's share for reading and writing, with a write delegation.
     Delegation(u8),
+    /// The same, as a reclaim.
+    ReclaimedDelegation(u8),
     /// A share by a caller of NLM that waits for answers; its host is new.
     HostShare(u8),
 }
@@ -122,13 +128,15 @@ fn test_of(alloc: Global, caller: u8) -> Result<Ask, AllocError>
     Ok(a_test(alloc, name, same))
 }
 
-/// A lock of ten bytes of the file by a caller, whose name is given twice. It waits if something blocks it.
+/// A lock of ten bytes of the file by a caller, whose name is given twice. It waits if something blocks it, and is monitored if
+/// it is a reclaim.
 fn lock_by(
     alloc: Global,
     file: u32,
     caller: Sequence<u8>,
     same: Sequence<u8>,
     ranges: Sequence<(Extent, bool)>,
+    reclaim: bool,
 ) -> Ask
     requires caller { caller ≡ same }
     requires ranges { ranges ≡ (Bytes 0 9, true) ∷ [] }
@@ -143,24 +151,31 @@ fn lock_by(
         conn: None,
         blocking: true,
         awaits: true,
-        reclaim: false,
-        monitored: false,
+        reclaim,
+        monitored: reclaim,
         rows: NO_ROWS,
     }
 }
 
-fn lock_of(alloc: Global, file: u32, caller: u8) -> Result<Ask, AllocError>
+fn lock_of(alloc: Global, file: u32, caller: u8, reclaim: bool) -> Result<Ask, AllocError>
     ensures { IfOk result (λ ask. IsFit ask) }
 {
     let mut ranges = Sequence::new(alloc);
     ranges.push((Extent::Bytes(0, 9), true))?;
     let name = Sequence::from_slice(alloc, &[caller])?;
     let same = Sequence::from_slice(alloc, &[caller])?;
-    Ok(lock_by(alloc, file, name, same, ranges))
+    Ok(lock_by(alloc, file, name, same, ranges, reclaim))
 }
 
-/// A share of an NFSv4 client for reading, whose id string is given twice.
-fn a_share(alloc: Global, client: Sequence<u8>, same: Sequence<u8>) -> Ask
+/// A share of an NFSv4 client, whose id string is given twice.
+fn a_share(
+    alloc: Global,
+    client: Sequence<u8>,
+    same: Sequence<u8>,
+    access: Rwd,
+    deny: Rwd,
+    reclaim: bool,
+) -> Ask
     requires { client ≡ same }
     ensures { IsFit result }
 {
@@ -168,23 +183,29 @@ fn a_share(alloc: Global, client: Sequence<u8>, same: Sequence<u8>) -> Ask
         file: 1,
         owner: Who::Named(Name::NfsShare(client, Sequence::new(alloc))),
         party: Who::Named(Name::NfsParty(same)),
-        act: Act::Share(READ, NONE),
+        act: Act::Share(access, deny),
         wish: Sequence::new(alloc),
         conn: None,
         blocking: false,
         awaits: false,
-        reclaim: false,
+        reclaim,
         monitored: true,
         rows: NO_ROWS,
     }
 }
 
-fn client_share(alloc: Global, client: u8) -> Result<Ask, AllocError>
+fn client_share(
+    alloc: Global,
+    client: u8,
+    access: Rwd,
+    deny: Rwd,
+    reclaim: bool,
+) -> Result<Ask, AllocError>
     ensures { IfOk result (λ ask. IsFit ask) }
 {
     let name = Sequence::from_slice(alloc, &[client])?;
     let same = Sequence::from_slice(alloc, &[client])?;
-    Ok(a_share(alloc, name, same))
+    Ok(a_share(alloc, name, same, access, deny, reclaim))
 }
 
 /// A share by an NFSv4 client, whose id string is given twice, with a write delegation.
@@ -194,6 +215,7 @@ fn share_of(
     client: Sequence<u8>,
     same: Sequence<u8>,
     kinds: Sequence<CacheKind>,
+    reclaim: bool,
 ) -> Ask
     requires client { client ≡ same }
     requires kinds { kinds ≡ WriteDeleg ∷ [] }
@@ -208,20 +230,20 @@ fn share_of(
         conn: None,
         blocking: false,
         awaits: false,
-        reclaim: false,
+        reclaim,
         monitored: true,
         rows: NO_ROWS,
     }
 }
 
-fn delegation_of(alloc: Global, client: u8) -> Result<Ask, AllocError>
+fn delegation_of(alloc: Global, client: u8, reclaim: bool) -> Result<Ask, AllocError>
     ensures { IfOk result (λ ask. IsFit ask) }
 {
     let mut kinds = Sequence::new(alloc);
     kinds.push(CacheKind::WriteDeleg)?;
     let name = Sequence::from_slice(alloc, &[client])?;
     let same = Sequence::from_slice(alloc, &[client])?;
-    Ok(share_of(alloc, name, same, kinds))
+    Ok(share_of(alloc, name, same, kinds, reclaim))
 }
 
 /// A share by an NLM caller, whose name is given twice, that waits for answers; its host is new.
@@ -454,7 +476,8 @@ pub(crate) fn ask_of(alloc: Global, asked: &Asked) -> Result<Ask, AllocError>
 {
     match asked {
         Asked::Test(caller) => test_of(alloc, *caller),
-        Asked::Lock(file, caller) => lock_of(alloc, *file, *caller),
+        Asked::Lock(file, caller) => lock_of(alloc, *file, *caller, false),
+        Asked::ReclaimedLock(caller) => lock_of(alloc, 1, *caller, true),
         Asked::Range(number, place, exclusive) => range_at(alloc, *number, *place, *exclusive),
         Asked::Three(number, first) => three_of(alloc, *number, *first),
         Asked::Unlock(number, place) => Ok(unlock_at(alloc, *number, *place)),
@@ -462,8 +485,12 @@ pub(crate) fn ask_of(alloc: Global, asked: &Asked) -> Result<Ask, AllocError>
         Asked::Oplock(number, deny) => oplock_of(alloc, *number, *deny),
         Asked::OplockThatWaits(number) => oplock_that_waits(alloc, *number),
         Asked::Wish(number) => wish_of(alloc, *number),
-        Asked::ClientShare(client) => client_share(alloc, *client),
-        Asked::Delegation(client) => delegation_of(alloc, *client),
+        Asked::ClientShare(client) => client_share(alloc, *client, READ, NONE, false),
+        Asked::ReclaimedShare(client, access, deny) => {
+            client_share(alloc, *client, *access, *deny, true)
+        }
+        Asked::Delegation(client) => delegation_of(alloc, *client, false),
+        Asked::ReclaimedDelegation(client) => delegation_of(alloc, *client, true),
         Asked::HostShare(caller) => host_share(alloc, *caller),
     }
 }

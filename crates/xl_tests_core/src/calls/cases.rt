@@ -1,7 +1,7 @@
 //! Cases of the core's calls, one after another.
 
 use super::asks::{Asked, BOTH, NONE, Place, READ, WRITE};
-use super::steps::{Step, Told, wrong_step};
+use super::steps::{Start, Step, Told, wrong_from};
 use std::test::Fail;
 use xl_base::{Party, Protocol};
 use xl_matrix::CacheKind;
@@ -71,7 +71,7 @@ const LEASES: &[Step] = &[
     Step::Renews(b'b'),
     Step::Renews(b'a'),
     Step::Reads(106, 0),
-    Step::Expire(107, b'a', b'b'),
+    Step::Expire(107, b"ab"),
     Step::Reads(50, 0),
     Step::Clock(107),
 ];
@@ -115,6 +115,26 @@ const ANSWERED: &[Step] = &[
     Step::Turn(1),
     Step::Has(Party::Open(1), "R"),
     Step::Has(Party::Open(2), "R"),
+];
+
+/// An open's lock ends the cache of another with its notice, so that it is granted at once; its own it keeps.
+const ENDS_AT_ONCE: &[Step] = &[
+    Step::Ask(Asked::Oplock(1, NONE), Told::Granted, 0),
+    Step::Ask(Asked::OplockThatWaits(2), Told::Queued, 1),
+    Step::Answers(1, Some(CacheKind::R), true),
+    Step::Turn(1),
+    Step::Ask(Asked::Range(1, Place::Whole, true), Told::Granted, 1),
+    Step::Has(Party::Open(1), "R"),
+    Step::Has(Party::Open(2), "-"),
+];
+
+/// Who waits for a cache has a turn once it is given back.
+const GIVEN_BACK: &[Step] = &[
+    Step::Ask(Asked::Oplock(1, NONE), Told::Granted, 0),
+    Step::Ask(Asked::OplockThatWaits(2), Told::Queued, 1),
+    Step::Turn(0),
+    Step::GivesBack(Party::Open(1)),
+    Step::Turn(1),
 ];
 
 /// Two that don't wait are answered with the cache, whose break the first of them begins; it is over at its deadline,
@@ -177,7 +197,7 @@ const RECALLED: &[Step] = &[
 ];
 
 /// The moment at which the clock begins, and the steps.
-const CASES: [(u64, &[Step]); 14] = [
+const CASES: [(u64, &[Step]); 16] = [
     (7, NEW),
     (7, ONE_OPEN),
     (7, SEVERAL),
@@ -187,6 +207,8 @@ const CASES: [(u64, &[Step]); 14] = [
     (0, GOES_WITH_LEASE),
     (7, TURNS),
     (7, ANSWERED),
+    (7, ENDS_AT_ONCE),
+    (7, GIVEN_BACK),
     (7, OVER),
     (7, GIVES_WAY),
     (7, STANDS_BACK),
@@ -197,7 +219,13 @@ const CASES: [(u64, &[Step]); 14] = [
 #[test]
 fn calls(rt: HostRuntime) -> Result<(), Fail> {
     for (case, (moment, steps)) in CASES.iter().enumerate() {
-        let wrong = wrong_step(rt.alloc(), *moment, steps)?;
+        let start = Start {
+            moment: *moment,
+            clients: b"",
+            callers: b"",
+            failing: &[],
+        };
+        let wrong = wrong_from(rt.alloc(), &start, &[steps])?;
         assert!(rt; wrong.is_none(), "{case}: {wrong:?}");
     }
     Ok(())

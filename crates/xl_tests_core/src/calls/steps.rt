@@ -1,15 +1,16 @@
 //! What is done to a core, step by step, and what comes of it.
 
-ghost use Rattle.std.specs.Prelude.{◌≡◌, true, OnOk};
+ghost use Rattle.std.specs.Prelude.{◌≡◌, true, OnOk, IfOk, IfSome};
 ghost use Rattle.xl_base.specs.Lists.{IsIn};
 ghost use Rattle.xl_core.specs.BreakAnswers.{may_be_left};
 ghost use Rattle.xl_core.specs.Good.{IsGood};
 
 use super::asks::{Asked, ask_of};
 use std::alloc::{AllocError, Global};
-use xl_base::{MemoryKeeper, Moment, Owner, Party, Record, Sequence};
+use xl_base::{MemoryKeeper, Moment, Owner, Party, Protocol, Record, Recorded, Sequence};
 use xl_cache::{Wish, find_own_cache, rest_within};
 use xl_core::{Answer, Core, Effect, Times};
+use xl_grace::Grace;
 use xl_matrix::{CacheKind, Claim, What};
 use xl_wait::Rooms;
 
@@ -45,6 +46,12 @@ pub(crate) enum Told {
     Against(u32),
     Queued,
     Recall,
+    /// Grace runs until this moment.
+    Grace(u64),
+    /// No grace runs; the clock reads this moment.
+    NoGrace(u64),
+    NotRecorded,
+    StoreFailed,
     Full,
     NotHeld,
 }
@@ -60,10 +67,12 @@ pub(crate) enum Step {
     Leaves(Party, usize),
     /// An open's answer to the break of its cache, by which this much is left, is taken or isn't.
     Answers(u32, Option<CacheKind>, bool),
+    /// A party gives its cache back.
+    GivesBack(Party),
     /// The clock reads this moment, and there are so many effects.
     Reads(u64, usize),
-    /// The clock reads this moment, and just these two clients expire, in this order.
-    Expire(u64, u8, u8),
+    /// The clock reads this moment, and just these clients expire, in this order.
+    Expire(u64, &'static [u8]),
     /// A client's lease begins, or runs anew.
     Renews(u8),
     Begins,
@@ -76,10 +85,20 @@ pub(crate) enum Step {
     Clock(u64),
     /// The last number that was given out.
     Counter(u32),
+    /// The record has these names, and the keeper holds it; so many records were given to be stored so far, of which the step
+    /// stored so many.
+    Stored(&'static [u8], usize, u64),
 }
 
-fn keeper(alloc: Global) -> MemoryKeeper {
-    MemoryKeeper::new(alloc, Record::new(alloc), Vec::new(alloc))
+/// How a core starts.
+#[derive(Clone, Copy)]
+pub(crate) struct Start<'a> {
+    pub(crate) moment: u64,
+    /// The clients of NFSv4 that the record has, and behind them the callers of NLM.
+    pub(crate) clients: &'a [u8],
+    pub(crate) callers: &'a [u8],
+    /// These calls of the keeper fail, of which the first is 1.
+    pub(crate) failing: &'a [u64],
 }
 
 fn is_answer(answer: &Answer, wanted: &Told) -> bool {
@@ -91,6 +110,10 @@ fn is_answer(answer: &Answer, wanted: &Told) -> bool {
         }
         (Answer::Queued(_), Told::Queued) => true,
         (Answer::Recall(_), Told::Recall) => true,
+        (Answer::Grace(until), Told::Grace(moment)) => until.0 == *moment,
+        (Answer::NoGrace(clock), Told::NoGrace(moment)) => clock.0 == *moment,
+        (Answer::NotRecorded, Told::NotRecorded) => true,
+        (Answer::StoreFailed, Told::StoreFailed) => true,
         (Answer::Full(_), Told::Full) => true,
         (Answer::NotHeld, Told::NotHeld) => true,
         _ => false,
@@ -101,6 +124,7 @@ fn is_answer(answer: &Answer, wanted: &Told) -> bool {
 fn is_told(
     alloc: Global,
     core: &mut Core,
+    keeper: &mut MemoryKeeper,
     asked: &Asked,
     left: &Rooms,
     wanted: &Told,
@@ -113,7 +137,7 @@ fn is_told(
     if core.counter() > MOST_NUMBERS {
         return Err(AllocError);
     }
-    let (answer, told) = core.ask(alloc, &mut keeper(alloc), &ask, left)?;
+    let (answer, told) = core.ask(alloc, keeper, &ask, left)?;
     Ok(is_answer(&answer, wanted) && told.as_slice().len() == effects)
 }
 
@@ -121,14 +145,19 @@ fn is_served(told: &[Effect], wanted: u32) -> bool {
     matches!(told, [Effect::Served(_, number, Answer::Granted(_))] if *number == wanted)
 }
 
-fn is_turn(alloc: Global, core: &mut Core, number: u32) -> Result<bool, AllocError>
+fn is_turn(
+    alloc: Global,
+    core: &mut Core,
+    keeper: &mut MemoryKeeper,
+    number: u32,
+) -> Result<bool, AllocError>
     requires good { IsGood core.old }
     ensures good { OnOk result (IsGood core.new) }
 {
     if core.counter() > MOST_NUMBERS {
         return Err(AllocError);
     }
-    let turn = core.settle(alloc, &mut keeper(alloc), &LEFT)?;
+    let turn = core.settle(alloc, keeper, &LEFT)?;
     Ok(match turn {
         Some(told) => is_served(told.as_slice(), number),
         None => number == 0,
@@ -165,11 +194,18 @@ fn whose(alloc: Global, party: Party) -> Wish {
 }
 
 fn has(alloc: Global, core: &Core, party: Party, word: &str) -> Result<bool, AllocError> {
-    let held = core.table().of_file(alloc, 1)?;
-    Ok(match find_own_cache(&whose(alloc, party), &held) {
+    Ok(match own_cache(alloc, core, party)? {
         Some(cache) => cache_word(cache.what) == word,
         None => word == "-",
     })
+}
+
+/// The party's cache of file 1.
+fn own_cache(alloc: Global, core: &Core, party: Party) -> Result<Option<Claim>, AllocError>
+    ensures { IfOk result (λ r. IfSome r (λ cache. IsIn cache core.now.claims)) }
+{
+    let held = core.table().of_file(alloc, 1)?;
+    Ok(find_own_cache(&whose(alloc, party), &held))
 }
 
 /// Answers the break of a cache that is held.
@@ -192,8 +228,7 @@ fn answers(
     requires good { IsGood core.old }
     ensures good { OnOk result (IsGood core.new) }
 {
-    let held = core.table().of_file(alloc, 1)?;
-    let Some(cache) = find_own_cache(&whose(alloc, Party::Open(number)), &held) else {
+    let Some(cache) = own_cache(alloc, core, Party::Open(number))? else {
         return Ok(false);
     };
     let What::Cache(_, Some(running)) = cache.what else {
@@ -204,6 +239,18 @@ fn answers(
     }
     ack(alloc, core, &cache, to);
     Ok(true)
+}
+
+/// Gives the party's cache back; false if it has none.
+fn gives_back(alloc: Global, core: &mut Core, party: Party) -> Result<bool, AllocError>
+    requires good { IsGood core.old }
+    ensures good { OnOk result (IsGood core.new) }
+{
+    let Some(cache) = own_cache(alloc, core, party)? else {
+        return Ok(false);
+    };
+    let told = core.give_back(alloc, &cache);
+    Ok(told.is_empty())
 }
 
 /// Whether the answer to the break is taken, or isn't.
@@ -221,35 +268,52 @@ fn is_taken(
     Ok(taken == wanted)
 }
 
-fn reads(alloc: Global, core: &mut Core, moment: u64, effects: usize) -> Result<bool, AllocError>
-    requires good { IsGood core.old }
-    ensures good { OnOk result (IsGood core.new) }
-{
-    let told = core.tick(alloc, &mut keeper(alloc), Moment(moment))?;
-    Ok(told.as_slice().len() == effects)
-}
-
-fn are_expired(effects: &[Effect], first: u8, second: u8) -> bool {
-    match effects {
-        [Effect::Expired(a), Effect::Expired(b)] => {
-            a.as_slice() == [first].as_slice() && b.as_slice() == [second].as_slice()
-        }
-        _ => false,
-    }
-}
-
-fn two_expire(
+fn reads(
     alloc: Global,
     core: &mut Core,
+    keeper: &mut MemoryKeeper,
     moment: u64,
-    first: u8,
-    second: u8,
+    effects: usize,
 ) -> Result<bool, AllocError>
     requires good { IsGood core.old }
     ensures good { OnOk result (IsGood core.new) }
 {
-    let told = core.tick(alloc, &mut keeper(alloc), Moment(moment))?;
-    Ok(are_expired(told.as_slice(), first, second))
+    let told = core.tick(alloc, keeper, Moment(moment))?;
+    Ok(told.as_slice().len() == effects)
+}
+
+fn is_expiry(effect: &Effect, client: u8) -> bool {
+    match effect {
+        Effect::Expired(id) => id.as_slice() == [client].as_slice(),
+        _ => false,
+    }
+}
+
+/// Whether just these clients expire, in this order.
+fn are_expired(effects: &[Effect], clients: &[u8]) -> bool {
+    if effects.len() != clients.len() {
+        return false;
+    }
+    'effects: for (effect, client) in effects.iter().zip(clients) {
+        if !is_expiry(effect, *client) {
+            return false;
+        }
+    }
+    true
+}
+
+fn all_expire(
+    alloc: Global,
+    core: &mut Core,
+    keeper: &mut MemoryKeeper,
+    moment: u64,
+    clients: &[u8],
+) -> Result<bool, AllocError>
+    requires good { IsGood core.old }
+    ensures good { OnOk result (IsGood core.new) }
+{
+    let told = core.tick(alloc, keeper, Moment(moment))?;
+    Ok(are_expired(told.as_slice(), clients))
 }
 
 fn renews(alloc: Global, core: &mut Core, client: u8) -> Result<bool, AllocError>
@@ -276,8 +340,33 @@ fn has_range(alloc: Global, core: &Core, exclusive: bool) -> Result<bool, AllocE
     })
 }
 
+/// Whether these are the names, each of one byte.
+fn are_named(names: &[Recorded], bytes: &[u8]) -> bool {
+    if names.len() != bytes.len() {
+        return false;
+    }
+    'names: for (recorded, byte) in names.iter().zip(bytes) {
+        if recorded.name.as_slice() != [*byte].as_slice() {
+            return false;
+        }
+    }
+    true
+}
+
+fn is_stored(core: &Core, keeper: &MemoryKeeper, names: &[u8], given: usize, made: u64) -> bool {
+    are_named(core.stable().names(), names)
+        && are_named(keeper.held().names(), names)
+        && keeper.given().len() == given
+        && core.made() == made
+}
+
 /// Whether the core is as the step says, which changes nothing.
-fn is_so(alloc: Global, core: &Core, step: &Step) -> Result<bool, AllocError> {
+fn is_so(
+    alloc: Global,
+    core: &Core,
+    keeper: &MemoryKeeper,
+    step: &Step,
+) -> Result<bool, AllocError> {
     match step {
         Step::Has(party, word) => has(alloc, core, *party, word),
         Step::HasRange(exclusive) => has_range(alloc, core, *exclusive),
@@ -290,49 +379,101 @@ fn is_so(alloc: Global, core: &Core, step: &Step) -> Result<bool, AllocError> {
         }
         Step::Clock(moment) => Ok(core.clock().0 == *moment),
         Step::Counter(number) => Ok(core.counter() == *number),
+        Step::Stored(names, given, made) => Ok(is_stored(core, keeper, names, *given, *made)),
         _ => Ok(false),
     }
 }
 
 /// Whether a step comes to what it says.
-fn is_done(alloc: Global, core: &mut Core, step: &Step) -> Result<bool, AllocError>
+fn is_done(
+    alloc: Global,
+    core: &mut Core,
+    keeper: &mut MemoryKeeper,
+    step: &Step,
+) -> Result<bool, AllocError>
     requires good { IsGood core.old }
     ensures good { OnOk result (IsGood core.new) }
 {
     match step {
-        Step::Ask(asked, told, effects) => is_told(alloc, core, asked, &LEFT, told, *effects),
-        Step::AskInVain(asked, told, effects) => {
-            is_told(alloc, core, asked, &NO_HOSTS, told, *effects)
+        Step::Ask(asked, told, effects) => {
+            is_told(alloc, core, keeper, asked, &LEFT, told, *effects)
         }
-        Step::Turn(number) => is_turn(alloc, core, *number),
+        Step::AskInVain(asked, told, effects) => {
+            is_told(alloc, core, keeper, asked, &NO_HOSTS, told, *effects)
+        }
+        Step::Turn(number) => is_turn(alloc, core, keeper, *number),
         Step::Leaves(party, effects) => leaves(alloc, core, *party, *effects),
         Step::Answers(number, to, wanted) => is_taken(alloc, core, *number, *to, *wanted),
-        Step::Reads(moment, effects) => reads(alloc, core, *moment, *effects),
-        Step::Expire(moment, first, second) => two_expire(alloc, core, *moment, *first, *second),
+        Step::GivesBack(party) => gives_back(alloc, core, *party),
+        Step::Reads(moment, effects) => reads(alloc, core, keeper, *moment, *effects),
+        Step::Expire(moment, clients) => all_expire(alloc, core, keeper, *moment, clients),
         Step::Renews(client) => renews(alloc, core, *client),
         Step::Begins => begins(core),
-        looks => is_so(alloc, core, looks),
+        looks => is_so(alloc, core, keeper, looks),
     }
 }
 
 /// The place of the first step that comes to something else.
-fn first_wrong(alloc: Global, core: &mut Core, steps: &[Step]) -> Result<Option<usize>, AllocError>
+fn first_wrong(
+    alloc: Global,
+    core: &mut Core,
+    keeper: &mut MemoryKeeper,
+    steps: &[Step],
+) -> Result<Option<usize>, AllocError>
     requires good { IsGood core.old }
+    ensures good { OnOk result (IsGood core.new) }
 {
     'steps: for (place, step) in steps.iter().enumerate() {
-        if !is_done(alloc, core, step)? {
+        if !is_done(alloc, core, keeper, step)? {
             return Ok(Some(place));
         }
     }
     Ok(None)
 }
 
-/// The same, of a new core whose clock reads this moment.
-pub(crate) fn wrong_step(
+fn add_names(
+    record: &mut Record,
     alloc: Global,
-    moment: u64,
-    steps: &[Step],
-) -> Result<Option<usize>, AllocError> {
-    let mut core = Core::new(alloc, Record::new(alloc), Moment(moment), TIMES);
-    first_wrong(alloc, &mut core, steps)
+    protocol: Protocol,
+    names: &[u8],
+) -> Result<(), AllocError> {
+    'names: for name in names {
+        let name = Sequence::from_slice(alloc, &[*name])?;
+        if record.add(Recorded { protocol, name }).is_err() {
+            return Err(AllocError);
+        }
+    }
+    Ok(())
+}
+
+fn record_of(alloc: Global, start: &Start) -> Result<Record, AllocError> {
+    let mut record = Record::new(alloc);
+    add_names(&mut record, alloc, Protocol::Nfs, start.clients)?;
+    add_names(&mut record, alloc, Protocol::Nlm, start.callers)?;
+    Ok(record)
+}
+
+/// A core that starts with this record, and its grace.
+fn started(alloc: Global, record: Record, moment: u64) -> Result<Core, AllocError>
+    ensures { IfOk result (λ core. IsGood core) }
+{
+    let grace = Grace::start(alloc, &record, Moment(moment), TIMES.grace)?;
+    Ok(Core::new(alloc, record, grace, Moment(moment), TIMES))
+}
+
+/// The row of steps, and the place in it, of the first step that comes to something else behind such a start.
+pub(crate) fn wrong_from(
+    alloc: Global,
+    start: &Start,
+    rows: &[&[Step]],
+) -> Result<Option<(usize, usize)>, AllocError> {
+    let record = record_of(alloc, start)?;
+    let mut keeper = MemoryKeeper::new(alloc, record.copy(alloc)?, start.failing.to_vec(alloc)?);
+    let mut core = started(alloc, record, start.moment)?;
+    'rows: for (row, steps) in rows.iter().enumerate() {
+        if let Some(place) = first_wrong(alloc, &mut core, &mut keeper, steps)? {
+            return Ok(Some((row, place)));
+        }
+    }
+    Ok(None)
 }

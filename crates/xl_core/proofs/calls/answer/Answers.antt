@@ -8,7 +8,7 @@ use Rattle.xl_core.proofs.HeldUpLaws.{ask_up}
 use Rattle.xl_core.proofs.calls.answer.Goals as goal
 
 pub returns-clause-held_up : goal.returns-clause-held_up
-returns-clause-held_up c =
+returns-clause-held_up g c =
     let request = c.args.request.now in
     let answer = c.in_ok-answer.answer in
     let told : List Effect = c.in_ok-answer.told in

@@ -1,15 +1,23 @@
-use Rattle.std.proofs.Common.{List, sym, subst, ◌∙◌}
+use Rattle.std.proofs.Common.{◌≡◌, IfOk, List, [], sym, subst, ◌∙◌}
 use Rattle.xl_matrix.specs.declared.claim.Claim.{Claim}
 use Rattle.xl_core.specs.Blockers.{IsKnown}
+use Rattle.xl_core.specs.Decide.{claims_asked}
+use Rattle.xl_core.specs.State.{MayBe}
 use Rattle.xl_core.specs.Whole.{state_of}
 use Rattle.xl_core.proofs.DoorLaws.{ranges_alone, ranges_row}
 use Rattle.xl_core.proofs.decide.ask_ranges.Goals as goal
 
 pub ask_claims-requires-clause-known : goal.ask_claims-requires-clause-known
-ask_claims-requires-clause-known c = subst (λ (cs : List Claim). IsKnown c.args.known (state_of c.args.parts.now) cs) (sym (c.deref.ensures.value ∙ c.in_ok-claims.ensures)) c.requires.known
+ask_claims-requires-clause-known g c = subst (λ (cs : List Claim). IsKnown c.args.known (state_of c.args.parts.now) cs) (sym (c.deref.ensures.value ∙ c.in_ok-claims.ensures)) c.requires.known
 
 pub ask_claims-requires-clause-row : goal.ask_claims-requires-clause-row
-ask_claims-requires-clause-row c = ranges_row c.args.parts.now c.args.ask.now c.args.ranges.now c.deref.result.now (c.deref.ensures.value ∙ c.in_ok-claims.ensures) c.requires.fit c.requires.client c.requires.own
+ask_claims-requires-clause-row g c = ranges_row c.args.parts.now c.args.ask.now c.args.ranges.now c.deref.result.now (c.deref.ensures.value ∙ c.in_ok-claims.ensures) c.requires.fit c.requires.client c.requires.own
 
 pub ask_claims-requires-clause-party : goal.ask_claims-requires-clause-party
-ask_claims-requires-clause-party c = ranges_alone c.args.parts.now c.args.ask.now c.args.ranges.now c.deref.result.now (c.deref.ensures.value ∙ c.in_ok-claims.ensures) c.requires.good c.requires.client
+ask_claims-requires-clause-party g c = ranges_alone c.args.parts.now c.args.ask.now c.args.ranges.now c.deref.result.now (c.deref.ensures.value ∙ c.in_ok-claims.ensures) c.requires.good c.requires.client
+
+pub returns-clause-answer : goal.returns-clause-answer
+returns-clause-answer g c =
+    let s = state_of c.args.parts.now in
+    let t = state_of c.ask_claims.new.parts in
+    λ n. subst (λ (cs : List Claim). IfOk c.ask_claims.result (λ answer. MayBe n t → claims_asked n c.args.left.now s c.args.ask.now cs ≡ (answer, [], t))) (c.deref.ensures.value ∙ c.in_ok-claims.ensures) (c.ask_claims.ensures.answer n)

@@ -5,7 +5,7 @@ use Rattle.xl_core.proofs.UnsettledLaws.{called_on_from}
 use Rattle.xl_core.proofs.settling.first_called.Goals as goal
 
 pub loop-waiter-init : goal.loop-waiter-init
-loop-waiter-init c = (refl, each_up c.args.unsettled.now (state_of c.args.parts.now) [] c.args.waiters.now c.requires)
+loop-waiter-init c = (refl, each_up c.args.unsettled.now (state_of c.args.parts.now) [] c.args.waiters.now c.requires.up)
 
 pub loop-waiter-preserved : goal.loop-waiter-preserved
 loop-waiter-preserved c =

@@ -22,6 +22,6 @@ returns-clause-state c =
     elim c.match-kind_for.branch [
       | in-Some+in_ok-put_cache w ↦
           ap (λ (p : Parts). state_of p) w.parts-is
-          ∙ kind_granted c.args.wanted.now (state_of c.args.parts.now) c.find_own_cache-own.result w.in-Some.kind w.put_cache.new.table (sym c.waits_on.ensures ∙ c.if-waits_on.false) own (sym c.has_room.ensures.room ∙ c.if-not-has_room.false) (sym kind ∙ w.in-Some.is) w.in_ok-put_cache.ensures
+          ∙ kind_granted c.args.wanted.now (state_of c.args.parts.now) c.find_own_cache-own.result w.in-Some.kind w.put_cache.new.table (sym c.is_waited_for.ensures ∙ c.if-is_waited_for.false) own (sym c.has_room.ensures.room ∙ c.if-not-has_room.false) (sym kind ∙ w.in-Some.is) w.in_ok-put_cache.ensures
       | in_default w ↦ ap (λ (p : Parts). state_of p) w.parts-is ∙ none_granted c.args.wanted.now (state_of c.args.parts.now) (sym kind ∙ w.in_default.is)
     ]
