@@ -1,6 +1,6 @@
 -- A call's step is what its deeds leave, tell and answer; the core takes them, and they are the client's.
 use Rattle.std.specs.Option.{option_and_then}
-use Rattle.std.proofs.Common.{◌≡◌, ℕ, List, ◌++◌, length, Option, Some, None, refl, ap, ◌∙◌}
+use Rattle.std.proofs.Common.{◌≡◌, ℕ, true, false, List, ◌++◌, length, Option, Some, None, refl, ap, ◌∙◌}
 use Rattle.xl_base.specs.declared.journal.Exports.{Exports}
 use Rattle.xl_nlm.specs.Items.{TestArgsItem, LockArgsItem, CallItem, Null, Lock, Granted, NmLock}
 use Rattle.xl_programs.specs.Programs.{RequestItem}
@@ -17,16 +17,20 @@ use Rattle.xl_front_nlm.specs.Results.{reply_of}
 use Rattle.xl_nlm.specs.Replies.{results}
 use Rattle.xl_rpc.specs.Replies.{reply}
 use Rattle.xl_rpc.specs.declared.reply.Verdict.TheVariants.{Success}
-use Rattle.xl_front_nlm.specs.Serving.{planned, served, client_of}
+use Rattle.xl_front_nlm.specs.Serving.{locking, planned, served, client_of}
 use Rattle.xl_front_nlm.specs.State.{FrontState}
 use Rattle.xl_front_nlm.specs.declared.outcome.Outcome.{Outcome}
 use Rattle.xl_front_nlm.specs.declared.outcome.Outcome.TheVariants.{Nothing}
 
 -- ---- as the code plans it
 
-pub nm_lock_is_lock : (count : ℕ) (f : FrontState) (s : CoreState) (a : LockArgsItem) → planned count f s (NmLock a) ≡ planned count f s (Lock a)
+pub lock_is_monitored : (count : ℕ) (f : FrontState) (s : CoreState) (a : LockArgsItem) → planned count f s (Lock a) ≡ locking true count f s a
 unfolding planned
-nm_lock_is_lock count f s a = refl
+lock_is_monitored count f s a = refl
+
+pub nm_lock_is_not : (count : ℕ) (f : FrontState) (s : CoreState) (a : LockArgsItem) → planned count f s (NmLock a) ≡ locking false count f s a
+unfolding planned
+nm_lock_is_not count f s a = refl
 
 pub null_tells_nothing : (count : ℕ) (f : FrontState) (s : CoreState) → planned count f s Null ≡ Tells Nothing
 unfolding planned

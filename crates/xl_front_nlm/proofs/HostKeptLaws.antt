@@ -1,5 +1,5 @@
 -- Who is granted something, or waits, is a host then, and each host stays one.
-use Rattle.std.proofs.Common.{◌≡◌, ℕ, true, List, [], ◌∷◌, ◌++◌, Option, Some, None, Result, Ok, Err, refl, ap, ◌∙◌, inl, inr}
+use Rattle.std.proofs.Common.{◌≡◌, ℕ, Bool, true, false, List, [], ◌∷◌, ◌++◌, Option, Some, None, Result, Ok, Err, refl, ap, ◌∙◌, inl, inr}
 use Rattle.std.proofs.lemmas.Bool.{cases_Bool}
 use Rattle.std.specs.Prelude.{bytes_eq}
 use Rattle.xl_base.specs.declared.journal.Exports.{Exports}
@@ -50,8 +50,8 @@ module _ (f : FrontState) (s : CoreState) (caller : List ℕ) (is : is_host call
   abbrev Still : CallPlan → Type 0
   Still plan = AllKept (λ (g : FrontState). is_host caller g.hosts ≡ true) plan
 
-  lock_still : (a : LockArgsItem) (at : Aim) → Still (lock_plan f s a at)
-  lock_still a at =
+  lock_still : (monitored : Bool) (a : LockArgsItem) (at : Aim) → Still (lock_plan monitored f s a at)
+  lock_still monitored a at =
       elim (cases_Bool (does_wait s a at)) [
         | inl e ↦ rw e tt
         | inr e ↦ rw e (λ answer t. after_still caller a.lock.caller_name f.hosts answer is)
@@ -72,12 +72,12 @@ module _ (f : FrontState) (s : CoreState) (caller : List ℕ) (is : is_host call
   call_still : (count : ℕ) (call : CallItem) → Still (planned count f s call)
   unfolding planned
   call_still count (Test a) = at_still (λ at. asks None f (rooms f.hosts) (test_ask a at)) (aimed count a.lock) (λ at answer t. is)
-  call_still count (Lock a) = at_still (λ at. lock_plan f s a at) (aimed count a.lock) (lock_still a)
+  call_still count (Lock a) = at_still (λ at. lock_plan true f s a at) (aimed count a.lock) (lock_still true a)
   call_still count (Cancel a) = at_still (λ at. if_found f NotWaiting (λ id. Cancels id) (waiter_for s a.lock a.exclusive at)) (aimed count a.lock) (λ at. found_still NotWaiting (λ id. Cancels id) (waiter_for s a.lock a.exclusive at))
   call_still count (Unlock a) = at_still (λ at. asks None f (rooms f.hosts) (unlock_ask a at)) (aimed count a.lock) (λ at answer t. is)
   call_still count (Share a) = file_still (λ file. asks (Some a.caller_name) f (rooms f.hosts) (share_ask (host_rows a.caller_name f.hosts) a file)) (exported count a.fh) (λ file answer t. after_still caller a.caller_name f.hosts answer is)
   call_still count (Unshare a) = file_still (λ file. if_found f Ended (λ claim. GivesBack claim) (share_held s a file)) (exported count a.fh) (λ file. found_still Ended (λ claim. GivesBack claim) (share_held s a file))
-  call_still count (NmLock a) = at_still (λ at. lock_plan f s a at) (aimed count a.lock) (lock_still a)
+  call_still count (NmLock a) = at_still (λ at. lock_plan false f s a at) (aimed count a.lock) (lock_still false a)
   call_still count (FreeAll a) = found_still Ended (λ number. Ends (parties.Name Nlm number)) (number_of (NlmParty a.name) s.names)
   call_still count Null = tt
   call_still count (Granted a) = tt
@@ -102,9 +102,9 @@ same_answers answer other e = cc
 comes_after : (caller : List ℕ) (hosts : List (List ℕ)) (answer : Answer) → makes_host answer ≡ true → is_host caller (hosts_after answer caller hosts) ≡ true
 comes_after caller hosts answer makes = rw makes (host_came caller hosts)
 
-lock_comes : (n : ℕ) (f : FrontState) (s : CoreState) (a : LockArgsItem) (at : Aim) (answer : Answer) → (let r = carried n s f (lock_plan f s a at) in r.0 ≡ Answered answer → makes_host answer ≡ true → is_host a.lock.caller_name r.2.hosts ≡ true)
-lock_comes n f s a at answer =
-    let given : Answer = (ask n (rooms f.hosts) s (lock_ask (host_rows a.lock.caller_name f.hosts) a at)).0 in
+lock_comes : (monitored : Bool) (n : ℕ) (f : FrontState) (s : CoreState) (a : LockArgsItem) (at : Aim) (answer : Answer) → (let r = carried n s f (lock_plan monitored f s a at) in r.0 ≡ Answered answer → makes_host answer ≡ true → is_host a.lock.caller_name r.2.hosts ≡ true)
+lock_comes monitored n f s a at answer =
+    let given : Answer = (ask n (rooms f.hosts) s (lock_ask monitored (host_rows a.lock.caller_name f.hosts) a at)).0 in
     elim (cases_Bool (does_wait s a at)) [
       | inl e ↦ rw e (λ told makes. absurd cc)
       | inr e ↦ rw e (λ told makes. ap (λ (x : Answer). is_host a.lock.caller_name (hosts_after x a.lock.caller_name f.hosts)) (same_answers given answer told) ∙ comes_after a.lock.caller_name f.hosts answer makes)
@@ -112,11 +112,11 @@ lock_comes n f s a at answer =
 
 pub lockers_come : (n count : ℕ) (f : FrontState) (s : CoreState) (a : LockArgsItem) (at : Aim) (answer : Answer) → aimed count a.lock ≡ Ok at → (let r = served n count f s (Lock a) in r.0 ≡ Answered answer → makes_host answer ≡ true → is_host a.lock.caller_name r.2.hosts ≡ true)
 unfolding served planned
-lockers_come n count f s a at answer e = rw e (lock_comes n f s a at answer)
+lockers_come n count f s a at answer e = rw e (lock_comes true n f s a at answer)
 
 pub nm_lockers_come : (n count : ℕ) (f : FrontState) (s : CoreState) (a : LockArgsItem) (at : Aim) (answer : Answer) → aimed count a.lock ≡ Ok at → (let r = served n count f s (NmLock a) in r.0 ≡ Answered answer → makes_host answer ≡ true → is_host a.lock.caller_name r.2.hosts ≡ true)
 unfolding served planned
-nm_lockers_come n count f s a at answer e = rw e (lock_comes n f s a at answer)
+nm_lockers_come n count f s a at answer e = rw e (lock_comes false n f s a at answer)
 
 pub sharers_come : (n count : ℕ) (f : FrontState) (s : CoreState) (a : ShareArgsItem) (file : ℕ) (answer : Answer) → exported count a.fh ≡ Some file → (let r = served n count f s (Share a) in r.0 ≡ Answered answer → makes_host answer ≡ true → is_host a.caller_name r.2.hosts ≡ true)
 unfolding served planned

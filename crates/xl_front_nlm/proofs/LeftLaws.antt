@@ -80,38 +80,38 @@ abbrev IsLocked : FrontState → CoreState → LockArgsItem → Aim → FrontSta
 IsLocked f s a at g t = AreBytes (lock_claim f.hosts s a at) at.first at.last (byte_lock a.exclusive) s t × (is_host a.lock.caller_name g.hosts ≡ true)
 
 -- the core is asked for it, and grants it
-lock_asked : (n : ℕ) (f : FrontState) (s : CoreState) (a : LockArgsItem) (at : Aim) → IsGood s → at.first ≤ at.last
-    → (let r = ask n (rooms f.hosts) s (lock_ask (host_rows a.lock.caller_name f.hosts) a at) in (answer : Answer) → r.0 ≡ answer → answer_status answer ≡ stats.Granted → IsLocked f s a at (noted r.0 a.lock.caller_name f) r.2)
-lock_asked n f s a at good ends (answers.Granted c) e told = (
-  granted_bytes n (rooms f.hosts) s (lock_ask (host_rows a.lock.caller_name f.hosts) a at) at.first at.last a.exclusive c good (record { act = (ends, tt); own = refl; party = own_client a.lock.caller_name; wish = refl }) refl refl e,
+lock_asked : (monitored : Bool) (n : ℕ) (f : FrontState) (s : CoreState) (a : LockArgsItem) (at : Aim) → IsGood s → at.first ≤ at.last
+    → (let r = ask n (rooms f.hosts) s (lock_ask monitored (host_rows a.lock.caller_name f.hosts) a at) in (answer : Answer) → r.0 ≡ answer → answer_status answer ≡ stats.Granted → IsLocked f s a at (noted r.0 a.lock.caller_name f) r.2)
+lock_asked monitored n f s a at good ends (answers.Granted c) e told = (
+  granted_bytes n (rooms f.hosts) s (lock_ask monitored (host_rows a.lock.caller_name f.hosts) a at) at.first at.last a.exclusive c good (record { act = (ends, tt); own = refl; party = own_client a.lock.caller_name; wish = refl }) refl refl e,
   ap (λ (x : Answer). is_host a.lock.caller_name (hosts_after x a.lock.caller_name f.hosts)) e ∙ host_came a.lock.caller_name f.hosts,
 )
-lock_asked n f s a at good ends answers.NotHeld e told = absurd ((ask_due n (rooms f.hosts) s (lock_ask (host_rows a.lock.caller_name f.hosts) a at) (whats.Range (Bytes at.first at.last) a.exclusive) answers.NotHeld refl).0 e)
-lock_asked n f s a at good ends (answers.Conflict c) e told = absurd cc
-lock_asked n f s a at good ends (answers.Queued id) e told = absurd cc
-lock_asked n f s a at good ends (answers.Recall c) e told = absurd cc
-lock_asked n f s a at good ends (answers.Grace until) e told = absurd cc
-lock_asked n f s a at good ends (answers.NoGrace clock) e told = absurd cc
-lock_asked n f s a at good ends answers.NotRecorded e told = absurd cc
-lock_asked n f s a at good ends (answers.Full limit) e told = absurd cc
-lock_asked n f s a at good ends answers.StoreFailed e told = absurd cc
+lock_asked monitored n f s a at good ends answers.NotHeld e told = absurd ((ask_due n (rooms f.hosts) s (lock_ask monitored (host_rows a.lock.caller_name f.hosts) a at) (whats.Range (Bytes at.first at.last) a.exclusive) answers.NotHeld refl).0 e)
+lock_asked monitored n f s a at good ends (answers.Conflict c) e told = absurd cc
+lock_asked monitored n f s a at good ends (answers.Queued id) e told = absurd cc
+lock_asked monitored n f s a at good ends (answers.Recall c) e told = absurd cc
+lock_asked monitored n f s a at good ends (answers.Grace until) e told = absurd cc
+lock_asked monitored n f s a at good ends (answers.NoGrace clock) e told = absurd cc
+lock_asked monitored n f s a at good ends answers.NotRecorded e told = absurd cc
+lock_asked monitored n f s a at good ends (answers.Full limit) e told = absurd cc
+lock_asked monitored n f s a at good ends answers.StoreFailed e told = absurd cc
 
-locked_by : (n : ℕ) (f : FrontState) (s : CoreState) (a : LockArgsItem) (at : Aim) → IsGood s → at.first ≤ at.last → (let r = carried n s f (lock_plan f s a at) in status_of r.0 ≡ stats.Granted → IsLocked f s a at r.2 r.3)
-locked_by n f s a at good ends =
+locked_by : (monitored : Bool) (n : ℕ) (f : FrontState) (s : CoreState) (a : LockArgsItem) (at : Aim) → IsGood s → at.first ≤ at.last → (let r = carried n s f (lock_plan monitored f s a at) in status_of r.0 ≡ stats.Granted → IsLocked f s a at r.2 r.3)
+locked_by monitored n f s a at good ends =
     elim (cases_Bool (does_wait s a at)) [
       | inl e ↦ rw e (λ told. absurd cc)
-      | inr e ↦ rw e (λ told. lock_asked n f s a at good ends (ask n (rooms f.hosts) s (lock_ask (host_rows a.lock.caller_name f.hosts) a at)).0 refl told)
+      | inr e ↦ rw e (λ told. lock_asked monitored n f s a at good ends (ask n (rooms f.hosts) s (lock_ask monitored (host_rows a.lock.caller_name f.hosts) a at)).0 refl told)
     ]
 
 pub locks_are_held : (n count : ℕ) (f : FrontState) (s : CoreState) (a : LockArgsItem) (at : Aim) → IsGood s → aimed count a.lock ≡ Ok at → (let r = served n count f s (Lock a) in status_of r.0 ≡ stats.Granted
     → AreBytes (lock_claim f.hosts s a at) at.first at.last (byte_lock a.exclusive) s r.3 × (is_host a.lock.caller_name r.2.hosts ≡ true))
 unfolding served planned
-locks_are_held n count f s a at good e = rw e (locked_by n f s a at good (aim_real count a.lock at e))
+locks_are_held n count f s a at good e = rw e (locked_by true n f s a at good (aim_real count a.lock at e))
 
 pub nm_locks_are_held : (n count : ℕ) (f : FrontState) (s : CoreState) (a : LockArgsItem) (at : Aim) → IsGood s → aimed count a.lock ≡ Ok at → (let r = served n count f s (NmLock a) in status_of r.0 ≡ stats.Granted
     → AreBytes (lock_claim f.hosts s a at) at.first at.last (byte_lock a.exclusive) s r.3 × (is_host a.lock.caller_name r.2.hosts ≡ true))
 unfolding served planned
-nm_locks_are_held n count f s a at good e = rw e (locked_by n f s a at good (aim_real count a.lock at e))
+nm_locks_are_held n count f s a at good e = rw e (locked_by false n f s a at good (aim_real count a.lock at e))
 
 -- ---- an unlock
 
@@ -341,8 +341,8 @@ holder_given names s a at (answers.NoGrace clock) due = λ h e. absurd cc
 holder_given names s a at (answers.Queued number) due = absurd due
 holder_given names s a at (answers.Full limit) due = absurd due
 holder_given names s a at (answers.Recall c) due = absurd due
-holder_given names s a at (answers.Grace until) due = absurd due
-holder_given names s a at answers.NotRecorded due = absurd due
+holder_given names s a at (answers.Grace until) due = λ h e. absurd cc
+holder_given names s a at answers.NotRecorded due = λ h e. absurd cc
 holder_given names s a at answers.NotHeld due = absurd due
 holder_given names s a at answers.StoreFailed due = absurd due
 

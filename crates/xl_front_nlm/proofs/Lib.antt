@@ -16,3 +16,5 @@ pub mod StatusLaws
 pub mod LeftLaws
 pub mod AsToldLaws
 pub mod HostKeptLaws
+pub mod GraceStatuses
+pub mod StoreStatuses

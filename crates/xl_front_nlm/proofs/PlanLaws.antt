@@ -47,16 +47,16 @@ pub record IsAskFor (n : ℕ) (f : FrontState) (s : CoreState) (client : Option 
   pub short : Fits → IsAskOf IsShort a
   pub room : HasHostRoom host (ask n (rooms f.hosts) s a).0 f.hosts
 
-lock_for : (n count : ℕ) (f : FrontState) (s : CoreState) (a : LockArgsItem) (at : Aim) → aimed count a.lock ≡ Ok at
-    → IsAskFor n f s (Some (NlmParty a.lock.caller_name)) (Some a.lock.caller_name) (lock_args.Fit a) (lock_ask (host_rows a.lock.caller_name f.hosts) a at)
+lock_for : (monitored : Bool) (n count : ℕ) (f : FrontState) (s : CoreState) (a : LockArgsItem) (at : Aim) → aimed count a.lock ≡ Ok at
+    → IsAskFor n f s (Some (NlmParty a.lock.caller_name)) (Some a.lock.caller_name) (lock_args.Fit a) (lock_ask monitored (host_rows a.lock.caller_name f.hosts) a at)
 unfolding lock_args lock
-lock_for n count f s a at e =
+lock_for monitored n count f s a at e =
     let caller = a.lock.caller_name in
     let rows = host_rows caller f.hosts in
     record {
       is = record { fit = record { act = (aim_real count a.lock at e, tt); own = refl; party = own_client caller; wish = refl }; own = λ good. refl };
       short = λ fits. ((fits.1.1.1.0.0, fits.1.1.1.0.1.1.0), tt);
-      room = λ makes fresh. fresh_room caller f.hosts rows refl (lock_has_room n (rooms f.hosts) rows s a at makes) fresh;
+      room = λ makes fresh. fresh_room caller f.hosts rows refl (lock_has_room monitored n (rooms f.hosts) rows s a at makes) fresh;
     }
 
 -- ---- what holds of each ask and of each deed holds of each call's plan
@@ -86,7 +86,7 @@ module _ (P : CallPlan → Type 0) (told : (outcome : Outcome) → P (Tells outc
       by_bytes _ (aimed count a.lock)
       (λ at e. asked (test_ask a at)
       (record { is = record { fit = record { act = aim_real count a.lock at e; own = refl; party = own_client a.lock.caller_name; wish = refl }; own = λ good. refl }; short = λ fits. ((fits.1.1.0, fits.1.1.1.1.0), tt); room = tt }))
-  by_call n count f s (Lock a) asked done = by_bytes _ (aimed count a.lock) (λ at e. by_wait _ (does_wait s a at) (asked _ (lock_for n count f s a at e)))
+  by_call n count f s (Lock a) asked done = by_bytes _ (aimed count a.lock) (λ at e. by_wait _ (does_wait s a at) (asked _ (lock_for true n count f s a at e)))
   by_call n count f s (Cancel a) asked done =
       by_bytes _ (aimed count a.lock)
       (λ at e. by_found f _ (λ id. Cancels id) (waiter_for s a.lock a.exclusive at)
@@ -108,7 +108,7 @@ module _ (P : CallPlan → Type 0) (told : (outcome : Outcome) → P (Tells outc
       by_file _ (exported count a.fh)
       (λ file. by_found f _ (λ claim. GivesBack claim) (share_held s a file)
       (λ claim k. done (GivesBack claim) (record { fit = share_fits s file (number_of (share_owner a) s.names) claim k; own = λ good. share_own s a file (number_of (share_owner a) s.names) claim good refl k })))
-  by_call n count f s (NmLock a) asked done = by_bytes _ (aimed count a.lock) (λ at e. by_wait _ (does_wait s a at) (asked _ (lock_for n count f s a at e)))
+  by_call n count f s (NmLock a) asked done = by_bytes _ (aimed count a.lock) (λ at e. by_wait _ (does_wait s a at) (asked _ (lock_for false n count f s a at e)))
   by_call n count f s (FreeAll a) asked done =
       by_found f _ (λ number. Ends (parties.Name Nlm number)) (number_of (NlmParty a.name) s.names)
       (λ number k. done _ (record { fit = tt; own = λ good. ap (λ (o : Option ℕ). option_map (λ i. parties.Name Nlm i) o) k }))

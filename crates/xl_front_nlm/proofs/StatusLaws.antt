@@ -16,10 +16,12 @@ use Rattle.xl_core.specs.Causes.{IsClaimDue, IsTestDue, IsUnlockDue}
 use Rattle.xl_core.specs.Decide.{way, ask}
 use Rattle.xl_core.specs.Deeds.{Cancels, GivesBack}
 use Rattle.xl_core.specs.Good.{IsGood}
+use Rattle.xl_core.specs.Standings.{recorded_as, refusal}
 use Rattle.xl_core.specs.State.{CoreState}
 use Rattle.xl_core.specs.declared.ask.Answer.{Answer}
 use Rattle.xl_core.specs.declared.ask.Answer.TheVariants as answers
 use Rattle.xl_core.specs.declared.ask.Ask.{Ask}
+use Rattle.xl_plan.proofs.GraceLaws.{unrecorded_runs}
 use Rattle.xl_plan.specs.Plans.{carried}
 use Rattle.xl_front_nlm.proofs.AimLaws.{last_real}
 use Rattle.xl_front_nlm.proofs.AskLaws.{own_client}
@@ -32,46 +34,47 @@ use Rattle.xl_front_nlm.specs.Standing.{waiter_for, does_wait, share_held}
 use Rattle.xl_front_nlm.specs.State.{FrontState}
 use Rattle.xl_front_nlm.specs.Statuses.{status_told, IsClaimTold, IsAskTold, IsTestTold, IsUnlockTold, IsLastTold, IsRangeTold, IsFileTold, IsLockTold, IsCancelTold, lock_claim, IsStatusDue}
 use Rattle.xl_front_nlm.specs.declared.aim.Aim.{Aim}
-use Rattle.xl_front_nlm.specs.declared.outcome.Outcome.{Outcome}
 use Rattle.xl_front_nlm.specs.declared.outcome.Outcome.TheVariants.{NotWaiting, Ended}
 
 -- ---- a lock or a share
 
-claim_forth : (left : Rooms) (s : CoreState) (a : Ask) (claim : Claim) (answer : Answer) → IsClaimDue left s a claim answer → IsClaimTold left s a claim (answer_status answer)
-claim_forth left s a claim (answers.Granted c) due = (refl, due.1, due.2, due.3)
-claim_forth left s a claim (answers.Conflict c) due = inl (c, due)
-claim_forth left s a claim (answers.Queued number) due = (refl, due.1, due.2, due.3, due.4)
-claim_forth left s a claim (answers.NoGrace clock) due = (refl, due.1)
-claim_forth left s a claim (answers.Full limit) due = (limit, due)
-claim_forth left s a claim (answers.Recall c) due = inr (c, due)
-claim_forth left s a claim (answers.Grace until) due = absurd due
-claim_forth left s a claim answers.NotRecorded due = absurd due
-claim_forth left s a claim answers.NotHeld due = absurd due
-claim_forth left s a claim answers.StoreFailed due = absurd due
+claim_forth : (n : ℕ) (left : Rooms) (s : CoreState) (a : Ask) (claim : Claim) (answer : Answer) → IsClaimDue n left s a claim answer → IsClaimTold n left s a claim (answer_status answer)
+claim_forth n left s a claim (answers.Granted c) due = (refl, due.1, due.2, due.3, due.4)
+claim_forth n left s a claim (answers.Conflict c) due = inl (c, due)
+claim_forth n left s a claim (answers.Queued number) due = (refl, due.1, due.2)
+claim_forth n left s a claim (answers.Recall c) due = inr (inl (c, due))
+claim_forth n left s a claim (answers.Grace until) due = inl (until, due)
+claim_forth n left s a claim (answers.NoGrace clock) due = inr (refl, due.1, due.2)
+claim_forth n left s a claim answers.NotRecorded due = inr (inr due)
+claim_forth n left s a claim (answers.Full limit) due = (limit, due)
+claim_forth n left s a claim answers.NotHeld due = absurd due
+claim_forth n left s a claim answers.StoreFailed due = due
 
-claim_back : (left : Rooms) (s : CoreState) (a : Ask) (claim : Claim) (r : Answer) → ((answer : Answer) → IsClaimDue left s a claim answer → r ≡ answer) → (status : NlmStatus) → IsClaimTold left s a claim status → answer_status r ≡ status
-claim_back left s a claim r exact stats.Granted told = ap answer_status (exact (answers.Granted claim) told)
-claim_back left s a claim r exact stats.Denied (inl told) = ap answer_status (exact (answers.Conflict told.0) told.1)
-claim_back left s a claim r exact stats.Denied (inr told) = ap answer_status (exact (answers.Recall told.0) told.1)
-claim_back left s a claim r exact stats.DeniedNolocks told = ap answer_status (exact (answers.Full told.0) told.1)
-claim_back left s a claim r exact stats.Blocked told = ap answer_status (exact (answers.Queued (s.counter + 1)) told)
-claim_back left s a claim r exact stats.DeniedGracePeriod told = ap answer_status (exact (answers.NoGrace s.clock) told)
-claim_back left s a claim r exact stats.Deadlck told = absurd told
-claim_back left s a claim r exact stats.Rofs told = absurd told
-claim_back left s a claim r exact stats.StaleFh told = absurd told
-claim_back left s a claim r exact stats.Fbig told = absurd told
-claim_back left s a claim r exact stats.Failed told = absurd told
+claim_back : (n : ℕ) (left : Rooms) (s : CoreState) (a : Ask) (claim : Claim) (r : Answer) → ((answer : Answer) → IsClaimDue n left s a claim answer → r ≡ answer) → (status : NlmStatus) → IsClaimTold n left s a claim status → answer_status r ≡ status
+claim_back n left s a claim r exact stats.Granted told = ap answer_status (exact (answers.Granted claim) told)
+claim_back n left s a claim r exact stats.Denied (inl told) = ap answer_status (exact (answers.Conflict told.0) told.1)
+claim_back n left s a claim r exact stats.Denied (inr (inl told)) = ap answer_status (exact (answers.Recall told.0) told.1)
+claim_back n left s a claim r exact stats.Denied (inr (inr told)) = ap answer_status (exact answers.NotRecorded told)
+claim_back n left s a claim r exact stats.DeniedNolocks told = ap answer_status (exact (answers.Full told.0) told.1)
+claim_back n left s a claim r exact stats.Blocked told = ap answer_status (exact (answers.Queued (s.counter + 1)) told)
+claim_back n left s a claim r exact stats.DeniedGracePeriod (inl told) = ap answer_status (exact (answers.Grace told.0) told.1)
+claim_back n left s a claim r exact stats.DeniedGracePeriod (inr told) = ap answer_status (exact (answers.NoGrace s.clock) told)
+claim_back n left s a claim r exact stats.Failed told = ap answer_status (exact answers.StoreFailed told)
+claim_back n left s a claim r exact stats.Deadlck told = absurd told
+claim_back n left s a claim r exact stats.Rofs told = absurd told
+claim_back n left s a claim r exact stats.StaleFh told = absurd told
+claim_back n left s a claim r exact stats.Fbig told = absurd told
 
 -- this is told exactly where that is due
 abbrev Exactly : NlmStatus → (NlmStatus → Type 0) → Type 0
 Exactly told due = (status : NlmStatus) → (told ≡ status) ↔ due status
 
-claim_exactly : (n : ℕ) (left : Rooms) (s : CoreState) (a : Ask) (what : What) → asked_what a.act ≡ Some what → Exactly (answer_status (ask n left s a).0) (IsAskTold left s a (asked_claim a what s.names))
+claim_exactly : (n : ℕ) (left : Rooms) (s : CoreState) (a : Ask) (what : What) → asked_what a.act ≡ Some what → Exactly (answer_status (ask n left s a).0) (IsAskTold n left s a (asked_claim a what s.names))
 claim_exactly n left s a what act = λ status.
     let claim = asked_claim a what s.names in
     let t = (way left s a).1 in (
-      λ e. subst (λ (x : NlmStatus). IsClaimTold left t a claim x) e (claim_forth left t a claim (ask n left s a).0 ((ask_due n left s a what (ask n left s a).0 act).0 refl)),
-      λ told. claim_back left t a claim (ask n left s a).0 (λ answer due. (ask_due n left s a what answer act).1 due) status told,
+      λ e. subst (λ (x : NlmStatus). IsClaimTold n left t a claim x) e (claim_forth n left t a claim (ask n left s a).0 ((ask_due n left s a what (ask n left s a).0 act).0 refl)),
+      λ told. claim_back n left t a claim (ask n left s a).0 (λ answer due. (ask_due n left s a what answer act).1 due) status told,
     )
 
 -- ---- a test
@@ -79,12 +82,12 @@ claim_exactly n left s a what act = λ status.
 test_forth : (s : CoreState) (a : Ask) (claim : Claim) (answer : Answer) → a.reclaim ≡ false → IsTestDue s a claim answer → IsTestTold s a claim (answer_status answer)
 test_forth s a claim (answers.Granted c) timely due = (refl, due.1, due.2)
 test_forth s a claim (answers.Conflict c) timely due = (c, due)
-test_forth s a claim (answers.NoGrace clock) timely due = absurd (both_ways a.reclaim timely due.1)
+test_forth s a claim (answers.NoGrace clock) timely due = absurd (both_ways a.reclaim timely due.2)
 test_forth s a claim (answers.Queued number) timely due = absurd due
 test_forth s a claim (answers.Full limit) timely due = absurd due
 test_forth s a claim (answers.Recall c) timely due = absurd due
-test_forth s a claim (answers.Grace until) timely due = absurd due
-test_forth s a claim answers.NotRecorded timely due = absurd due
+test_forth s a claim (answers.Grace until) timely due = (until, due)
+test_forth s a claim answers.NotRecorded timely due = absurd (both_ways a.reclaim timely (unrecorded_runs s (recorded_as a.party) false a.reclaim (ap refusal due)).1)
 test_forth s a claim answers.NotHeld timely due = absurd due
 test_forth s a claim answers.StoreFailed timely due = absurd due
 
@@ -93,7 +96,7 @@ test_back s a claim r exact stats.Granted told = ap answer_status (exact (answer
 test_back s a claim r exact stats.Denied told = ap answer_status (exact (answers.Conflict told.0) told.1)
 test_back s a claim r exact stats.DeniedNolocks told = absurd told
 test_back s a claim r exact stats.Blocked told = absurd told
-test_back s a claim r exact stats.DeniedGracePeriod told = absurd told
+test_back s a claim r exact stats.DeniedGracePeriod told = ap answer_status (exact (answers.Grace told.0) told.1)
 test_back s a claim r exact stats.Deadlck told = absurd told
 test_back s a claim r exact stats.Rofs told = absurd told
 test_back s a claim r exact stats.StaleFh told = absurd told
@@ -165,9 +168,10 @@ file_exactly : (n : ℕ) (f : FrontState) (s : CoreState) (plan : ℕ → CallPl
 file_exactly n f s plan due None each = itself stats.StaleFh
 file_exactly n f s plan due (Some file) each = each file
 
-lock_exactly : (n : ℕ) (f : FrontState) (s : CoreState) (a : LockArgsItem) (at : Aim) (b : Bool) → does_wait s a at ≡ b → Exactly (status_of (carried n s f (lock_plan f s a at)).0) (IsLockTold b (rooms f.hosts) s (lock_ask (host_rows a.lock.caller_name f.hosts) a at) (lock_claim f.hosts s a at))
-lock_exactly n f s a at true e = rw e (itself stats.Blocked)
-lock_exactly n f s a at false e = rw e (claim_exactly n (rooms f.hosts) s (lock_ask (host_rows a.lock.caller_name f.hosts) a at) (whats.Range (Bytes at.first at.last) a.exclusive) refl)
+lock_exactly : (monitored : Bool) (n : ℕ) (f : FrontState) (s : CoreState) (a : LockArgsItem) (at : Aim) (b : Bool) → does_wait s a at ≡ b
+    → Exactly (status_of (carried n s f (lock_plan monitored f s a at)).0) (IsLockTold b n (rooms f.hosts) s (lock_ask monitored (host_rows a.lock.caller_name f.hosts) a at) (lock_claim f.hosts s a at))
+lock_exactly monitored n f s a at true e = rw e (itself stats.Blocked)
+lock_exactly monitored n f s a at false e = rw e (claim_exactly n (rooms f.hosts) s (lock_ask monitored (host_rows a.lock.caller_name f.hosts) a at) (whats.Range (Bytes at.first at.last) a.exclusive) refl)
 
 cancel_exactly : (n : ℕ) (f : FrontState) (s : CoreState) (o : Option ℕ) → Exactly (status_of (carried n s f (if_found f NotWaiting (λ id. Cancels id) o)).0) (IsCancelTold o)
 cancel_exactly n f s None = itself stats.Denied
@@ -185,7 +189,7 @@ some_same x y e = cc
 told_some : (told : NlmStatus) (due : NlmStatus → Type 0) → Exactly told due → (status : NlmStatus) → ((let some : Option NlmStatus = Some told in some ≡ Some status) ↔ due status)
 told_some told due exactly status = (λ e. (exactly status).0 (some_same told status e), λ is. ap Some ((exactly status).1 is))
 
-pub status_due : (n count : ℕ) (f : FrontState) (s : CoreState) (call : CallItem) (status : NlmStatus) → IsGood s → (status_told call (served n count f s call).0 ≡ Some status) ↔ IsStatusDue count f.hosts s call status
+pub status_due : (n count : ℕ) (f : FrontState) (s : CoreState) (call : CallItem) (status : NlmStatus) → IsGood s → (status_told call (served n count f s call).0 ≡ Some status) ↔ IsStatusDue n count f.hosts s call status
 unfolding served planned aimed
 status_due n count f s Null status good = (λ e. absurd cc, λ due. absurd due)
 status_due n count f s (Granted a) status good = (λ e. absurd cc, λ due. absurd due)
@@ -193,9 +197,9 @@ status_due n count f s (FreeAll a) status good = (λ e. absurd cc, λ due. absur
 status_due n count f s (Test a) status good =
     told_some _ _ (range_exactly n f s a.lock _ _ (exported count a.lock.fh) (λ at ends. test_exactly n (rooms f.hosts) s a at)) status
 status_due n count f s (Lock a) status good =
-    told_some _ _ (range_exactly n f s a.lock _ _ (exported count a.lock.fh) (λ at ends. lock_exactly n f s a at (does_wait s a at) refl)) status
+    told_some _ _ (range_exactly n f s a.lock _ _ (exported count a.lock.fh) (λ at ends. lock_exactly true n f s a at (does_wait s a at) refl)) status
 status_due n count f s (NmLock a) status good =
-    told_some _ _ (range_exactly n f s a.lock _ _ (exported count a.lock.fh) (λ at ends. lock_exactly n f s a at (does_wait s a at) refl)) status
+    told_some _ _ (range_exactly n f s a.lock _ _ (exported count a.lock.fh) (λ at ends. lock_exactly false n f s a at (does_wait s a at) refl)) status
 status_due n count f s (Cancel a) status good =
     told_some _ _ (range_exactly n f s a.lock _ _ (exported count a.lock.fh) (λ at ends. cancel_exactly n f s (waiter_for s a.lock a.exclusive at))) status
 status_due n count f s (Unlock a) status good =
@@ -207,17 +211,17 @@ status_due n count f s (Unshare a) status good =
 
 -- ---- what becomes of a test
 
-tested_so : (s : CoreState) (a : Ask) (claim : Claim) (answer : Answer) → IsTestDue s a claim answer → IsTestAnswer answer
-tested_so s a claim (answers.Granted c) due = tt
-tested_so s a claim (answers.Conflict c) due = tt
-tested_so s a claim (answers.Grace until) due = tt
-tested_so s a claim (answers.NoGrace clock) due = tt
-tested_so s a claim (answers.Queued number) due = absurd due
-tested_so s a claim (answers.Full limit) due = absurd due
-tested_so s a claim (answers.Recall c) due = absurd due
-tested_so s a claim answers.NotRecorded due = absurd due
-tested_so s a claim answers.NotHeld due = absurd due
-tested_so s a claim answers.StoreFailed due = absurd due
+tested_so : (s : CoreState) (a : Ask) (claim : Claim) (answer : Answer) → a.reclaim ≡ false → IsTestDue s a claim answer → IsTestAnswer answer
+tested_so s a claim (answers.Granted c) timely due = tt
+tested_so s a claim (answers.Conflict c) timely due = tt
+tested_so s a claim (answers.Grace until) timely due = tt
+tested_so s a claim (answers.NoGrace clock) timely due = absurd (both_ways a.reclaim timely due.2)
+tested_so s a claim (answers.Queued number) timely due = absurd due
+tested_so s a claim (answers.Full limit) timely due = absurd due
+tested_so s a claim (answers.Recall c) timely due = absurd due
+tested_so s a claim answers.NotRecorded timely due = absurd (both_ways a.reclaim timely (unrecorded_runs s (recorded_as a.party) false a.reclaim (ap refusal due)).1)
+tested_so s a claim answers.NotHeld timely due = absurd due
+tested_so s a claim answers.StoreFailed timely due = absurd due
 
 test_at : (n : ℕ) (f : FrontState) (s : CoreState) (l : LockItem) (plan : Aim → CallPlan) (file : ℕ) (o : Option ℕ) → ((at : Aim) → IsTestOutcome (carried n s f (plan at)).0) → IsTestOutcome (carried n s f (at_bytes plan (aimed_at l file o))).0
 test_at n f s l plan file None each = tt
@@ -233,7 +237,7 @@ unfolding served planned aimed
 outcome_of n count f s (Test a) =
     test_in n f s a.lock _ (exported count a.lock.fh) (λ at.
     let request = test_ask a at in
-    tested_so s request (known_claim request (Bytes at.first at.last) a.exclusive s.names) (ask n (rooms f.hosts) s request).0 ((ask_test n (rooms f.hosts) s request (Bytes at.first at.last) a.exclusive (ask n (rooms f.hosts) s request).0 refl).0 refl))
+    tested_so s request (known_claim request (Bytes at.first at.last) a.exclusive s.names) (ask n (rooms f.hosts) s request).0 refl ((ask_test n (rooms f.hosts) s request (Bytes at.first at.last) a.exclusive (ask n (rooms f.hosts) s request).0 refl).0 refl))
 outcome_of n count f s Null = tt
 outcome_of n count f s (Lock a) = tt
 outcome_of n count f s (Cancel a) = tt

@@ -1,5 +1,6 @@
--- What a request asks for: the file that it names, a reclaim only if it says so, and with the room that is left for hosts (XNFS C702).
-use Rattle.std.specs.Prelude.{◌≡◌, ◌-◌, ℕ, Bool, false, List, Option, Some, None}
+-- What a request asks for: the file that it names, a reclaim only if it says so, monitored if it is a LOCK or a SHARE, and with the
+-- room that is left for hosts (XNFS C702).
+use Rattle.std.specs.Prelude.{◌≡◌, ◌-◌, ℕ, Bool, true, false, List, Option, Some, None}
 use Rattle.std.specs.List.{AllByRecursion}
 use Rattle.xl_nlm.specs.Items.{CallItem, Test, Lock, Cancel, Unlock, Share, Unshare, NmLock}
 use Rattle.xl_programs.specs.Programs.{RequestItem}
@@ -26,11 +27,18 @@ reclaims (NmLock a) = a.reclaim
 reclaims (Share a) = a.reclaim
 reclaims call = false
 
+-- the call's caller is monitored: it is recorded before it is granted something (XNFS C702, NLM_LOCK, NLM_NM_LOCK)
+abbrev pub monitors : CallItem → Bool
+monitors (Lock a) = true
+monitors (Share a) = true
+monitors call = false
+
 -- An ask is on the exported file whose handle the call names, and a reclaim exactly if the call says so; of the fronts' tables
--- it adds to that of hosts alone, in which so much room is left.
+-- it adds to that of hosts alone, in which so much room is left. Its client is to be recorded exactly if the call's caller is
+-- monitored.
 abbrev pub IsAskFor : ℕ → ℕ → CallItem → Deed → Type 0
 IsAskFor count hosts call (Asks left a) =
-    ((fh : List ℕ) × (handle_of call ≡ Some fh) × (exported count fh ≡ Some a.file)) × (a.reclaim ≡ reclaims call) × (left.hosts ≡ most_hosts - hosts) × (a.rows.owners ≡ 0) × (a.rows.opens ≡ 0)
+    ((fh : List ℕ) × (handle_of call ≡ Some fh) × (exported count fh ≡ Some a.file)) × (a.reclaim ≡ reclaims call) × (left.hosts ≡ most_hosts - hosts) × (a.rows.owners ≡ 0) × (a.rows.opens ≡ 0) × (a.monitored ≡ monitors call)
 IsAskFor count hosts call deed = Unit {0}
 
 -- so is each of these deeds, if they are of a request's call

@@ -1,5 +1,5 @@
 -- What the core is asked for a call.
-use Rattle.std.specs.Prelude.{ℕ, Bool, false, List, [], ◌∷◌, None}
+use Rattle.std.specs.Prelude.{ℕ, Bool, true, false, List, [], ◌∷◌, None}
 use Rattle.xl_matrix.specs.declared.claim.Extent.TheVariants.{Bytes}
 use Rattle.xl_matrix.specs.declared.claim.Rwd.{Rwd}
 use Rattle.xl_names.specs.declared.name.Name.{Name}
@@ -15,19 +15,19 @@ use Rattle.xl_core.specs.declared.ask.Ask.{Ask}
 use Rattle.xl_front_nlm.specs.declared.aim.Aim.{Aim}
 use Rattle.xl_front_nlm.specs.declared.grant.Grant.{Grant}
 
--- An ask of NLM: the party is the caller, a late answer is sent by a call of its own, no cache is wished for, and
--- callers aren't recorded yet (NLM-15).
-abbrev pub ask_of : Name → List ℕ → ℕ → Act → Bool → Bool → Rooms → Ask
-ask_of owner caller file act blocking reclaim rows = record {
+-- An ask of NLM that neither waits nor reclaims, and doesn't want its caller recorded: the party is the caller, a late answer is
+-- sent by a call of its own, and no cache is wished for (NLM-15).
+abbrev pub ask_of : Name → List ℕ → ℕ → Act → Rooms → Ask
+ask_of owner caller file act rows = record {
   file = file;
   owner = Named owner;
   party = Named (NlmParty caller);
   act = act;
   wish = [];
   conn = None;
-  blocking = blocking;
-  awaits = blocking;
-  reclaim = reclaim;
+  blocking = false;
+  awaits = false;
+  reclaim = false;
   monitored = false;
   rows = rows;
 }
@@ -39,18 +39,24 @@ abbrev pub owner_of : LockItem → Name
 owner_of l = NlmRange l.caller_name l.svid l.oh
 
 abbrev pub test_ask : TestArgsItem → Aim → Ask
-test_ask a at = ask_of (owner_of a.lock) a.lock.caller_name at.file (acts.Test (Bytes at.first at.last) a.exclusive) false false no_rows
+test_ask a at = ask_of (owner_of a.lock) a.lock.caller_name at.file (acts.Test (Bytes at.first at.last) a.exclusive) no_rows
 
--- a lock waits only if the client blocks, and then for its whole range (NLM-8)
-abbrev pub lock_ask : Rooms → LockArgsItem → Aim → Ask
-lock_ask rows a at = ask_of (owner_of a.lock) a.lock.caller_name at.file (acts.Ranges ((Bytes at.first at.last, a.exclusive) ∷ [])) a.block a.reclaim rows
+-- A lock waits only if the client blocks, and then for its whole range (NLM-8). The caller of a LOCK is monitored, so that it is
+-- recorded before it is granted something; that of an NM_LOCK isn't (XNFS C702, NLM_NM_LOCK) (NLM-6).
+abbrev pub lock_ask : Bool → Rooms → LockArgsItem → Aim → Ask
+lock_ask monitored rows a at = record (ask_of (owner_of a.lock) a.lock.caller_name at.file (acts.Ranges ((Bytes at.first at.last, a.exclusive) ∷ [])) rows) {
+  blocking = a.block;
+  awaits = a.block;
+  reclaim = a.reclaim;
+  monitored = monitored;
+}
 
 abbrev pub unlock_ask : UnlockArgsItem → Aim → Ask
-unlock_ask a at = ask_of (owner_of a.lock) a.lock.caller_name at.file (acts.Unlock (Bytes at.first at.last)) false false no_rows
+unlock_ask a at = ask_of (owner_of a.lock) a.lock.caller_name at.file (acts.Unlock (Bytes at.first at.last)) no_rows
 
 -- what is asked if a client refuses a lock whose grant it was sent
 abbrev pub refusal_ask : Grant → Ask
-refusal_ask g = ask_of (NlmRange g.caller g.svid g.oh) g.caller g.file (acts.Unlock (Bytes g.first g.last)) false false no_rows
+refusal_ask g = ask_of (NlmRange g.caller g.svid g.oh) g.caller g.file (acts.Unlock (Bytes g.first g.last)) no_rows
 
 -- ---- shares
 
@@ -62,6 +68,9 @@ rights_of r = record { r = r.read; w = r.write; d = false }
 abbrev pub share_owner : ShareArgsItem → Name
 share_owner a = NlmShare a.caller_name a.oh
 
--- a share never waits; its mode is what it denies (NLM-12)
+-- a share never waits; its mode is what it denies, and its caller is monitored as a LOCK's is (NLM-12)
 abbrev pub share_ask : Rooms → ShareArgsItem → ℕ → Ask
-share_ask rows a file = ask_of (share_owner a) a.caller_name file (acts.Share (rights_of a.access) (rights_of a.mode)) false a.reclaim rows
+share_ask rows a file = record (ask_of (share_owner a) a.caller_name file (acts.Share (rights_of a.access) (rights_of a.mode)) rows) {
+  reclaim = a.reclaim;
+  monitored = true;
+}

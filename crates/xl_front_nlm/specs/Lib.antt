@@ -15,3 +15,4 @@ pub mod Statuses
 pub mod Left
 pub mod Asking
 pub mod AsTold
+pub mod Graces

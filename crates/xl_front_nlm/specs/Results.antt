@@ -44,12 +44,12 @@ status_of Nothing = stats.Granted
 
 -- ---- TEST
 
--- what a test may be answered: it asks for nothing that is entered, waits for or needs room, and no cache is in its way (CORE-4)
+-- what a test may be answered: it asks for nothing that is entered, waits for or needs room, no cache is in its way, and it never
+-- reclaims (CORE-4)
 abbrev pub IsTestAnswer : Answer → Type 0
 IsTestAnswer (answers.Granted c) = Unit {0}
 IsTestAnswer (answers.Conflict c) = Unit {0}
 IsTestAnswer (answers.Grace until) = Unit {0}
-IsTestAnswer (answers.NoGrace clock) = Unit {0}
 IsTestAnswer _ = ⊥
 
 abbrev pub IsTestOutcome : Outcome → Type 0

@@ -1,6 +1,6 @@
 -- What becomes of a call (XNFS C702, chapter 14): it is answered so at once, or the core is asked, or one deed is done
 -- to it.
-use Rattle.std.specs.Prelude.{ℕ, if◌then◌else◌, List, [], ◌∷◌, Option, Some, None, Result, Ok, Err}
+use Rattle.std.specs.Prelude.{ℕ, Bool, true, false, if◌then◌else◌, List, [], ◌∷◌, Option, Some, None, Result, Ok, Err}
 use Rattle.xl_base.specs.declared.name.Party.TheVariants as parties
 use Rattle.xl_base.specs.declared.name.Protocol.TheVariants.{Nlm}
 use Rattle.xl_names.specs.Names.{number_of}
@@ -58,21 +58,25 @@ if_found f none deed None = Tells none
 if_found f none deed (Some found) = does f (deed found)
 
 -- one who asks for the same again waits on, whether it blocks or not, and also if it reclaims (NLM-5)
-abbrev pub lock_plan : FrontState → CoreState → LockArgsItem → Aim → CallPlan
-lock_plan f s a at = if does_wait s a at then Tells Waits else asks (Some a.lock.caller_name) f (rooms f.hosts) (lock_ask (host_rows a.lock.caller_name f.hosts) a at)
+abbrev pub lock_plan : Bool → FrontState → CoreState → LockArgsItem → Aim → CallPlan
+lock_plan monitored f s a at = if does_wait s a at then Tells Waits else asks (Some a.lock.caller_name) f (rooms f.hosts) (lock_ask monitored (host_rows a.lock.caller_name f.hosts) a at)
+
+-- a lock, of a caller who is monitored or not
+abbrev pub locking : Bool → ℕ → FrontState → CoreState → LockArgsItem → CallPlan
+locking monitored count f s a = at_bytes (λ at. lock_plan monitored f s a at) (aimed count a.lock)
 
 -- What each call does, if so many files are exported. TEST, LOCK, UNLOCK and SHARE ask; who is granted a lock or a
 -- share, or waits for a lock, is a host from then on. CANCEL takes out the waiter of the same owner, file, range and
 -- mode, whether it was said to block or not. UNSHARE gives back the owner's share on the file. FREE_ALL ends its caller
--- as a party. NM_LOCK does what LOCK does, as callers aren't recorded yet (NLM-6, NLM-9, NLM-12, NLM-13).
+-- as a party. NM_LOCK does what LOCK does, but its caller isn't recorded (NLM-6, NLM-9, NLM-12, NLM-13).
 unfoldable pub planned : ℕ → FrontState → CoreState → CallItem → CallPlan
 planned count f s (Test a) = at_bytes (λ at. asks None f (rooms f.hosts) (test_ask a at)) (aimed count a.lock)
-planned count f s (Lock a) = at_bytes (λ at. lock_plan f s a at) (aimed count a.lock)
+planned count f s (Lock a) = locking true count f s a
 planned count f s (Cancel a) = at_bytes (λ at. if_found f NotWaiting (λ id. Cancels id) (waiter_for s a.lock a.exclusive at)) (aimed count a.lock)
 planned count f s (Unlock a) = at_bytes (λ at. asks None f (rooms f.hosts) (unlock_ask a at)) (aimed count a.lock)
 planned count f s (Share a) = on_file (λ file. asks (Some a.caller_name) f (rooms f.hosts) (share_ask (host_rows a.caller_name f.hosts) a file)) (exported count a.fh)
 planned count f s (Unshare a) = on_file (λ file. if_found f Ended (λ claim. GivesBack claim) (share_held s a file)) (exported count a.fh)
-planned count f s (NmLock a) = at_bytes (λ at. lock_plan f s a at) (aimed count a.lock)
+planned count f s (NmLock a) = locking false count f s a
 planned count f s (FreeAll a) = if_found f Ended (λ number. Ends (parties.Name Nlm number)) (number_of (NlmParty a.name) s.names)
 planned count f s _ = Tells Nothing
 

@@ -1,5 +1,6 @@
 -- Why a call is answered with its status, exactly, by procedure (XNFS C702, nlm4_stats).
 use Rattle.std.specs.Prelude.{◌≡◌, ℕ, ◌+◌, Bool, true, false, ◌⊎◌, List, Option, Some, None}
+use Rattle.xl_base.specs.declared.event.Moment.{Moment}
 use Rattle.xl_matrix.specs.declared.claim.Claim.{Claim}
 use Rattle.xl_matrix.specs.declared.claim.Extent.TheVariants.{Bytes}
 use Rattle.xl_matrix.specs.declared.claim.What.TheVariants as whats
@@ -35,26 +36,31 @@ status_told _ outcome = None
 
 -- ---- by what the core is due to answer
 
--- a lock or a share, by the state that it is judged in: granted if nothing stands against it and there is room; denied
--- if something does for good or a cache keeps it off, or blocked if it may wait for that and there is room for the
--- wait (NLM-8); no locks if the least limit that it passes is answered; a reclaim is too late (NLM-7)
-abbrev pub IsClaimTold : Rooms → CoreState → Ask → Claim → NlmStatus → Type 0
-IsClaimTold left s a claim stats.Granted = IsClaimDue left s a claim (answers.Granted claim)
-IsClaimTold left s a claim stats.Denied = ((c : Claim) × IsClaimDue left s a claim (answers.Conflict c)) ⊎ ((c : Claim) × IsClaimDue left s a claim (answers.Recall c))
-IsClaimTold left s a claim stats.DeniedNolocks = (limit : ℕ) × IsClaimDue left s a claim (answers.Full limit)
-IsClaimTold left s a claim stats.Blocked = IsClaimDue left s a claim (answers.Queued (s.counter + 1))
-IsClaimTold left s a claim stats.DeniedGracePeriod = IsClaimDue left s a claim (answers.NoGrace s.clock)
-IsClaimTold left s a claim _ = ⊥
+-- A lock or a share, by the state that it is judged in, if n stores of the step succeed: granted if grace lets it in, nothing stands
+-- against it, there is room, and its caller is recorded or can be. Denied if something stands against it for good, a cache keeps it
+-- off, or it reclaims in grace and its caller isn't recorded; or blocked if it may wait for what stands against it and there is room
+-- for the wait (NLM-8). No locks if the least limit that it passes is answered, that of the record too. Denied for grace if one runs
+-- and it doesn't reclaim, or it reclaims and none runs (NLM-7). Failed if it would be granted, but the store fails that records its
+-- caller.
+abbrev pub IsClaimTold : ℕ → Rooms → CoreState → Ask → Claim → NlmStatus → Type 0
+IsClaimTold n left s a claim stats.Granted = IsClaimDue n left s a claim (answers.Granted claim)
+IsClaimTold n left s a claim stats.Denied = ((c : Claim) × IsClaimDue n left s a claim (answers.Conflict c)) ⊎ (((c : Claim) × IsClaimDue n left s a claim (answers.Recall c)) ⊎ IsClaimDue n left s a claim answers.NotRecorded)
+IsClaimTold n left s a claim stats.DeniedNolocks = (limit : ℕ) × IsClaimDue n left s a claim (answers.Full limit)
+IsClaimTold n left s a claim stats.Blocked = IsClaimDue n left s a claim (answers.Queued (s.counter + 1))
+IsClaimTold n left s a claim stats.DeniedGracePeriod = ((until : Moment) × IsClaimDue n left s a claim (answers.Grace until)) ⊎ IsClaimDue n left s a claim (answers.NoGrace s.clock)
+IsClaimTold n left s a claim stats.Failed = IsClaimDue n left s a claim answers.StoreFailed
+IsClaimTold n left s a claim _ = ⊥
 
 -- it is judged once its breaks run: a cache that needs no answer is out of its way by then, and another keeps it
 -- off until the break is answered
-abbrev pub IsAskTold : Rooms → CoreState → Ask → Claim → NlmStatus → Type 0
-IsAskTold left s a claim status = IsClaimTold left (way left s a).1 a claim status
+abbrev pub IsAskTold : ℕ → Rooms → CoreState → Ask → Claim → NlmStatus → Type 0
+IsAskTold n left s a claim status = IsClaimTold n left (way left s a).1 a claim status
 
--- a test: denied if a held range stands against it
+-- a test: denied if a held range stands against it, and denied for grace while one runs
 abbrev pub IsTestTold : CoreState → Ask → Claim → NlmStatus → Type 0
 IsTestTold s a claim stats.Granted = IsTestDue s a claim (answers.Granted claim)
 IsTestTold s a claim stats.Denied = (c : Claim) × IsTestDue s a claim (answers.Conflict c)
+IsTestTold s a claim stats.DeniedGracePeriod = (until : Moment) × IsTestDue s a claim (answers.Grace until)
 IsTestTold s a claim _ = ⊥
 
 -- an unlock: granted whether the bytes were held or not, and no locks if it cuts a range in two and there is no room (NLM-18)
@@ -81,33 +87,33 @@ IsFileTold told None status = status ≡ stats.StaleFh
 IsFileTold told (Some file) status = told file status
 
 -- who waits for the same already is blocked, whatever else it asks
-abbrev pub IsLockTold : Bool → Rooms → CoreState → Ask → Claim → NlmStatus → Type 0
-IsLockTold true left s a claim status = status ≡ stats.Blocked
-IsLockTold false left s a claim status = IsAskTold left s a claim status
+abbrev pub IsLockTold : Bool → ℕ → Rooms → CoreState → Ask → Claim → NlmStatus → Type 0
+IsLockTold true n left s a claim status = status ≡ stats.Blocked
+IsLockTold false n left s a claim status = IsAskTold n left s a claim status
 
 -- a cancel is granted exactly if there is such a waiter
 abbrev pub IsCancelTold : Option ℕ → NlmStatus → Type 0
 IsCancelTold None status = status ≡ stats.Denied
 IsCancelTold (Some id) status = status ≡ stats.Granted
 
--- the claim that a LOCK asks for
+-- the claim that a LOCK or an NM_LOCK asks for
 abbrev pub lock_claim : List (List ℕ) → CoreState → LockArgsItem → Aim → Claim
-lock_claim hosts s a at = asked_claim (lock_ask (host_rows a.lock.caller_name hosts) a at) (whats.Range (Bytes at.first at.last) a.exclusive) s.names
+lock_claim hosts s a at = asked_claim (lock_ask true (host_rows a.lock.caller_name hosts) a at) (whats.Range (Bytes at.first at.last) a.exclusive) s.names
 
--- what a lock is answered, by what it meets in the core
-abbrev pub IsLockingTold : List (List ℕ) → CoreState → LockArgsItem → Aim → NlmStatus → Type 0
-IsLockingTold hosts s a at status = IsLockTold (does_wait s a at) (rooms hosts) s (lock_ask (host_rows a.lock.caller_name hosts) a at) (lock_claim hosts s a at) status
+-- what a lock is answered, of a caller who is monitored or not, by what it meets in the core
+abbrev pub IsLockingTold : Bool → ℕ → List (List ℕ) → CoreState → LockArgsItem → Aim → NlmStatus → Type 0
+IsLockingTold monitored n hosts s a at status = IsLockTold (does_wait s a at) n (rooms hosts) s (lock_ask monitored (host_rows a.lock.caller_name hosts) a at) (lock_claim hosts s a at) status
 
--- why each call is answered with its status, if so many files are exported
-abbrev pub IsStatusDue : ℕ → List (List ℕ) → CoreState → CallItem → NlmStatus → Type 0
-IsStatusDue count hosts s (Test a) status =
+-- why each call is answered with its status, if so many files are exported and n stores of the step succeed
+abbrev pub IsStatusDue : ℕ → ℕ → List (List ℕ) → CoreState → CallItem → NlmStatus → Type 0
+IsStatusDue n count hosts s (Test a) status =
     IsRangeTold a.lock (λ at. IsTestTold s (test_ask a at) (known_claim (test_ask a at) (Bytes at.first at.last) a.exclusive s.names)) (exported count a.lock.fh) status
-IsStatusDue count hosts s (Lock a) status = IsRangeTold a.lock (λ at. IsLockingTold hosts s a at) (exported count a.lock.fh) status
-IsStatusDue count hosts s (NmLock a) status = IsRangeTold a.lock (λ at. IsLockingTold hosts s a at) (exported count a.lock.fh) status
-IsStatusDue count hosts s (Cancel a) status = IsRangeTold a.lock (λ at. IsCancelTold (waiter_for s a.lock a.exclusive at)) (exported count a.lock.fh) status
-IsStatusDue count hosts s (Unlock a) status =
+IsStatusDue n count hosts s (Lock a) status = IsRangeTold a.lock (λ at. IsLockingTold true n hosts s a at) (exported count a.lock.fh) status
+IsStatusDue n count hosts s (NmLock a) status = IsRangeTold a.lock (λ at. IsLockingTold false n hosts s a at) (exported count a.lock.fh) status
+IsStatusDue n count hosts s (Cancel a) status = IsRangeTold a.lock (λ at. IsCancelTold (waiter_for s a.lock a.exclusive at)) (exported count a.lock.fh) status
+IsStatusDue n count hosts s (Unlock a) status =
     IsRangeTold a.lock (λ at. IsUnlockTold s (known_claim (unlock_ask a at) (Bytes at.first at.last) false s.names) at.first at.last) (exported count a.lock.fh) status
-IsStatusDue count hosts s (Share a) status =
-    IsFileTold (λ file. IsAskTold (rooms hosts) s (share_ask (host_rows a.caller_name hosts) a file) (asked_claim (share_ask (host_rows a.caller_name hosts) a file) (whats.Share (rights_of a.access) (rights_of a.mode)) s.names)) (exported count a.fh) status
-IsStatusDue count hosts s (Unshare a) status = IsFileTold (λ file told. told ≡ stats.Granted) (exported count a.fh) status
-IsStatusDue count hosts s _ status = ⊥
+IsStatusDue n count hosts s (Share a) status =
+    IsFileTold (λ file. IsAskTold n (rooms hosts) s (share_ask (host_rows a.caller_name hosts) a file) (asked_claim (share_ask (host_rows a.caller_name hosts) a file) (whats.Share (rights_of a.access) (rights_of a.mode)) s.names)) (exported count a.fh) status
+IsStatusDue n count hosts s (Unshare a) status = IsFileTold (λ file told. told ≡ stats.Granted) (exported count a.fh) status
+IsStatusDue n count hosts s _ status = ⊥

@@ -1,12 +1,12 @@
 //! What the answer to a call of the server does.
 ghost use Rattle.std.specs.Prelude.{◌≡◌, ℕ, ◌≤◌, List, Some, option_map, IfOk, IfSome, OnOk};
-ghost use Rattle.xl_base.specs.Outside.{HandedOn};
 ghost use Rattle.xl_core.specs.State.{MayBe};
 ghost use Rattle.xl_front_nlm.specs.Answers.{is_granted, refuses_with, refuses_by, refuses, refused_grant, given_up, nlm_called};
 ghost use Rattle.xl_front_nlm.specs.Hosts.{rooms};
 ghost use Rattle.xl_front_nlm.specs.Layers.{core_of, front_of};
 ghost use Rattle.xl_front_nlm.specs.Short.{AreShort, IsShortGrant, IsReady, Leaves};
 ghost use Rattle.xl_nlm.specs.Replies.{results_at};
+ghost use Rattle.xl_plan.specs.Keepers.{HandsTo};
 ghost use Rattle.xl_rpc.specs.Replies.{reply_at};
 
 use crate::asks::refusal_ask;
@@ -90,7 +90,7 @@ fn give_up<K: Keeper>(
     requires ready { IsReady 0 core.old }
     ensures done { (n : ℕ) (hosts : List (List ℕ)) → left.now ≡ rooms hosts → IfOk result (λ effects. MayBe n core.new → given_up n hosts core.old (Some grant.now) ≡ (effects, core.new)) }
     ensures leaves { OnOk result (Leaves 2 core.old core.new) }
-    ensures keeper { HandedOn keeper.old keeper.new }
+    ensures keeper { OnOk result (HandsTo K.held K.given K.faults K.left core.old core.new keeper.old keeper.new) }
 {
     let request = refusal_ask(alloc, grant)?;
     let (_, effects) = asked(alloc, core, keeper, left, request)?;
@@ -115,7 +115,7 @@ pub fn nlm_called<K: Keeper>(
     ensures state { (n : ℕ) → IfOk result (λ effects. MayBe n (core_of layers.exit) → nlm_called n layers.entry.front.now layers.entry.core.now number (option_map (λ bytes. bytes.now) reply.entry) ≡ (effects, front_of layers.exit, core_of layers.exit)) }
     ensures leaves { OnOk result (Leaves 2 layers.entry.core.now (core_of layers.exit)) }
     ensures hosts { (front_of layers.exit).hosts ≡ layers.entry.front.now.hosts }
-    ensures keeper { HandedOn keeper.old keeper.new }
+    ensures keeper { OnOk result (HandsTo K.held K.given K.faults K.left layers.entry.core.now (core_of layers.exit) keeper.old keeper.new) }
 {
     let NlmLayers { front, core } = layers;
     let refused = refuses(reply);

@@ -32,7 +32,7 @@ pub(crate) fn share_owner(alloc: Global, args: &ShareArgs) -> Result<Name, Alloc
     Ok(Name::NlmShare(caller, oh))
 }
 
-/// An ask of NLM that neither waits nor reclaims.
+/// An ask of NLM that neither waits nor reclaims, and doesn't want its caller recorded.
 fn ask_of(
     alloc: Global,
     owner: Name,
@@ -41,7 +41,7 @@ fn ask_of(
     act: Act,
     rows: Rooms,
 ) -> Result<Ask, AllocError>
-    ensures { IfOk result (λ ask. ask ≡ ask_of owner caller.now file act false false rows) }
+    ensures { IfOk result (λ ask. ask ≡ ask_of owner caller.now file act rows) }
 {
     let caller = Sequence::from_slice(alloc, caller)?;
     Ok(Ask {
@@ -68,14 +68,15 @@ pub(crate) fn test_ask(alloc: Global, args: &TestArgs, at: &Aim) -> Result<Ask, 
     ask_of(alloc, owner, args.lock.caller_name, at.file, act, NO_ROWS)
 }
 
-/// What is asked for LOCK and NM_LOCK, which add these rows.
+/// What is asked for LOCK and NM_LOCK, which add these rows. The caller is monitored or not.
 pub(crate) fn lock_ask(
     alloc: Global,
+    monitored: bool,
     rows: Rooms,
     args: &LockArgs,
     at: &Aim,
 ) -> Result<Ask, AllocError>
-    ensures { IfOk result (λ ask. ask ≡ lock_ask rows (shown_lock_args args.now) at.now) }
+    ensures { IfOk result (λ ask. ask ≡ lock_ask monitored rows (shown_lock_args args.now) at.now) }
 {
     let owner = owner_of(alloc, &args.lock)?;
     let mut ranges = Sequence::new(alloc);
@@ -85,6 +86,7 @@ pub(crate) fn lock_ask(
     request.blocking = args.block;
     request.awaits = args.block;
     request.reclaim = args.reclaim;
+    request.monitored = monitored;
     Ok(request)
 }
 
@@ -142,5 +144,6 @@ pub(crate) fn share_ask(
     let act = Act::Share(rights_of(args.access), rights_of(args.mode));
     let mut request = ask_of(alloc, owner, args.caller_name, file, act, rows)?;
     request.reclaim = args.reclaim;
+    request.monitored = true;
     Ok(request)
 }

@@ -4,6 +4,7 @@ ghost use Rattle.std.specs.List.{AllByRecursion};
 ghost use Rattle.xl_programs.specs.Sent.{FitsFrame};
 ghost use Rattle.xl_core.specs.Good.{IsGood, IsRangeBy};
 ghost use Rattle.xl_core.specs.State.{GoesOn};
+ghost use Rattle.xl_plan.specs.Keepers.{IsQuiet};
 ghost use Rattle.xl_front_nlm.specs.Grants.{grant_of, addressed, told_by, shown};
 ghost use Rattle.xl_front_nlm.specs.Layers.{core_of, front_of};
 ghost use Rattle.xl_front_nlm.specs.Short.{IsShortGrant, IsReady, Leaves};
@@ -30,6 +31,7 @@ fn tell(
     requires ready { IsReady 0 layers.core.now }
     ensures state { IfOk result (λ outs. told_by layers.entry.front.now layers.entry.core.now (Some (claim.now, grant.now, to.now)) ≡ (outs, front_of layers.exit, core_of layers.exit)) }
     ensures leaves { OnOk result (Leaves 2 layers.entry.core.now (core_of layers.exit)) }
+    ensures quiet { OnOk result (IsQuiet layers.entry.core.now (core_of layers.exit)) }
     ensures little { IfOk result (λ outs. AllByRecursion FitsFrame outs) }
 {
     let number = layers.core.draw();
@@ -53,6 +55,7 @@ fn tell_grant(
     requires ready { IsReady 0 layers.core.now }
     ensures state { IfOk result (λ outs. told_by layers.entry.front.now layers.entry.core.now (option_map (λ told. (claim.now, told.0, told.1)) (addressed exports.now (grant_of layers.entry.core.now.names claim.now))) ≡ (outs, front_of layers.exit, core_of layers.exit)) }
     ensures leaves { OnOk result (Leaves 2 layers.entry.core.now (core_of layers.exit)) }
+    ensures quiet { OnOk result (IsQuiet layers.entry.core.now (core_of layers.exit)) }
     ensures little { IfOk result (λ outs. AllByRecursion FitsFrame outs) }
 {
     let Some(grant) = grant_of(alloc, layers.core.names(), claim)? else {
@@ -78,6 +81,7 @@ pub fn shown(
     requires ready { IsReady 0 layers.core.now }
     ensures state { IfOk result (λ outs. shown exports.now layers.entry.front.now layers.entry.core.now effect.now ≡ (outs, front_of layers.exit, core_of layers.exit)) }
     ensures leaves { OnOk result (Leaves 2 layers.entry.core.now (core_of layers.exit)) }
+    ensures quiet { OnOk result (IsQuiet layers.entry.core.now (core_of layers.exit)) }
     ensures little { IfOk result (λ outs. AllByRecursion FitsFrame outs) }
 {
     match effect {

@@ -72,11 +72,11 @@ pub fn replies_follow_the_answers()
 
 /// Each call is answered with its status exactly if that has its cause: STALE_FH if the handle names no exported file,
 /// FBIG if the range passes the last byte, BLOCKED if the owner waits for the same already or comes to wait, DENIED,
-/// DENIED_NOLOCKS, DENIED_GRACE_PERIOD and GRANTED if the core is due to answer so. A lock and a share are judged once
-/// the breaks of caches that they begin run.
+/// DENIED_NOLOCKS, DENIED_GRACE_PERIOD, FAILED and GRANTED if the core is due to answer so. A lock and a share are judged
+/// once the breaks of caches that they begin run.
 #[tactic(auto, using(crate::proofs::StatusLaws::status_due))]
 pub fn statuses_have_causes()
-    ensures { (n count : ℕ) (f : FrontState) (s : CoreState) (call : CallItem) (status : NlmStatus) → IsGood s → (status_told call (served n count f s call).0 ≡ Some status) ↔ IsStatusDue count f.hosts s call status }
+    ensures { (n count : ℕ) (f : FrontState) (s : CoreState) (call : CallItem) (status : NlmStatus) → IsGood s → (status_told call (served n count f s call).0 ≡ Some status) ↔ IsStatusDue n count f.hosts s call status }
 {}
 
 /// A grant of one who waited is sent by one call, to the address of the granted owner's caller; the call sends that

@@ -9,6 +9,7 @@ pub mod call_laws;
 mod deeds;
 mod effects;
 mod front;
+pub mod grace_laws;
 mod grant;
 pub mod law;
 mod layers;

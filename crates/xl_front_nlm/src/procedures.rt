@@ -1,11 +1,11 @@
 //! What becomes of a call.
 ghost use Rattle.std.specs.Prelude.{◌≡◌, ℕ, None, option_map, IfOk, OnOk};
-ghost use Rattle.xl_base.specs.Outside.{HandedOn};
 ghost use Rattle.xl_names.specs.Names.{number_of};
 ghost use Rattle.xl_names.specs.declared.name.Name.TheVariants.{NlmParty};
 ghost use Rattle.xl_nlm.specs.Items.{shown_notify, shown_call, FreeAll};
 ghost use Rattle.xl_nlm.specs.Arguments.{CallFits};
 ghost use Rattle.xl_core.specs.State.{MayBe};
+ghost use Rattle.xl_plan.specs.Keepers.{HandsTo};
 ghost use Rattle.xl_front_nlm.specs.Hosts.{HasHostRoom};
 ghost use Rattle.xl_front_nlm.specs.Plans.{shown_plan};
 ghost use Rattle.xl_front_nlm.specs.Results.{IsOutcomeOf};
@@ -45,18 +45,18 @@ fn free_all(alloc: Global, context: &Context, args: &Notify) -> Result<Plan, All
 }
 
 /// What is to become of a call.
-#[tactic(auto, using(crate::proofs::DoesLaws::nm_lock_is_lock, crate::proofs::DoesLaws::null_tells_nothing, crate::proofs::DoesLaws::granted_tells_nothing))]
+#[tactic(auto, using(crate::proofs::DoesLaws::lock_is_monitored, crate::proofs::DoesLaws::nm_lock_is_not, crate::proofs::DoesLaws::null_tells_nothing, crate::proofs::DoesLaws::granted_tells_nothing))]
 fn planned(alloc: Global, context: &Context, call: &NlmCall) -> Result<Plan, AllocError>
     ensures { IfOk result (λ plan. planned context.now.count context.now.front.now context.now.core.now (shown_call call.now) ≡ shown_plan (host_of (shown_call call.now)) context.now.front.now plan) }
 {
     match call {
         NlmCall::Test(args) => ranges::test(alloc, context, args),
-        NlmCall::Lock(args) => ranges::lock(alloc, context, args),
+        NlmCall::Lock(args) => ranges::lock(alloc, context, true, args),
         NlmCall::Cancel(args) => ranges::cancel(alloc, context, args),
         NlmCall::Unlock(args) => ranges::unlock(alloc, context, args),
         NlmCall::Share(args) => shares::share(alloc, context, args),
         NlmCall::Unshare(args) => shares::unshare(alloc, context, args),
-        NlmCall::NmLock(args) => ranges::lock(alloc, context, args),
+        NlmCall::NmLock(args) => ranges::lock(alloc, context, false, args),
         NlmCall::FreeAll(args) => free_all(alloc, context, args),
         NlmCall::Null | NlmCall::Granted(_) => Ok(Plan::Tells(Outcome::Nothing)),
     }
@@ -104,7 +104,7 @@ pub(crate) fn serve<K: Keeper>(
     ensures done { (n : ℕ) → IfOk result (λ r. MayBe n (core_of layers.exit) → served n count layers.entry.front.now layers.entry.core.now (shown_call call.now) ≡ (r.0, r.1, front_of layers.exit, core_of layers.exit)) }
     ensures outcome { IfOk result (λ r. IsOutcomeOf (shown_call call.now) r.0) }
     ensures leaves { OnOk result (Leaves 2 layers.entry.core.now (core_of layers.exit)) }
-    ensures keeper { HandedOn keeper.old keeper.new }
+    ensures keeper { OnOk result (HandsTo K.held K.given K.faults K.left layers.entry.core.now (core_of layers.exit) keeper.old keeper.new) }
 {
     let NlmLayers { front, core } = layers;
     let plan = planned(alloc, &Context { count, front, core }, call)?;

@@ -1,8 +1,8 @@
 //! What becomes of TEST, LOCK, UNLOCK and CANCEL.
 ghost use Rattle.std.specs.Prelude.{◌≡◌, Some, None, IfOk};
-ghost use Rattle.xl_nlm.specs.Items.{shown_test_args, shown_lock_args, shown_cancel_args, shown_unlock_args, Test, Lock, Cancel, Unlock};
+ghost use Rattle.xl_nlm.specs.Items.{shown_test_args, shown_lock_args, shown_cancel_args, shown_unlock_args, Test, Cancel, Unlock};
 ghost use Rattle.xl_front_nlm.specs.Plans.{shown_plan};
-ghost use Rattle.xl_front_nlm.specs.Serving.{planned};
+ghost use Rattle.xl_front_nlm.specs.Serving.{locking, planned};
 
 use crate::aim::aimed;
 use crate::asks::{lock_ask, test_ask, unlock_ask};
@@ -26,10 +26,14 @@ pub(crate) fn test(alloc: Global, context: &Context, args: &TestArgs) -> Result<
     Ok(Plan::Asks(context.front.rooms(), request))
 }
 
-/// LOCK and NM_LOCK. Who waits for the same already waits on.
-#[tactic(auto, unfolding(crate::specs::Serving::planned))]
-pub(crate) fn lock(alloc: Global, context: &Context, args: &LockArgs) -> Result<Plan, AllocError>
-    ensures { IfOk result (λ plan. planned context.now.count context.now.front.now context.now.core.now (Lock (shown_lock_args args.now)) ≡ shown_plan (Some args.now.lock.caller_name.now) context.now.front.now plan) }
+/// LOCK, whose caller is monitored, and NM_LOCK, whose caller isn't. Who waits for the same already waits on.
+pub(crate) fn lock(
+    alloc: Global,
+    context: &Context,
+    monitored: bool,
+    args: &LockArgs,
+) -> Result<Plan, AllocError>
+    ensures { IfOk result (λ plan. locking monitored context.now.count context.now.front.now context.now.core.now (shown_lock_args args.now) ≡ shown_plan (Some args.now.lock.caller_name.now) context.now.front.now plan) }
 {
     let at = match aimed(context.count, &args.lock) {
         Ok(at) => at,
@@ -39,7 +43,8 @@ pub(crate) fn lock(alloc: Global, context: &Context, args: &LockArgs) -> Result<
         return Ok(Plan::Tells(Outcome::Waits));
     }
     let caller = Sequence::from_slice(alloc, args.lock.caller_name)?;
-    let request = lock_ask(alloc, context.front.host_rows(&caller), args, &at)?;
+    let rows = context.front.host_rows(&caller);
+    let request = lock_ask(alloc, monitored, rows, args, &at)?;
     Ok(Plan::Asks(context.front.rooms(), request))
 }
 

@@ -2,7 +2,6 @@
 ghost use Rattle.std.specs.Prelude.{◌≡◌, ℕ, ◌≤◌, true, [], ◌++◌, length, option_map, IfOk, IfSome, OnOk};
 ghost use Rattle.std.specs.List.{AllByRecursion};
 ghost use Rattle.xl_base.specs.Limits.{most_message_bytes};
-ghost use Rattle.xl_base.specs.Outside.{HandedOn};
 ghost use Rattle.xl_nlm.specs.Arguments.{CallFits};
 ghost use Rattle.xl_nlm.specs.Items.{shown_call, shown_reply};
 ghost use Rattle.xl_nlm.specs.Replies.{results, ReplyFits};
@@ -11,6 +10,7 @@ ghost use Rattle.xl_programs.specs.Sent.{sent_to, FitsFrame};
 ghost use Rattle.xl_rpc.specs.Replies.{reply};
 ghost use Rattle.xl_rpc.specs.declared.reply.Verdict.TheVariants.{Success, GarbageArgs};
 ghost use Rattle.xl_core.specs.State.{MayBe};
+ghost use Rattle.xl_plan.specs.Keepers.{HandsTo};
 ghost use Rattle.xl_front_nlm.specs.FrontNlm.{call_in, replied, nlm_step};
 ghost use Rattle.xl_front_nlm.specs.Layers.{core_of, front_of};
 ghost use Rattle.xl_front_nlm.specs.Short.{IsReady, Leaves};
@@ -78,7 +78,7 @@ fn replied<K: Keeper>(
     requires ready { IsReady 0 layers.core.now }
     ensures done { (n : ℕ) → IfOk result (λ r. MayBe n (core_of layers.exit) → replied n count layers.entry.front.now layers.entry.core.now request.now.xid (call_in (shown_request request.now)) ≡ (r.0.items, r.1, front_of layers.exit, core_of layers.exit)) }
     ensures leaves { OnOk result (Leaves 2 layers.entry.core.now (core_of layers.exit)) }
-    ensures keeper { HandedOn keeper.old keeper.new }
+    ensures keeper { OnOk result (HandsTo K.held K.given K.faults K.left layers.entry.core.now (core_of layers.exit) keeper.old keeper.new) }
     ensures little { IfOk result (λ r. length r.0.items ≤ most_message_bytes) }
 {
     let Some(call) = call_in(request) else {
@@ -111,7 +111,7 @@ pub fn nlm_step<K: Keeper>(
     ensures state { (n : ℕ) → IfOk result (λ r. MayBe n (core_of layers.exit) → nlm_step n exports.now layers.entry.front.now layers.entry.core.now conn (shown_request request.now) ≡ (r.0, r.1, front_of layers.exit, core_of layers.exit)) }
     ensures leaves { OnOk result (Leaves 2 layers.entry.core.now (core_of layers.exit)) }
     ensures little { IfOk result (λ r. AllByRecursion FitsFrame r.0) }
-    ensures keeper { HandedOn keeper.old keeper.new }
+    ensures keeper { OnOk result (HandsTo K.held K.given K.faults K.left layers.entry.core.now (core_of layers.exit) keeper.old keeper.new) }
 {
     let count = exports.files.len();
     let (reply, effects) = replied(alloc, count, layers, keeper, request)?;

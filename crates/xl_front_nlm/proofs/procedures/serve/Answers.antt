@@ -12,6 +12,7 @@ use Rattle.xl_front_nlm.specs.Results.{IsOutcomeOf}
 use Rattle.xl_front_nlm.specs.Serving.{host_of, hosted}
 use Rattle.xl_front_nlm.specs.State.{FrontState}
 use Rattle.xl_front_nlm.specs.declared.outcome.Outcome.{Outcome}
+use Rattle.xl_plan.proofs.KeeperLaws.{hands_quiet}
 use Rattle.xl_front_nlm.proofs.procedures.serve.Goals as goal
 
 abbrev CallServed : Type 0
@@ -92,3 +93,6 @@ returns-in-Does-clause-outcome g c =
     subst (λ (r : CallServed). IsOutcomeOf call r.0)
     (served_done 0 c.args.count front c.args.layers.core.now c.carry_out.new.core call (shown_deed c.in-Does.deed) c.in_ok-effects-in-Does.effects (c.in_ok-plan.ensures ∙ ap (shown_plan (host_of call) front) c.in-Does.is) (c.in_ok-effects-in-Does.ensures.done 0))
     (outcome_of 0 c.args.count front c.args.layers.core.now call)
+
+pub returns-in-Does-clause-keeper : goal.returns-in-Does-clause-keeper
+returns-in-Does-clause-keeper g c = hands_quiet g.K.Keeper.held g.K.Keeper.given g.K.Keeper.faults g.K.Keeper.left c.args.layers.core.now c.carry_out.new.core c.args.keeper.now c.in_ok-effects-in-Does.ensures.quiet
