@@ -132,7 +132,7 @@ abbrev pub come_again : NfsLists → ℕ → ClientRow → NfsLists
 come_again l number r = with_clients l (changed (is_client number true) (with_details r.details) l.clients)
 
 -- By the confirmed record of the same id string: there is none, it is of this clientid, or it is of another client, of
--- which all goes (NFS-12).
+-- which all goes but its name in the record (NFS-12).
 abbrev pub confirm_over : CoreState → NfsLists → Option ℕ → ℕ → ClientRow → Option ClientRow → Plan
 confirm_over s l current number r None = Does (Renews r.id ∷ []) (come l number r) (Ended Ok, current)
 confirm_over s l current number r (Some o) =

@@ -3,6 +3,7 @@ ghost use Rattle.std.specs.Prelude.{◌≡◌, ℕ, IfOk, OnOk};
 ghost use Rattle.xl_front_nfs.specs.Clients.{renew};
 ghost use Rattle.xl_nfs_opens.specs.Plans.{carried};
 ghost use Rattle.xl_plan.specs.Budgets.{IsReady};
+ghost use Rattle.xl_plan.specs.Keepers.{IsQuiet};
 ghost use Rattle.xl_nfs_opens.specs.Short.{Leaves};
 
 use std::alloc::{AllocError, Global};
@@ -24,6 +25,7 @@ pub(crate) fn renew(
     requires ready { IsReady 0 core.old }
     ensures done { (n : ℕ) → IfOk result (λ r. carried n core.old state.now (renew core.old state.now current clientid) ≡ (r.0, r.1, r.2, state.now, core.new)) }
     ensures leaves { OnOk result (Leaves 0 core.old core.new) }
+    ensures quiet { OnOk result (IsQuiet core.old core.new) }
 {
     let Some(number) = number_in(core, clientid) else {
         return Ok(ended_as(alloc, NfsStatus::StaleClientId, current));

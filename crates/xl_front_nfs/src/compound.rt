@@ -1,6 +1,5 @@
 //! A COMPOUND (RFC 7530 14.2, 15.2): its operations in a row, up to the first that fails.
 ghost use Rattle.std.specs.Prelude.{◌≡◌, ℕ, ◌+◌, ◌*◌, ◌<◌, ◌≤◌, ◌++◌, List, [], false, true, length, IfOk, OnOk};
-ghost use Rattle.xl_base.specs.Outside.{HandedOn};
 ghost use Rattle.xl_nfs.specs.Ops.{shown_op, OpFits};
 ghost use Rattle.xl_nfs.specs.Outcomes.{is_ok};
 ghost use Rattle.xl_nfs_state.specs.Bytes.{most_result_bytes};
@@ -10,6 +9,7 @@ ghost use Rattle.xl_core.specs.State.{CoreState, MayBe};
 ghost use Rattle.xl_front_nfs.specs.Courses.{course_of};
 ghost use Rattle.xl_front_nfs.specs.FrontNfs.{most_ops};
 ghost use Rattle.xl_plan.specs.Budgets.{IsReady};
+ghost use Rattle.xl_plan.specs.Keepers.{HandsTo};
 ghost use Rattle.xl_plan.specs.Plans.{carried, told_behind};
 ghost use Rattle.xl_nfs_opens.specs.Results.{ToldFits};
 ghost use Rattle.xl_nfs_opens.specs.Seqids.{most_short};
@@ -107,7 +107,7 @@ fn do_op<K: Keeper>(
     ensures little { OnOk result (length progress.new.results ≤ length progress.old.results + most_result_bytes) }
     ensures short { IfOk result (λ more. more ≡ true → length progress.new.results ≤ length progress.old.results + most_short) }
     ensures count { OnOk result (progress.new.count ≡ progress.old.count + 1) }
-    ensures keeper { HandedOn keeper.old keeper.new }
+    ensures keeper { OnOk result (HandsTo K.held K.given K.faults K.left core.old core.new keeper.old keeper.new) }
 {
     let current = progress.current;
     let done = serve(alloc, exported, state, core, keeper, current, op)?;
@@ -160,7 +160,7 @@ pub(crate) fn run_ops<K: Keeper>(
     ensures course { (n : ℕ) → OnOk result (MayBe n core.new → told_behind progress.old.effects (carried n core.old state.old (compound exported.now.files.now exported.now.others (course_of progress.old) core.old state.old (steps_in ops.now.count ops.now.bytes.rest.now))) ≡ (course_of progress.new, progress.new.effects, state.new, core.new)) }
     ensures leaves { OnOk result (Leaves (4 * ops.now.count) core.old core.new) }
     ensures little { OnOk result (length progress.new.results ≤ length progress.old.results + most_short * ops.now.count + most_result_bytes) }
-    ensures keeper { HandedOn keeper.old keeper.new }
+    ensures keeper { OnOk result (HandsTo K.held K.given K.faults K.left core.old core.new keeper.old keeper.new) }
 {
     if ops.count == 0 {
         return Ok(());

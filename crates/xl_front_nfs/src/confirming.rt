@@ -9,6 +9,7 @@ ghost use Rattle.xl_core.specs.Deeds.{all_done, all_told_of, Renews};
 ghost use Rattle.xl_front_nfs.specs.Clients.{ends, come, come_again, confirm_beside, confirm_held, confirmed_by, confirm_found, set_client_id_confirm};
 ghost use Rattle.xl_nfs_opens.specs.Plans.{carried};
 ghost use Rattle.xl_plan.specs.Budgets.{IsReady};
+ghost use Rattle.xl_plan.specs.Keepers.{IsQuiet};
 ghost use Rattle.xl_nfs_opens.specs.Short.{Leaves};
 
 use crate::ending::ended;
@@ -54,6 +55,7 @@ fn ended_and_renewed(
     ensures told { (n : ℕ) → IfOk result (λ effects. all_told_of n core.old (ends (party_named core.old.names (NfsParty id.now)) ++ Renews id.now ∷ []) ≡ effects) }
     ensures state { (n : ℕ) → OnOk result (all_done n core.old (ends (party_named core.old.names (NfsParty id.now)) ++ Renews id.now ∷ []) ≡ core.new) }
     ensures leaves { OnOk result (Leaves 0 core.old core.new) }
+    ensures quiet { OnOk result (IsQuiet core.old core.new) }
 {
     let effects = ended(alloc, core, id)?;
     renewed(alloc, core, id)?;
@@ -74,6 +76,7 @@ fn confirm_first(
     requires free { find (is_client_named row.id true) state.old.clients ≡ None }
     ensures done { (n : ℕ) → IfOk result (λ r. carried n core.old state.old (confirm_beside core.old state.old current number row) ≡ (r.0, r.1, r.2, state.new, core.new)) }
     ensures leaves { OnOk result (Leaves 0 core.old core.new) }
+    ensures quiet { OnOk result (IsQuiet core.old core.new) }
 {
     renewed(alloc, core, row.id.as_slice())?;
     come(alloc, state, number, row)?;
@@ -93,6 +96,7 @@ fn confirm_again(
     requires there { option_map (λ r. r.number) (find (is_client_named row.id true) state.old.clients) ≡ Some number }
     ensures done { (n : ℕ) → IfOk result (λ r. carried n core.old state.old (confirm_beside core.old state.old current number row) ≡ (r.0, r.1, r.2, state.new, core.new)) }
     ensures leaves { OnOk result (Leaves 0 core.old core.new) }
+    ensures quiet { OnOk result (IsQuiet core.old core.new) }
 {
     renewed(alloc, core, row.id.as_slice())?;
     come_again(state, number, row);
@@ -115,6 +119,7 @@ fn confirm_anew(
     requires other { (old == number) ≡ false }
     ensures done { (n : ℕ) → IfOk result (λ r. carried n core.old state.old (confirm_beside core.old state.old current number row) ≡ (r.0, r.1, r.2, state.new, core.new)) }
     ensures leaves { OnOk result (Leaves 0 core.old core.new) }
+    ensures quiet { OnOk result (IsQuiet core.old core.new) }
 {
     let effects = ended_and_renewed(alloc, core, row.id.as_slice())?;
     forget(state, old);
@@ -136,6 +141,7 @@ fn confirm_beside(
     requires room { length state.old.clients < most_clients }
     ensures done { (n : ℕ) → IfOk result (λ r. carried n core.old state.old (confirm_beside core.old state.old current number row) ≡ (r.0, r.1, r.2, state.new, core.new)) }
     ensures leaves { OnOk result (Leaves 0 core.old core.new) }
+    ensures quiet { OnOk result (IsQuiet core.old core.new) }
 {
     match number_named(state, row.id.as_slice(), true) {
         None => confirm_first(alloc, state, core, current, number, row),
@@ -168,6 +174,7 @@ fn confirm_held(
     requires ready { IsReady 0 core.old }
     ensures done { (n : ℕ) → IfOk result (λ r. carried n core.old state.now (confirm_held state.now current verifier.now (find (is_client number true) state.now.clients)) ≡ (r.0, r.1, r.2, state.now, core.new)) }
     ensures leaves { OnOk result (Leaves 0 core.old core.new) }
+    ensures quiet { OnOk result (IsQuiet core.old core.new) }
 {
     let Some(row) = state.find_client(number, true) else {
         return Ok(ended_as(alloc, NfsStatus::StaleClientId, current));
@@ -192,6 +199,7 @@ fn confirm_found(
     requires found { found ≡ confirmed_by verifier.now (find (is_client number false) state.old.clients) }
     ensures done { (n : ℕ) → IfOk result (λ r. carried n core.old state.old (confirm_found core.old state.old current number verifier.now found) ≡ (r.0, r.1, r.2, state.new, core.new)) }
     ensures leaves { OnOk result (Leaves 0 core.old core.new) }
+    ensures quiet { OnOk result (IsQuiet core.old core.new) }
 {
     match found {
         Some(row) => {
@@ -214,6 +222,7 @@ pub(crate) fn set_client_id_confirm(
     requires ready { IsReady 0 core.old }
     ensures done { (n : ℕ) → IfOk result (λ r. carried n core.old state.old (set_client_id_confirm core.old state.old current args.now) ≡ (r.0, r.1, r.2, state.new, core.new)) }
     ensures leaves { OnOk result (Leaves 0 core.old core.new) }
+    ensures quiet { OnOk result (IsQuiet core.old core.new) }
 {
     let Some(number) = number_in(core, args.clientid) else {
         return Ok(ended_as(alloc, NfsStatus::StaleClientId, current));

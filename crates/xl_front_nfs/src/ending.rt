@@ -6,6 +6,7 @@ ghost use Rattle.xl_core.specs.Deeds.{all_done, all_told_of};
 ghost use Rattle.xl_core.specs.Settle.{end_party};
 ghost use Rattle.xl_front_nfs.specs.Clients.{ends};
 ghost use Rattle.xl_plan.specs.Budgets.{IsReady};
+ghost use Rattle.xl_plan.specs.Keepers.{IsQuiet};
 ghost use Rattle.xl_nfs_opens.specs.Short.{Leaves};
 
 use std::alloc::{AllocError, Global};
@@ -19,6 +20,7 @@ fn end_party(alloc: Global, core: &mut Core, party: Party) -> Result<Sequence<Ef
     requires ready { IsReady 0 core.old }
     ensures state { IfOk result (λ effects. end_party core.old party ≡ (effects, core.new)) }
     ensures leaves { OnOk result (Leaves 0 core.old core.new) }
+    ensures quiet { OnOk result (IsQuiet core.old core.new) }
 {
     let effects = core.end_party(alloc, party)?;
     Ok(effects)
@@ -35,6 +37,7 @@ pub(crate) fn ended(
     ensures told { (n : ℕ) → IfOk result (λ effects. all_told_of n core.old (ends (party_named core.old.names (NfsParty id.now))) ≡ effects) }
     ensures state { (n : ℕ) → OnOk result (all_done n core.old (ends (party_named core.old.names (NfsParty id.now))) ≡ core.new) }
     ensures leaves { OnOk result (Leaves 0 core.old core.new) }
+    ensures quiet { OnOk result (IsQuiet core.old core.new) }
 {
     match party_of(alloc, core, id)? {
         Some(party) => end_party(alloc, core, party),

@@ -1,10 +1,10 @@
 //! What becomes of an operation.
 ghost use Rattle.xl_core.specs.State.{MayBe};
 ghost use Rattle.std.specs.Prelude.{◌≡◌, ℕ, IfOk, OnOk};
-ghost use Rattle.xl_base.specs.Outside.{HandedOn};
 ghost use Rattle.xl_nfs.specs.Ops.{shown_op};
 ghost use Rattle.xl_nfs_opens.specs.Plans.{carried};
 ghost use Rattle.xl_plan.specs.Budgets.{IsReady};
+ghost use Rattle.xl_plan.specs.Keepers.{HandsTo};
 ghost use Rattle.xl_nfs_opens.specs.Short.{Leaves};
 ghost use Rattle.xl_front_nfs.specs.Steps.{planned};
 
@@ -36,7 +36,7 @@ pub(crate) fn serve<K: Keeper>(
     requires ready { IsReady 4 core.old }
     ensures done { (n : ℕ) → IfOk result (λ r. MayBe n core.new → carried n core.old state.old (planned exported.now.files.now exported.now.others core.old state.old current (shown_op op.now)) ≡ (r.0, r.1, r.2, state.new, core.new)) }
     ensures leaves { OnOk result (Leaves 4 core.old core.new) }
-    ensures keeper { HandedOn keeper.old keeper.new }
+    ensures keeper { OnOk result (HandsTo K.held K.given K.faults K.left core.old core.new keeper.old keeper.new) }
 {
     match op {
         NfsOp::PutRootFh => Ok(beside(alloc, put_root_fh())),

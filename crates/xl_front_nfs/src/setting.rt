@@ -7,6 +7,7 @@ ghost use Rattle.xl_core.specs.Deeds.{all_done, all_told_of};
 ghost use Rattle.xl_front_nfs.specs.Clients.{number_kept, numbers, draws, record_end, row_of, confirm_of, has_room, set_under, set_beside, set_client_id};
 ghost use Rattle.xl_nfs_opens.specs.Plans.{carried};
 ghost use Rattle.xl_plan.specs.Budgets.{IsReady};
+ghost use Rattle.xl_plan.specs.Keepers.{IsQuiet};
 ghost use Rattle.xl_nfs_opens.specs.Short.{Leaves};
 
 use crate::rows::{drop_named, drop_number, enter, has_room};
@@ -36,6 +37,7 @@ fn draw_numbers(core: &mut Core, kept: Option<u32>) -> (u32, u32)
     ensures told { (n : ℕ) → all_told_of n core.old (draws kept) ≡ [] }
     ensures stable { core.new.stable ≡ core.old.stable }
     ensures leaves { Leaves 2 core.old core.new }
+    ensures quiet { IsQuiet core.old core.new }
 {
     let first = drawn(core);
     match kept {
@@ -121,6 +123,7 @@ fn set_beside(
     requires free { find (is_client_named args.now.id.now false) state.old.clients ≡ None }
     ensures done { (n : ℕ) → IfOk result (λ r. carried n core.old state.old (set_beside core.old state.old current (shown_set_client_id_args args.now)) ≡ (r.0, r.1, r.2, state.new, core.new)) }
     ensures leaves { OnOk result (Leaves 2 core.old core.new) }
+    ensures quiet { OnOk result (IsQuiet core.old core.new) }
 {
     if !has_room(state) {
         return Ok(ended_as(alloc, NfsStatus::Resource, current));
@@ -145,6 +148,7 @@ pub(crate) fn set_client_id(
     requires ready { IsReady 2 core.old }
     ensures done { (n : ℕ) → IfOk result (λ r. carried n core.old state.old (set_client_id core.old state.old current (shown_set_client_id_args args.now)) ≡ (r.0, r.1, r.2, state.new, core.new)) }
     ensures leaves { OnOk result (Leaves 2 core.old core.new) }
+    ensures quiet { OnOk result (IsQuiet core.old core.new) }
 {
     drop_named(state, args.id);
     set_beside(alloc, state, core, current, args)

@@ -2,7 +2,6 @@
 ghost use Rattle.std.specs.Prelude.{◌≡◌, ℕ, ◌+◌, ◌≤◌, List, [], ◌++◌, true, length, IfOk, OnOk};
 ghost use Rattle.std.specs.List.{AllByRecursion};
 ghost use Rattle.xl_base.specs.Limits.{most_message_bytes};
-ghost use Rattle.xl_base.specs.Outside.{HandedOn};
 ghost use Rattle.xl_nfs.specs.Basics.{most_text_bytes};
 ghost use Rattle.xl_nfs.specs.Compounds.{compound_head_at};
 ghost use Rattle.xl_programs.specs.Programs.{serves, shown_request};
@@ -14,6 +13,7 @@ ghost use Rattle.xl_front_nfs.specs.Courses.{course_of};
 ghost use Rattle.xl_front_nfs.specs.FrontNfs.{null_in, compound_in, call_in, most_ops, most_drawn, most_results, run, with_reply, replied, nfs_step};
 ghost use Rattle.xl_nfs_opens.specs.Results.{compound_results};
 ghost use Rattle.xl_plan.specs.Budgets.{IsReady};
+ghost use Rattle.xl_plan.specs.Keepers.{HandsTo};
 ghost use Rattle.xl_nfs_opens.specs.Short.{Leaves};
 ghost use Rattle.xl_front_nfs.specs.State.{FrontNfs};
 ghost use Rattle.xl_front_nfs.specs.Steps.{begun, steps_in};
@@ -126,7 +126,7 @@ fn done<K: Keeper>(
     ensures done { (n : ℕ) → IfOk result (λ r. MayBe n core.new → with_reply call.now.xid call.now.head.tag.now (run n exported.now.files.now exported.now.others front.old core.old (steps_in call.now.head.count call.now.args.rest.now)) ≡ (r.0.items, r.1, front.new, core.new)) }
     ensures leaves { OnOk result (Leaves most_drawn core.old core.new) }
     ensures little { IfOk result (λ r. length r.0.items ≤ most_message_bytes) }
-    ensures keeper { HandedOn keeper.old keeper.new }
+    ensures keeper { OnOk result (HandsTo K.held K.given K.faults K.left core.old core.new keeper.old keeper.new) }
 {
     let mut progress = begun(alloc);
     let ops = Ops {
@@ -199,7 +199,7 @@ fn compound<K: Keeper>(
     ensures done { (n : ℕ) → IfOk result (λ r. MayBe n core.new → replied n exported.now.files.now exported.now.others front.old core.old request.now.xid (compound_in (compound_head_at request.now.arguments.rest.now)) ≡ (r.0.items, r.1, front.new, core.new)) }
     ensures leaves { OnOk result (Leaves most_drawn core.old core.new) }
     ensures little { IfOk result (λ r. length r.0.items ≤ most_message_bytes) }
-    ensures keeper { HandedOn keeper.old keeper.new }
+    ensures keeper { OnOk result (HandsTo K.held K.given K.faults K.left core.old core.new keeper.old keeper.new) }
 {
     let mut args = request.arguments;
     let Ok(head) = read_head(&mut args) else {
@@ -230,7 +230,7 @@ fn replied<K: Keeper>(
     ensures done { (n : ℕ) → IfOk result (λ r. MayBe n core.new → replied n exported.now.files.now exported.now.others front.old core.old request.now.xid (call_in (shown_request request.now)) ≡ (r.0.items, r.1, front.new, core.new)) }
     ensures leaves { OnOk result (Leaves most_drawn core.old core.new) }
     ensures little { IfOk result (λ r. length r.0.items ≤ most_message_bytes) }
-    ensures keeper { HandedOn keeper.old keeper.new }
+    ensures keeper { OnOk result (HandsTo K.held K.given K.faults K.left core.old core.new keeper.old keeper.new) }
 {
     if request.procedure == NULL {
         let done = null(alloc, request)?;
@@ -265,7 +265,7 @@ pub fn nfs_step<K: Keeper>(
     ensures state { (n : ℕ) → IfOk result (λ r. MayBe n core.new → nfs_step n exports.now others front.old core.old arrival.now.conn (shown_request arrival.now.request.now) ≡ (r.0, r.1, front.new, core.new)) }
     ensures leaves { OnOk result (Leaves most_drawn core.old core.new) }
     ensures little { IfOk result (λ r. AllByRecursion FitsFrame r.0) }
-    ensures keeper { HandedOn keeper.old keeper.new }
+    ensures keeper { OnOk result (HandsTo K.held K.given K.faults K.left core.old core.new keeper.old keeper.new) }
 {
     let files = exports.files.as_slice();
     let exported = Exported { files, others };

@@ -1,5 +1,5 @@
 -- When a SETCLIENTID finds no room, and when an OPEN_DOWNGRADE asks for more than the open has.
-use Rattle.std.proofs.Common.{◌≡◌, ◌↔◌, ◌⊎◌, ℕ, ◌+◌, ◌≤◌, Bool, true, false, not, ◌&&◌, ◌||◌, List, [], ◌∷◌, length, Option, Some, None, is_some, if◌then◌else◌, refl, sym, ap, subst, ◌∙◌, inl, inr, arith, true≢false}
+use Rattle.std.proofs.Common.{◌≡◌, ◌↔◌, ◌⊎◌, ℕ, ◌+◌, ◌≤◌, Bool, true, false, ◌&&◌, ◌||◌, List, [], ◌∷◌, length, Option, Some, None, is_some, refl, sym, ap, subst, ◌∙◌, inl, inr, arith, true≢false}
 use Rattle.std.proofs.lemmas.Bool.{cases_Bool, and_parts, and_from, eq-eqb, eqb-true}
 use Rattle.std.proofs.lemmas.Bool.Decides.{nat_tests}
 use Rattle.std.proofs.lemmas.Option.{same_Some}
@@ -9,7 +9,6 @@ use Rattle.std.specs.Prelude.{bytes_eq, nat_le, nat_lt}
 use Rattle.xl_matrix.specs.Rights.{implies, rights_lie_within}
 use Rattle.xl_nfs.specs.Clients.{SetClientIdArgsItem}
 use Rattle.xl_nfs.specs.declared.opens.OpenDowngradeArgs.{OpenDowngradeArgs}
-use Rattle.xl_nfs.specs.declared.status.NfsStatus.{NfsStatus}
 use Rattle.xl_nfs.specs.declared.status.NfsStatus.TheVariants.{Inval, Resource}
 use Rattle.xl_nfs_state.specs.State.{IsSound, NfsLists, is_client, is_client_named, without}
 use Rattle.xl_nfs_state.specs.declared.client.ClientRow.{ClientRow}
@@ -19,12 +18,11 @@ use Rattle.xl_core.specs.State.{CoreState}
 use Rattle.xl_nfs_opens.specs.Closing.{can_weaken, checked, standing_fault}
 use Rattle.xl_nfs_opens.specs.Downgrades.{downgrade_by, downgrade_done, downgrade_fault}
 use Rattle.xl_nfs_opens.specs.Opens.{rights_of}
-use Rattle.xl_nfs_opens.specs.Plans.{Outcome, Plan, carried}
+use Rattle.xl_nfs_opens.specs.Plans.{Outcome, carried}
 use Rattle.xl_nfs_opens.specs.declared.opener.Checked.{Checked}
 use Rattle.xl_nfs_opens.specs.declared.opener.Checked.TheVariants.{Passed}
-use Rattle.xl_nfs_opens.specs.declared.told.Told.{Told}
 use Rattle.xl_nfs_opens.specs.declared.told.Told.TheVariants.{Ended}
-use Rattle.xl_front_nfs.specs.Clients.{has_room, number_kept, set_beside, set_by, set_client_id, without_found, without_named, without_number}
+use Rattle.xl_front_nfs.specs.Clients.{has_room, number_kept, set_beside, set_by, set_client_id, without_found, without_number}
 use Rattle.xl_nfs_laws.specs.OpenLaws.{AreOf, IsLess}
 use Rattle.xl_nfs_laws.proofs.ClientCaseLaws.{found_passes}
 

@@ -1,10 +1,10 @@
 -- The stateid that a LOCK under an open is answered: a new one stands under the open, and one that stands there already is the
 -- one used again.
 use Rattle.std.proofs.Common.{◌≡◌, ℕ, ◌+◌, ◌≤◌, Bool, true, false, not, ◌&&◌, ◌||◌, List, [], ◌∷◌, Option, Some, None, Ok, Err, Result, is_some, if◌then◌else◌, refl, sym, ap, subst, ◌∙◌, inl, inr, arith, true≢false}
-use Rattle.std.proofs.lemmas.Bool.{cases_Bool, and_parts, and_from, eq-eqb, eqb-true, false_from_ne_true, false≢true}
+use Rattle.std.proofs.lemmas.Bool.{cases_Bool, and_parts, and_from, eq-eqb, eqb-true, false_from_ne_true}
 use Rattle.std.proofs.lemmas.Option.{same_Some}
 use Rattle.std.specs.Bool.{◌==◌}
-use Rattle.std.specs.List.{AllByRecursion, find}
+use Rattle.std.specs.List.{find}
 use Rattle.std.specs.Prelude.{IfSome, option_and_then, option_map}
 use Rattle.xl_base.proofs.Members.{all_in, in_filter_from}
 use Rattle.xl_base.proofs.Searches.{find_in}
@@ -15,8 +15,8 @@ use Rattle.xl_nfs.specs.declared.status.NfsStatus.{NfsStatus}
 use Rattle.xl_nfs_state.specs.Alike.{kinds_are}
 use Rattle.xl_nfs_state.specs.Filed.{changed}
 use Rattle.xl_nfs_state.specs.Keys.{place_of, same_kind, same_place}
-use Rattle.xl_nfs_state.specs.Rows.{with_seqids, with_standing}
-use Rattle.xl_nfs_state.specs.State.{NfsLists, can_hang, is_client, is_kept, is_open_by, is_owner, is_owner_named, is_stateid, is_under, is_whose, next_owner, open_fits, owned_on, owner_fits, with_stateids, without}
+use Rattle.xl_nfs_state.specs.Rows.{with_seqids}
+use Rattle.xl_nfs_state.specs.State.{NfsLists, can_hang, is_client, is_kept, is_open_by, is_owner, is_stateid, is_under, is_whose, next_owner, open_fits, owned_on, owner_fits, with_stateids, without}
 use Rattle.xl_nfs_state.specs.Verdict.{next_seqid, verdict}
 use Rattle.xl_nfs_state.specs.declared.client.ClientRow.{ClientRow}
 use Rattle.xl_nfs_state.specs.declared.owner.OwnerKind.TheVariants as kinds
@@ -26,7 +26,6 @@ use Rattle.xl_nfs_state.specs.declared.seqid.SeqidVerdict.{SeqidVerdict}
 use Rattle.xl_nfs_state.specs.declared.seqid.SeqidVerdict.TheVariants as verdicts
 use Rattle.xl_nfs_state.specs.declared.stateid.Holder.{Holder}
 use Rattle.xl_nfs_state.specs.declared.stateid.Holder.TheVariants as holders
-use Rattle.xl_nfs_state.specs.declared.stateid.Place.TheVariants.{Owned}
 use Rattle.xl_nfs_state.specs.declared.stateid.StateidRow.{StateidRow}
 use Rattle.xl_nfs_state.specs.declared.stateid.Whose.TheVariants as whose
 use Rattle.xl_nfs_state.proofs.SoundLaws.{fresh_number}
@@ -37,35 +36,33 @@ use Rattle.xl_core.specs.State.{CoreState, drawn}
 use Rattle.xl_core.specs.declared.ask.Answer.{Answer}
 use Rattle.xl_core.specs.declared.ask.Effect.{Effect}
 use Rattle.xl_core.specs.Ids.{number_in}
-use Rattle.xl_nfs_locks.specs.Denials.{lock_told}
 use Rattle.xl_nfs_locks.specs.FirstLocks as first
 use Rattle.xl_nfs_locks.specs.Locks.{lock_end}
 use Rattle.xl_nfs_locks.specs.Ranges.{last_byte, lock_ask}
 use Rattle.xl_nfs_locks.specs.Tests.{locker_of}
 use Rattle.xl_nfs_locks.specs.declared.joining.BothOwners.{BothOwners}
 use Rattle.xl_nfs_locks.specs.declared.joining.Joined.{Joined}
-use Rattle.xl_nfs_locks.specs.declared.joining.Joined.TheVariants.{Bad, Again, Joins}
+use Rattle.xl_nfs_locks.specs.declared.joining.Joined.TheVariants.{Bad, Joins}
 use Rattle.xl_nfs_opens.proofs.OwnerLaws.{own_client}
-use Rattle.xl_nfs_opens.specs.Closing.{checked, next_seqids, standing_fault, state_told}
-use Rattle.xl_nfs_opens.specs.Opens.{all_rooms, client_in, freed, is_granted, live, stood}
+use Rattle.xl_nfs_opens.specs.Closing.{checked, next_seqids, standing_fault}
+use Rattle.xl_nfs_opens.specs.Opens.{all_rooms, client_in, is_granted, live}
 use Rattle.xl_nfs_opens.specs.Plans.{Outcome, carried, told_behind}
 use Rattle.xl_nfs_opens.specs.Renewing.{stateid_of}
 use Rattle.xl_nfs_opens.specs.Results.{spelled}
-use Rattle.xl_nfs_opens.specs.Seqids.{advances, closed_gone, counted, is_opener, is_room_for, kept_for, number_by, opener_number, remembered, seated, seated_by, seated_new, seqid_set}
+use Rattle.xl_nfs_opens.specs.Seqids.{closed_gone, counted, is_opener, is_room_for, kept_for, number_by, opener_number, remembered, seated, seated_by, seated_new, seqid_set}
 use Rattle.xl_nfs_opens.specs.declared.opener.Checked.{Checked}
-use Rattle.xl_nfs_opens.specs.declared.opener.Checked.TheVariants.{Passed, Refused, Repeated}
+use Rattle.xl_nfs_opens.specs.declared.opener.Checked.TheVariants.{Passed}
 use Rattle.xl_nfs_opens.specs.declared.opener.Opener.{Opener}
-use Rattle.xl_nfs_opens.specs.declared.told.Told.{Told}
-use Rattle.xl_nfs_opens.specs.declared.told.Told.TheVariants.{Ended, State}
-use Rattle.xl_nfs_laws.specs.AnsweredStateids.{AreNewLocks, IsNextOnOpen, LockersCloseNothing, can_join, counted_new, new_locks}
+use Rattle.xl_nfs_opens.specs.declared.told.Told.TheVariants.{State}
+use Rattle.xl_nfs_laws.specs.AnsweredStateids.{AreNewLocks, LockersCloseNothing, can_join, counted_new, new_locks}
 use Rattle.xl_nfs_laws.specs.Orderly.{closes, IsHeldBy, IsOrderly, IsOwnedBy}
 use Rattle.xl_nfs_laws.specs.StateidNumbers.{AreGivenOut}
 use Rattle.xl_nfs_laws.proofs.AnsweredLockLaws.{first_stands, never_told}
 use Rattle.xl_nfs_laws.proofs.AnsweredOpenLaws.{same_stateids}
-use Rattle.xl_nfs_laws.proofs.EnteredOpenLaws.{changed_found, kept_stateids, left_found, seated_there, still_there}
-use Rattle.xl_nfs_laws.proofs.KnownOpenLaws.{alone_there, free_of, gone_in, held_by, not_held, seated_clients}
+use Rattle.xl_nfs_laws.proofs.EnteredOpenLaws.{kept_stateids, left_found, seated_there, still_there}
+use Rattle.xl_nfs_laws.proofs.KnownOpenLaws.{free_of, gone_in, held_by, not_held, seated_clients}
 use Rattle.xl_nfs_laws.proofs.ListOrderLaws.{closed_by}
-use Rattle.xl_nfs_laws.proofs.LockOrderLaws.{IsLocker, both_locker, counted_owners, next_seqid_set, room_stays}
+use Rattle.xl_nfs_laws.proofs.LockOrderLaws.{both_locker, counted_owners, next_seqid_set, room_stays}
 use Rattle.xl_nfs_laws.proofs.OpenCheckLaws.{passed_is}
 use Rattle.xl_nfs_laws.proofs.OpenLaws.{kept_owners}
 use Rattle.xl_nfs_laws.proofs.OpenNumberLaws.{later_on}

@@ -141,7 +141,7 @@ granted_claim n s wish o a file c good at =
     let due = deed_due n s (Asks all_rooms (share_ask wish o a file)) good (ask_fits wish o a file) in
     let t = (way all_rooms s (share_ask wish o a file)).1 in
     let what : What = Share (rights_of a.access) (rights_of a.deny) in
-    let is : c ≡ asked_claim (share_ask wish o a file) what t.names = (subst (λ (answer : Answer). IsClaimDue all_rooms t (share_ask wish o a file) (asked_claim (share_ask wish o a file) what t.names) answer) at due.cause).0 in
+    let is : c ≡ asked_claim (share_ask wish o a file) what t.names = (subst (λ (answer : Answer). IsClaimDue n all_rooms t (share_ask wish o a file) (asked_claim (share_ask wish o a file) what t.names) answer) at due.cause).0 in
     (ap (λ (d : Claim). d.file) is, ap (λ (d : Claim). d.party) is ∙ ap (asking_party (share_ask wish o a file)) (ask_way_names all_rooms s (share_ask wish o a file)))
 
 -- so no other client, and on no other file, gets a cache by it

@@ -50,4 +50,8 @@ pub mod RangeStatusLaws
 pub mod RangeToldLaws
 pub mod OwnerStayLaws
 pub mod FirstLockLaws
+pub mod ReclaimedCacheLaws
+pub mod ReclaimedDelegationLaws
 pub mod ExactStatusLaws
+pub mod GraceStandings
+pub mod RecordedClientLaws

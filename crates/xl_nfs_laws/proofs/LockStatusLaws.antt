@@ -24,12 +24,12 @@ use Rattle.xl_table.specs.Held.{is_of, spans_of}
 use Rattle.xl_core.proofs.WayAsks.{ask_due, ask_own, ask_test, ask_unlock, ask_way_none, test_stands}
 use Rattle.xl_core.proofs.WayDeeds.{then_else}
 use Rattle.xl_core.proofs.DeedLaws.{deed_makes}
-use Rattle.xl_core.specs.Blockers.{is_stopped}
 use Rattle.xl_core.specs.Causes.{IsClaimDue, IsTestDue}
 use Rattle.xl_core.specs.Decide.{way, ask}
 use Rattle.xl_core.specs.Deeds.{Asks}
 use Rattle.xl_core.specs.Good.{IsGood}
 use Rattle.xl_core.specs.Places.{ByteOf, held_at, byte_held, answered_at, cleared_at, else_was}
+use Rattle.xl_core.specs.Standings.{is_smb, recorded_as, refusal}
 use Rattle.xl_core.specs.State.{CoreState}
 use Rattle.xl_core.specs.declared.ask.Answer.{Answer}
 use Rattle.xl_core.specs.declared.ask.Answer.TheVariants as answers
@@ -50,86 +50,62 @@ use Rattle.xl_nfs_opens.specs.Seqids.{is_room_for}
 use Rattle.xl_nfs_opens.specs.declared.opener.Opener.{Opener}
 use Rattle.xl_nfs_opens.specs.declared.told.HeldLock.{HeldLock}
 use Rattle.xl_nfs_opens.specs.declared.told.Told.TheVariants.{Ended, State, Denied}
+use Rattle.xl_plan.proofs.GraceLaws.{unrecorded_runs}
+use Rattle.xl_nfs_laws.proofs.GraceStandings.{against_asked, never_waits}
 use Rattle.xl_nfs_laws.proofs.LockOwn.{unlock_fits}
-use Rattle.xl_nfs_laws.proofs.LockedByteLaws.{refused_stays}
+use Rattle.xl_nfs_laws.proofs.LockedByteLaws.{first_told, known_told, refused_stays, same_noted}
 
 -- ---- a LOCK's status
 
--- who waits for nothing may not wait
-no_wait : (b x y : Bool) → x ≡ false → y ≡ false → (if b then x else y) ≡ true → ⊥
-no_wait true x y hurries e may = true≢false (sym may ∙ hurries)
-no_wait false x y e hurries may = true≢false (sym may ∙ hurries)
+forth : (n : ℕ) (s t : CoreState) (l : NfsLists) (a : Ask) (claim : Claim) (answer : Answer) → a.blocking ≡ false → a.awaits ≡ false → is_smb a.party ≡ false → IsClaimDue n all_rooms s a claim answer → IsLockTold n s a claim (status_of (lock_told t l a.reclaim answer))
+forth n s t l a claim (answers.Granted c) hurries rests other due = (refl, due.1, due.2, due.3, due.4)
+forth n s t l a claim (answers.Conflict c) hurries rests other due = by a.reclaim refl where
+  by : (late : Bool) → a.reclaim ≡ late → IsLockTold n s a claim (status_of (lock_told t l a.reclaim (answers.Conflict c)))
+  by true e = subst (λ (late : Bool). IsLockTold n s a claim (status_of (lock_told t l late (answers.Conflict c)))) (sym e) (e, (c, due))
+  by false e = subst (λ (late : Bool). IsLockTold n s a claim (status_of (lock_told t l late (answers.Conflict c)))) (sym e) (e, (c, due))
+forth n s t l a claim (answers.Queued number) hurries rests other due = absurd (never_waits s a claim hurries rests other due.1)
+forth n s t l a claim (answers.NoGrace clock) hurries rests other due = (refl, due.1, due.2)
+forth n s t l a claim (answers.Full limit) hurries rests other due = (limit, due)
+forth n s t l a claim (answers.Recall c) hurries rests other due = (c, due)
+forth n s t l a claim (answers.Grace until) hurries rests other due = (until, due)
+forth n s t l a claim answers.NotRecorded hurries rests other due = due
+forth n s t l a claim answers.NotHeld hurries rests other due = absurd due
+forth n s t l a claim answers.StoreFailed hurries rests other due = due
 
-forth : (s t : CoreState) (l : NfsLists) (a : Ask) (claim : Claim) (answer : Answer) → a.blocking ≡ false → a.awaits ≡ false → IsClaimDue all_rooms s a claim answer → IsLockTold s a claim (status_of (lock_told t l a.reclaim answer))
-forth s t l a claim (answers.Granted c) hurries rests due = (refl, due.1, due.2, due.3)
-forth s t l a claim (answers.Conflict c) hurries rests due = subst (λ (late : Bool). IsLockTold s a claim (status_of (lock_told t l late (answers.Conflict c)))) (sym due.0) (c, due)
-forth s t l a claim (answers.Queued number) hurries rests due = absurd (no_wait (is_stopped s.waiters s claim) a.blocking a.awaits hurries rests due.2)
-forth s t l a claim (answers.NoGrace clock) hurries rests due = (refl, due.1)
-forth s t l a claim (answers.Full limit) hurries rests due = (limit, due)
-forth s t l a claim (answers.Recall c) hurries rests due = (c, due)
-forth s t l a claim (answers.Grace until) hurries rests due = absurd due
-forth s t l a claim answers.NotRecorded hurries rests due = absurd due
-forth s t l a claim answers.NotHeld hurries rests due = absurd due
-forth s t l a claim answers.StoreFailed hurries rests due = absurd due
+back : (n : ℕ) (s t : CoreState) (l : NfsLists) (a : Ask) (claim : Claim) (r : Answer) → ((answer : Answer) → IsClaimDue n all_rooms s a claim answer → r ≡ answer) → (status : NfsStatus) → IsLockTold n s a claim status → status_of (lock_told t l a.reclaim r) ≡ status
+back n s t l a claim r exact statuses.Ok told = ap (λ (x : Answer). status_of (lock_told t l a.reclaim x)) (exact (answers.Granted claim) told)
+back n s t l a claim r exact statuses.Denied told = ap (λ (x : Answer). status_of (lock_told t l a.reclaim x)) (exact (answers.Conflict told.1.0) told.1.1) ∙ ap (λ (late : Bool). status_of (lock_told t l late (answers.Conflict told.1.0))) told.0
+back n s t l a claim r exact statuses.ReclaimConflict told = ap (λ (x : Answer). status_of (lock_told t l a.reclaim x)) (exact (answers.Conflict told.1.0) told.1.1) ∙ ap (λ (late : Bool). status_of (lock_told t l late (answers.Conflict told.1.0))) told.0
+back n s t l a claim r exact statuses.Delay told = ap (λ (x : Answer). status_of (lock_told t l a.reclaim x)) (exact (answers.Recall told.0) told.1)
+back n s t l a claim r exact statuses.Resource told = ap (λ (x : Answer). status_of (lock_told t l a.reclaim x)) (exact (answers.Full told.0) told.1)
+back n s t l a claim r exact statuses.Grace told = ap (λ (x : Answer). status_of (lock_told t l a.reclaim x)) (exact (answers.Grace told.0) told.1)
+back n s t l a claim r exact statuses.NoGrace told = ap (λ (x : Answer). status_of (lock_told t l a.reclaim x)) (exact (answers.NoGrace s.clock) told)
+back n s t l a claim r exact statuses.ReclaimBad told = ap (λ (x : Answer). status_of (lock_told t l a.reclaim x)) (exact answers.NotRecorded told)
+back n s t l a claim r exact statuses.ServerFault told = ap (λ (x : Answer). status_of (lock_told t l a.reclaim x)) (exact answers.StoreFailed told)
+back n s t l a claim r exact _ told = absurd told
 
-back : (s t : CoreState) (l : NfsLists) (a : Ask) (claim : Claim) (r : Answer) → ((answer : Answer) → IsClaimDue all_rooms s a claim answer → r ≡ answer) → (status : NfsStatus) → IsLockTold s a claim status → status_of (lock_told t l a.reclaim r) ≡ status
-back s t l a claim r exact statuses.Ok told = ap (λ (x : Answer). status_of (lock_told t l a.reclaim x)) (exact (answers.Granted claim) told)
-back s t l a claim r exact statuses.Denied told = ap (λ (x : Answer). status_of (lock_told t l a.reclaim x)) (exact (answers.Conflict told.0) told.1) ∙ ap (λ (late : Bool). status_of (lock_told t l late (answers.Conflict told.0))) told.1.0
-back s t l a claim r exact statuses.Delay told = ap (λ (x : Answer). status_of (lock_told t l a.reclaim x)) (exact (answers.Recall told.0) told.1)
-back s t l a claim r exact statuses.Resource told = ap (λ (x : Answer). status_of (lock_told t l a.reclaim x)) (exact (answers.Full told.0) told.1)
-back s t l a claim r exact statuses.NoGrace told = ap (λ (x : Answer). status_of (lock_told t l a.reclaim x)) (exact (answers.NoGrace s.clock) told)
-back s t l a claim r exact _ told = absurd told
-
-exactly : (n : ℕ) (s t : CoreState) (l : NfsLists) (o : Opener) (file : ℕ) (kind : LockType) (reclaim : Bool) (first last : ℕ) (status : NfsStatus) → (status_of (lock_told t l reclaim (ask n all_rooms s (lock_ask o file kind reclaim first last)).0) ≡ status) ↔ IsLockTold (lock_way s o file kind reclaim first last) (lock_ask o file kind reclaim first last) (lock_claim s o file kind first last) status
+exactly : (n : ℕ) (s t : CoreState) (l : NfsLists) (o : Opener) (file : ℕ) (kind : LockType) (reclaim : Bool) (first last : ℕ) (status : NfsStatus) → (status_of (lock_told t l reclaim (ask n all_rooms s (lock_ask o file kind reclaim first last)).0) ≡ status) ↔ IsLockTold n (lock_way s o file kind reclaim first last) (lock_ask o file kind reclaim first last) (lock_claim s o file kind first last) status
 exactly n s t l o file kind reclaim first last status =
     let a = lock_ask o file kind reclaim first last in
     let claim = lock_claim s o file kind first last in
     let what = whats.Range (Bytes first last) (is_exclusive kind) in
     let w = lock_way s o file kind reclaim first last in
     let answer = (ask n all_rooms s a).0 in (
-      λ e. subst (λ (x : NfsStatus). IsLockTold w a claim x) e (forth w t l a claim answer refl refl ((ask_due n all_rooms s a what answer refl).0 refl)),
-      λ told. back w t l a claim answer (λ x due. (ask_due n all_rooms s a what x refl).1 due) status told,
+      λ e. subst (λ (x : NfsStatus). IsLockTold n w a claim x) e (forth n w t l a claim answer refl refl refl ((ask_due n all_rooms s a what answer refl).0 refl)),
+      λ told. back n w t l a claim answer (λ x due. (ask_due n all_rooms s a what x refl).1 due) status told,
     )
-
-known_told : (n : ℕ) (t : CoreState) (l : NfsLists) (current : Option ℕ) (r : StateidRow) (owner : ℕ) (seqids : SeqidState) (seqid : ℕ) (reclaim : Bool) (answer : Answer) → status_of (carried n t l (lock_answered l current r owner seqids seqid reclaim answer t)).0 ≡ status_of (lock_told t l reclaim answer)
-known_told n t l current r owner seqids seqid reclaim (answers.Granted c) = refl
-known_told n t l current r owner seqids seqid reclaim (answers.Conflict c) = refl
-known_told n t l current r owner seqids seqid reclaim (answers.Queued id) = refl
-known_told n t l current r owner seqids seqid reclaim (answers.Recall c) = refl
-known_told n t l current r owner seqids seqid reclaim (answers.Grace until) = refl
-known_told n t l current r owner seqids seqid reclaim (answers.NoGrace clock) = refl
-known_told n t l current r owner seqids seqid reclaim answers.NotRecorded = refl
-known_told n t l current r owner seqids seqid reclaim (answers.Full limit) = refl
-known_told n t l current r owner seqids seqid reclaim answers.NotHeld = refl
-known_told n t l current r owner seqids seqid reclaim answers.StoreFailed = refl
 
 by_status : {X : Type 0} (told is status : NfsStatus) → told ≡ is → ((is ≡ status) ↔ X) → ((told ≡ status) ↔ X)
 by_status told is status e exact = (λ d. exact.0 (sym e ∙ d), λ x. e ∙ exact.1 x)
 
 pub known_exactly : (n : ℕ) (s : CoreState) (l : NfsLists) (current : Option ℕ) (a : LockArgsItem) (r : StateidRow) (owner : ℕ) (seqids : SeqidState) (seqid last : ℕ) (o : Opener) (status : NfsStatus)
-    → (status_of (carried n s l (lock_by_owner l current a r owner seqids seqid last (Some o))).0 ≡ status) ↔ IsLockTold (lock_way s o r.file a.kind a.reclaim a.offset last) (lock_ask o r.file a.kind a.reclaim a.offset last) (lock_claim s o r.file a.kind a.offset last) status
+    → (status_of (carried n s l (lock_by_owner l current a r owner seqids seqid last (Some o))).0 ≡ status) ↔ IsLockTold n (lock_way s o r.file a.kind a.reclaim a.offset last) (lock_ask o r.file a.kind a.reclaim a.offset last) (lock_claim s o r.file a.kind a.offset last) status
 known_exactly n s l current a r owner seqids seqid last o status =
     let x = ask n all_rooms s (lock_ask o r.file a.kind a.reclaim a.offset last) in
     by_status _ _ status (known_told n x.2 l current r owner seqids seqid a.reclaim x.0) (exactly n s x.2 l o r.file a.kind a.reclaim a.offset last status)
 
-joined_told : (n : ℕ) (t : CoreState) (l : NfsLists) (current : Option ℕ) (b : BothOwners) (o : Opener) (r : StateidRow) (q : Option StateidRow) → status_of (carried n t l (joined_by t l current b o r q)).0 ≡ statuses.Ok
-joined_told n t l current b o r None = refl
-joined_told n t l current b o r (Some q) = refl
-
-first_told : (n : ℕ) (t : CoreState) (l : NfsLists) (current : Option ℕ) (b : BothOwners) (o : Opener) (r : StateidRow) (q : Option StateidRow) (reclaim : Bool) (answer : Answer) → status_of (carried n t l (join_answered l current b o r q reclaim answer t)).0 ≡ status_of (lock_told t l reclaim answer)
-first_told n t l current b o r q reclaim (answers.Granted c) = joined_told n t l current b o r q
-first_told n t l current b o r q reclaim (answers.Conflict c) = refl
-first_told n t l current b o r q reclaim (answers.Queued id) = refl
-first_told n t l current b o r q reclaim (answers.Recall c) = refl
-first_told n t l current b o r q reclaim (answers.Grace until) = refl
-first_told n t l current b o r q reclaim (answers.NoGrace clock) = refl
-first_told n t l current b o r q reclaim answers.NotRecorded = refl
-first_told n t l current b o r q reclaim (answers.Full limit) = refl
-first_told n t l current b o r q reclaim answers.NotHeld = refl
-first_told n t l current b o r q reclaim answers.StoreFailed = refl
-
 pub first_exactly : (n : ℕ) (s : CoreState) (l : NfsLists) (current : Option ℕ) (a : LockArgsItem) (b : BothOwners) (o : Opener) (r : StateidRow) (q : Option StateidRow) (last : ℕ) (status : NfsStatus) → is_room_for o l ≡ true
-    → (status_of (carried n s l (join_to l current a b o r q (Ok last))).0 ≡ status) ↔ IsLockTold (lock_way s o r.file a.kind a.reclaim a.offset last) (lock_ask o r.file a.kind a.reclaim a.offset last) (lock_claim s o r.file a.kind a.offset last) status
+    → (status_of (carried n s l (join_to l current a b o r q (Ok last))).0 ≡ status) ↔ IsLockTold n (lock_way s o r.file a.kind a.reclaim a.offset last) (lock_ask o r.file a.kind a.reclaim a.offset last) (lock_claim s o r.file a.kind a.offset last) status
 first_exactly n s l current a b o r q last status room =
     let x = ask n all_rooms s (lock_ask o r.file a.kind a.reclaim a.offset last) in
     rw room (by_status _ _ status (first_told n x.2 l current b o r q a.reclaim x.0) (exactly n s x.2 l o r.file a.kind a.reclaim a.offset last status))
@@ -139,27 +115,31 @@ first_full n s l current a b o r q last full = rw full refl
 
 -- ---- what DENIED tells
 
-told_denied : (s t : CoreState) (l : NfsLists) (a : Ask) (claim : Claim) (reclaim : Bool) (answer : Answer) (h : HeldLock) → IsClaimDue all_rooms s a claim answer → t ≡ s → lock_told t l reclaim answer ≡ Denied h → IsDenial s l claim h
-told_denied s t l a claim false (answers.Conflict c) h due stays e =
+told_denied : (n : ℕ) (s t : CoreState) (l : NfsLists) (a : Ask) (claim : Claim) (reclaim : Bool) (answer : Answer) (h : HeldLock) → is_smb a.party ≡ false → a.reclaim ≡ reclaim → IsClaimDue n all_rooms s a claim answer → t ≡ s → lock_told t l reclaim answer ≡ Denied h → IsDenial s l claim h
+told_denied n s t l a claim false (answers.Conflict c) h other plain due stays e =
     let same : held_lock t l c ≡ h = cc in
-    record { by = c; is_held = due.3; against = due.4; least = due.2; told = sym same ∙ ap (λ (u : CoreState). held_lock u l c) stays }
-told_denied s t l a claim true (answers.Conflict c) h due stays e = absurd cc
-told_denied s t l a claim reclaim (answers.Granted c) h due stays e = absurd cc
-told_denied s t l a claim reclaim (answers.Queued id) h due stays e = absurd cc
-told_denied s t l a claim reclaim (answers.Recall c) h due stays e = absurd cc
-told_denied s t l a claim reclaim (answers.Grace until) h due stays e = absurd cc
-told_denied s t l a claim reclaim (answers.NoGrace clock) h due stays e = absurd cc
-told_denied s t l a claim reclaim answers.NotRecorded h due stays e = absurd cc
-told_denied s t l a claim reclaim (answers.Full limit) h due stays e = absurd cc
-told_denied s t l a claim reclaim answers.NotHeld h due stays e = absurd cc
-told_denied s t l a claim reclaim answers.StoreFailed h due stays e = absurd cc
+    let against = against_asked s a claim c other plain due in
+    record { by = c; is_held = against.2; against = against.3; least = against.1; told = sym same ∙ ap (λ (u : CoreState). held_lock u l c) stays }
+told_denied n s t l a claim true (answers.Conflict c) h other plain due stays e = absurd cc
+told_denied n s t l a claim reclaim (answers.Granted c) h other plain due stays e = absurd cc
+told_denied n s t l a claim reclaim (answers.Queued id) h other plain due stays e = absurd cc
+told_denied n s t l a claim reclaim (answers.Recall c) h other plain due stays e = absurd cc
+told_denied n s t l a claim reclaim (answers.Grace until) h other plain due stays e = absurd cc
+told_denied n s t l a claim reclaim (answers.NoGrace clock) h other plain due stays e = absurd cc
+told_denied n s t l a claim reclaim answers.NotRecorded h other plain due stays e = absurd cc
+told_denied n s t l a claim reclaim (answers.Full limit) h other plain due stays e = absurd cc
+told_denied n s t l a claim reclaim answers.NotHeld h other plain due stays e = absurd cc
+told_denied n s t l a claim reclaim answers.StoreFailed h other plain due stays e = absurd cc
+
+not_failed : (t : CoreState) (l : NfsLists) (reclaim : Bool) (answer : Answer) (h : HeldLock) → answer ≡ answers.StoreFailed → lock_told t l reclaim answer ≡ Denied h → ⊥
+not_failed t l reclaim answer h failed e = let is = sym (ap (λ (x : Answer). lock_told t l reclaim x) failed) ∙ e in cc
 
 asked_denied : (n : ℕ) (s : CoreState) (l : NfsLists) (o : Opener) (file : ℕ) (kind : LockType) (reclaim : Bool) (first last : ℕ) (h : HeldLock) → IsGood s → first ≤ last → is_granted (ask n all_rooms s (lock_ask o file kind reclaim first last)).0 ≡ false
     → lock_told (ask n all_rooms s (lock_ask o file kind reclaim first last)).2 l reclaim (ask n all_rooms s (lock_ask o file kind reclaim first last)).0 ≡ Denied h → IsDenial (lock_way s o file kind reclaim first last) l (lock_claim s o file kind first last) h
 asked_denied n s l o file kind reclaim first last h good le fails e =
     let a = lock_ask o file kind reclaim first last in
     let x = ask n all_rooms s a in
-    told_denied (lock_way s o file kind reclaim first last) x.2 l a (lock_claim s o file kind first last) reclaim x.0 h ((ask_due n all_rooms s a (whats.Range (Bytes first last) (is_exclusive kind)) x.0 refl).0 refl) (refused_stays n s o file kind reclaim first last good le fails) e
+    told_denied n (lock_way s o file kind reclaim first last) x.2 l a (lock_claim s o file kind first last) reclaim x.0 h refl refl ((ask_due n all_rooms s a (whats.Range (Bytes first last) (is_exclusive kind)) x.0 refl).0 refl) (refused_stays n s o file kind reclaim first last good le fails (λ failed. not_failed x.2 l reclaim x.0 h failed e)) e
 
 known_is : (n : ℕ) (t : CoreState) (l : NfsLists) (current : Option ℕ) (r : StateidRow) (owner : ℕ) (seqids : SeqidState) (seqid : ℕ) (reclaim : Bool) (answer : Answer) (h : HeldLock) → (carried n t l (lock_answered l current r owner seqids seqid reclaim answer t)).0 ≡ Denied h → (is_granted answer ≡ false) × (lock_told t l reclaim answer ≡ Denied h)
 known_is n t l current r owner seqids seqid reclaim answer h e =
@@ -203,18 +183,19 @@ test_changes_nothing n s l current a file o (Some last) = (refl, test_stays n s 
 test_forth : (s t : CoreState) (l : NfsLists) (a : Ask) (claim : Claim) (answer : Answer) → a.reclaim ≡ false → IsTestDue s a claim answer → IsTestTold s a claim (status_of (tested_told t l answer))
 test_forth s t l a claim (answers.Granted c) early due = (refl, due.1, due.2)
 test_forth s t l a claim (answers.Conflict c) early due = (c, due)
-test_forth s t l a claim (answers.NoGrace clock) early due = absurd (true≢false (sym due.1 ∙ early))
+test_forth s t l a claim (answers.NoGrace clock) early due = absurd (true≢false (sym due.2 ∙ early))
 test_forth s t l a claim (answers.Queued number) early due = absurd due
 test_forth s t l a claim (answers.Full limit) early due = absurd due
 test_forth s t l a claim (answers.Recall c) early due = absurd due
-test_forth s t l a claim (answers.Grace until) early due = absurd due
-test_forth s t l a claim answers.NotRecorded early due = absurd due
+test_forth s t l a claim (answers.Grace until) early due = (until, due)
+test_forth s t l a claim answers.NotRecorded early due = absurd (true≢false (sym (unrecorded_runs s (recorded_as a.party) false a.reclaim (ap refusal due)).1 ∙ early))
 test_forth s t l a claim answers.NotHeld early due = absurd due
 test_forth s t l a claim answers.StoreFailed early due = absurd due
 
 test_back : (s t : CoreState) (l : NfsLists) (a : Ask) (claim : Claim) (r : Answer) → ((answer : Answer) → IsTestDue s a claim answer → r ≡ answer) → (status : NfsStatus) → IsTestTold s a claim status → status_of (tested_told t l r) ≡ status
 test_back s t l a claim r exact statuses.Ok told = ap (λ (x : Answer). status_of (tested_told t l x)) (exact (answers.Granted claim) told)
 test_back s t l a claim r exact statuses.Denied told = ap (λ (x : Answer). status_of (tested_told t l x)) (exact (answers.Conflict told.0) told.1)
+test_back s t l a claim r exact statuses.Grace told = ap (λ (x : Answer). status_of (tested_told t l x)) (exact (answers.Grace told.0) told.1)
 test_back s t l a claim r exact _ told = absurd told
 
 pub test_exactly : (n : ℕ) (s : CoreState) (l : NfsLists) (current : Option ℕ) (a : LockTestArgsItem) (file : ℕ) (o : Opener) (last : ℕ) (status : NfsStatus) → (status_of (carried n s l (test_to l current a file o (Some last))).0 ≡ status) ↔ IsTestTold s (test_ask o file a.kind a.offset last) (test_claim s o file a.kind a.offset last) status
@@ -235,8 +216,8 @@ tested_denied s t l a claim (answers.NoGrace clock) h due stays e = absurd cc
 tested_denied s t l a claim (answers.Queued number) h due stays e = absurd due
 tested_denied s t l a claim (answers.Full limit) h due stays e = absurd due
 tested_denied s t l a claim (answers.Recall c) h due stays e = absurd due
-tested_denied s t l a claim (answers.Grace until) h due stays e = absurd due
-tested_denied s t l a claim answers.NotRecorded h due stays e = absurd due
+tested_denied s t l a claim (answers.Grace until) h due stays e = absurd cc
+tested_denied s t l a claim answers.NotRecorded h due stays e = absurd cc
 tested_denied s t l a claim answers.NotHeld h due stays e = absurd due
 tested_denied s t l a claim answers.StoreFailed h due stays e = absurd due
 
@@ -280,6 +261,7 @@ unlock_stays n s o file first last good le answer is fails =
     (ask_own n all_rooms s a good (unlock_fits o file first last le).party).refused
     (λ c e. fails c (sym is ∙ e))
     (λ number e. (ask_unlock n all_rooms s a first last (answers.Queued number) refl (unlock_fits o file first last le).party refl le good).0 e)
+    ∙ same_noted (way all_rooms s a).1 a (ask n all_rooms s a).0 (λ c e. fails c (sym is ∙ e)) (λ e. (ask_unlock n all_rooms s a first last answers.StoreFailed refl (unlock_fits o file first last le).party refl le good).0 e)
     ∙ ap (λ (w : List Effect × CoreState). w.1) (ask_way_none all_rooms s a refl)
 
 pub freed : (n : ℕ) (s : CoreState) (o : Opener) (file first last : ℕ) → IsGood s → first ≤ last → (answer : Answer) → (ask n all_rooms s (unlock_ask o file first last)).0 ≡ answer → is_ok (unlock_status answer) ≡ true → AreFree o file first last s (ask n all_rooms s (unlock_ask o file first last)).2

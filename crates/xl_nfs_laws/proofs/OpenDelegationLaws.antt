@@ -245,7 +245,7 @@ judged_tied n files others s l current at o a judgements.New good opener tied = 
 judged_tied n files others s l current at o a judgements.Next good opener tied = as_tied n files others s l current at o a true good opener tied
 
 -- a confirmed client's owner
-opener_is : (s : CoreState) (l : NfsLists) (a : OpenArgsItem) (c : ClientRow) → AreSet s.counter l → client_in s l a.owner.clientid ≡ Some c → IsOpener l (opener_of c a)
+pub opener_is : (s : CoreState) (l : NfsLists) (a : OpenArgsItem) (c : ClientRow) → AreSet s.counter l → client_in s l a.owner.clientid ≡ Some c → IsOpener l (opener_of c a)
 opener_is s l a c set e = by (number_in s a.owner.clientid) e
   where
     by : (x : Option ℕ) → option_and_then (λ number. find (is_client number true) l.clients) x ≡ Some c → IsOpener l (opener_of c a)

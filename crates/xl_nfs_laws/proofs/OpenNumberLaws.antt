@@ -25,7 +25,7 @@ use Rattle.xl_nfs_state.specs.declared.stateid.Whose.TheVariants as whose
 use Rattle.xl_core.proofs.DeedLists.{deeds_good}
 use Rattle.xl_core.proofs.FrameLaws.{ask_frame, end_party_frame, give_back_frame, renew_frame, weaken_frame}
 use Rattle.xl_core.specs.Decide.{ask}
-use Rattle.xl_core.specs.Deeds.{Deed, Asks, GivesBack, Weakens, Acks, Cancels, Ends, Closes, Serves, Draws, Advances, Lapses, Renews, Expires, done, all_done, IsFitDeed, AreFit}
+use Rattle.xl_core.specs.Deeds.{Deed, Asks, GivesBack, Weakens, Acks, Cancels, Ends, Closes, Serves, Draws, Advances, Lapses, Renews, Expires, FailsStore, EndsGrace, done, all_done, IsFitDeed, AreFit}
 use Rattle.xl_core.specs.Good.{IsGood}
 use Rattle.xl_core.specs.State.{CoreState, drawn}
 use Rattle.xl_core.specs.declared.ask.Answer.{Answer}
@@ -152,6 +152,8 @@ deed_rises n s Client (Serves left) good fit own = absurd own
 deed_rises n s Client (Advances now) good fit own = absurd own
 deed_rises n s Client (Lapses cache) good fit own = absurd own
 deed_rises n s Client (Expires id) good fit own = absurd own
+deed_rises n s Client (FailsStore stable) good fit own = absurd own
+deed_rises n s Client EndsGrace good fit own = absurd own
 
 pub deeds_rise : (n : ℕ) (s : CoreState) (Client : List ℕ → Type 0) (ds : List Deed) → IsGood s → AreFit n s ds → AreBy n s Client ds → s.counter + draws ds ≤ (all_done n s ds).counter
 deeds_rise n s Client [] good fit own = omega arith

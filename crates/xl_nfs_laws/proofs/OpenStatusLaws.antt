@@ -21,13 +21,14 @@ use Rattle.xl_core.proofs.DeedLists.{deeds_good}
 use Rattle.xl_core.specs.Askers.{asker}
 use Rattle.xl_core.specs.Deeds.{all_done}
 use Rattle.xl_core.specs.Good.{IsGood}
-use Rattle.xl_core.specs.Blockers.{is_stopped}
 use Rattle.xl_core.specs.Causes.{IsClaimDue}
 use Rattle.xl_core.specs.Decide.{ask}
+use Rattle.xl_core.specs.Standings.{is_smb}
 use Rattle.xl_core.specs.State.{CoreState, drawn}
 use Rattle.xl_core.specs.declared.ask.Answer.{Answer}
 use Rattle.xl_core.specs.declared.ask.Answer.TheVariants as answers
 use Rattle.xl_core.specs.declared.ask.Ask.{Ask}
+use Rattle.xl_nfs_laws.proofs.GraceStandings.{never_waits}
 use Rattle.xl_nfs_laws.specs.OpenLaws.{goes_on, IsOpenTold, IsShared, share_claim, share_way}
 use Rattle.xl_nfs_opens.specs.Opens.{all_rooms, share_ask, reclaims, answer_status, answered, gives_all, granted_by, granted_wish, has_room, judged, wish_of, open_as, open_by, open_held, open_judged, open_on, opened_file, refused_lists, rights_of}
 use Rattle.xl_nfs_opens.specs.Plans.{Outcome, carried, status_of}
@@ -38,41 +39,43 @@ use Rattle.xl_nfs_opens.specs.declared.told.Told.TheVariants.{Ended}
 use Rattle.xl_nfs_opens.proofs.OpenOwn.{all_given, ask_fits}
 use Rattle.xl_matrix.specs.declared.claim.What.TheVariants as whats
 
--- who waits for nothing may not wait
-no_wait : (b x y : Bool) → x ≡ false → y ≡ false → (if b then x else y) ≡ true → ⊥
-no_wait true x y hurries e may = true≢false (sym may ∙ hurries)
-no_wait false x y e hurries may = true≢false (sym may ∙ hurries)
+claim_forth : (n : ℕ) (s : CoreState) (a : Ask) (claim : Claim) (answer : Answer) → a.blocking ≡ false → a.awaits ≡ false → is_smb a.party ≡ false → IsClaimDue n all_rooms s a claim answer → IsOpenTold n s a claim (answer_status a.reclaim answer)
+claim_forth n s a claim (answers.Granted c) hurries rests other due = (refl, due.1, due.2, due.3, due.4)
+claim_forth n s a claim (answers.Conflict c) hurries rests other due = by a.reclaim refl where
+  by : (late : Bool) → a.reclaim ≡ late → IsOpenTold n s a claim (if a.reclaim then statuses.ReclaimConflict else statuses.ShareDenied)
+  by true e = subst (λ (late : Bool). IsOpenTold n s a claim (if late then statuses.ReclaimConflict else statuses.ShareDenied)) (sym e) (e, (c, due))
+  by false e = subst (λ (late : Bool). IsOpenTold n s a claim (if late then statuses.ReclaimConflict else statuses.ShareDenied)) (sym e) (e, (c, due))
+claim_forth n s a claim (answers.Queued number) hurries rests other due = absurd (never_waits s a claim hurries rests other due.1)
+claim_forth n s a claim (answers.NoGrace clock) hurries rests other due = (refl, due.1, due.2)
+claim_forth n s a claim (answers.Full limit) hurries rests other due = (limit, due)
+claim_forth n s a claim (answers.Recall c) hurries rests other due = (c, due)
+claim_forth n s a claim (answers.Grace until) hurries rests other due = (until, due)
+claim_forth n s a claim answers.NotRecorded hurries rests other due = due
+claim_forth n s a claim answers.NotHeld hurries rests other due = absurd due
+claim_forth n s a claim answers.StoreFailed hurries rests other due = due
 
-claim_forth : (s : CoreState) (a : Ask) (claim : Claim) (answer : Answer) → a.blocking ≡ false → a.awaits ≡ false → IsClaimDue all_rooms s a claim answer → IsOpenTold s a claim (answer_status a.reclaim answer)
-claim_forth s a claim (answers.Granted c) hurries rests due = (refl, due.1, due.2, due.3)
-claim_forth s a claim (answers.Conflict c) hurries rests due = subst (λ (late : Bool). IsOpenTold s a claim (if late then statuses.ReclaimConflict else statuses.ShareDenied)) (sym due.0) (c, due)
-claim_forth s a claim (answers.Queued number) hurries rests due = absurd (no_wait (is_stopped s.waiters s claim) a.blocking a.awaits hurries rests due.2)
-claim_forth s a claim (answers.NoGrace clock) hurries rests due = (refl, due.1)
-claim_forth s a claim (answers.Full limit) hurries rests due = (limit, due)
-claim_forth s a claim (answers.Recall c) hurries rests due = (c, due)
-claim_forth s a claim (answers.Grace until) hurries rests due = absurd due
-claim_forth s a claim answers.NotRecorded hurries rests due = absurd due
-claim_forth s a claim answers.NotHeld hurries rests due = absurd due
-claim_forth s a claim answers.StoreFailed hurries rests due = absurd due
-
-claim_back : (s : CoreState) (a : Ask) (claim : Claim) (r : Answer) → ((answer : Answer) → IsClaimDue all_rooms s a claim answer → r ≡ answer) → (status : NfsStatus) → IsOpenTold s a claim status → answer_status a.reclaim r ≡ status
-claim_back s a claim r exact statuses.Ok told = ap (λ (x : Answer). answer_status a.reclaim x) (exact (answers.Granted claim) told)
-claim_back s a claim r exact statuses.ShareDenied told = ap (λ (x : Answer). answer_status a.reclaim x) (exact (answers.Conflict told.0) told.1) ∙ ap (λ (late : Bool). if late then statuses.ReclaimConflict else statuses.ShareDenied) told.1.0
-claim_back s a claim r exact statuses.Delay told = ap (λ (x : Answer). answer_status a.reclaim x) (exact (answers.Recall told.0) told.1)
-claim_back s a claim r exact statuses.Resource told = ap (λ (x : Answer). answer_status a.reclaim x) (exact (answers.Full told.0) told.1)
-claim_back s a claim r exact statuses.NoGrace told = ap (λ (x : Answer). answer_status a.reclaim x) (exact (answers.NoGrace s.clock) told)
-claim_back s a claim r exact _ told = absurd told
+claim_back : (n : ℕ) (s : CoreState) (a : Ask) (claim : Claim) (r : Answer) → ((answer : Answer) → IsClaimDue n all_rooms s a claim answer → r ≡ answer) → (status : NfsStatus) → IsOpenTold n s a claim status → answer_status a.reclaim r ≡ status
+claim_back n s a claim r exact statuses.Ok told = ap (λ (x : Answer). answer_status a.reclaim x) (exact (answers.Granted claim) told)
+claim_back n s a claim r exact statuses.ShareDenied told = ap (λ (x : Answer). answer_status a.reclaim x) (exact (answers.Conflict told.1.0) told.1.1) ∙ ap (λ (late : Bool). if late then statuses.ReclaimConflict else statuses.ShareDenied) told.0
+claim_back n s a claim r exact statuses.ReclaimConflict told = ap (λ (x : Answer). answer_status a.reclaim x) (exact (answers.Conflict told.1.0) told.1.1) ∙ ap (λ (late : Bool). if late then statuses.ReclaimConflict else statuses.ShareDenied) told.0
+claim_back n s a claim r exact statuses.Delay told = ap (λ (x : Answer). answer_status a.reclaim x) (exact (answers.Recall told.0) told.1)
+claim_back n s a claim r exact statuses.Resource told = ap (λ (x : Answer). answer_status a.reclaim x) (exact (answers.Full told.0) told.1)
+claim_back n s a claim r exact statuses.Grace told = ap (λ (x : Answer). answer_status a.reclaim x) (exact (answers.Grace told.0) told.1)
+claim_back n s a claim r exact statuses.NoGrace told = ap (λ (x : Answer). answer_status a.reclaim x) (exact (answers.NoGrace s.clock) told)
+claim_back n s a claim r exact statuses.ReclaimBad told = ap (λ (x : Answer). answer_status a.reclaim x) (exact answers.NotRecorded told)
+claim_back n s a claim r exact statuses.ServerFault told = ap (λ (x : Answer). answer_status a.reclaim x) (exact answers.StoreFailed told)
+claim_back n s a claim r exact _ told = absurd told
 
 -- the core answers so exactly where that is due
-share_exactly : (n : ℕ) (s : CoreState) (wish : Option Bool) (o : Opener) (a : OpenArgsItem) (file : ℕ) (status : NfsStatus) → (answer_status (reclaims a.claim) (ask n all_rooms s (share_ask wish o a file)).0 ≡ status) ↔ IsOpenTold (share_way s wish o a file) (share_ask wish o a file) (share_claim s o a file) status
+share_exactly : (n : ℕ) (s : CoreState) (wish : Option Bool) (o : Opener) (a : OpenArgsItem) (file : ℕ) (status : NfsStatus) → (answer_status (reclaims a.claim) (ask n all_rooms s (share_ask wish o a file)).0 ≡ status) ↔ IsOpenTold n (share_way s wish o a file) (share_ask wish o a file) (share_claim s o a file) status
 unfolding share_ask
 share_exactly n s wish o a file status =
     let request = share_ask wish o a file in
     let claim = share_claim s o a file in
     let t = share_way s wish o a file in
     let answer = (ask n all_rooms s request).0 in (
-      λ e. subst (λ (x : NfsStatus). IsOpenTold t request claim x) e (claim_forth t request claim answer refl refl ((ask_due n all_rooms s request (whats.Share (rights_of a.access) (rights_of a.deny)) answer refl).0 refl)),
-      λ told. claim_back t request claim answer (λ x due. (ask_due n all_rooms s request (whats.Share (rights_of a.access) (rights_of a.deny)) x refl).1 due) status told,
+      λ e. subst (λ (x : NfsStatus). IsOpenTold n t request claim x) e (claim_forth n t request claim answer refl refl refl ((ask_due n all_rooms s request (whats.Share (rights_of a.access) (rights_of a.deny)) answer refl).0 refl)),
+      λ told. claim_back n t request claim answer (λ x due. (ask_due n all_rooms s request (whats.Share (rights_of a.access) (rights_of a.deny)) x refl).1 due) status told,
     )
 
 granted_status : (n : ℕ) (t : CoreState) (l : NfsLists) (current : Option ℕ) (o : Opener) (a : OpenArgsItem) (file : ℕ) (confirmed : Bool) (write : Option Bool) (had : Option StateidRow) → status_of (carried n t l (granted_by t l o a file confirmed write had)).0 ≡ statuses.Ok
@@ -97,7 +100,7 @@ on_status n others s l current o a confirmed file room =
     let r = ask n all_rooms s (share_ask wish o a file) in
     rw room (answered_status n r.2 l current o a file confirmed wish r.0)
 
-as_status : (n : ℕ) (files : List (List ℕ)) (others : ℕ) (s : CoreState) (l : NfsLists) (current : Option ℕ) (at : ℕ) (o : Opener) (a : OpenArgsItem) (confirmed : Bool) (file : ℕ) → opened_file files s l o.client at a ≡ Ok file → has_room others l o file ≡ true → status_of (carried n s l (open_as files others s l current at o a confirmed)).0 ≡ answer_status (reclaims a.claim) (ask n all_rooms s (share_ask (wish_of s l o a confirmed file) o a file)).0
+pub as_status : (n : ℕ) (files : List (List ℕ)) (others : ℕ) (s : CoreState) (l : NfsLists) (current : Option ℕ) (at : ℕ) (o : Opener) (a : OpenArgsItem) (confirmed : Bool) (file : ℕ) → opened_file files s l o.client at a ≡ Ok file → has_room others l o file ≡ true → status_of (carried n s l (open_as files others s l current at o a confirmed)).0 ≡ answer_status (reclaims a.claim) (ask n all_rooms s (share_ask (wish_of s l o a confirmed file) o a file)).0
 unfolding open_as
 as_status n files others s l current at o a confirmed file found room =
     ap (λ (x : Result ℕ NfsStatus). status_of (carried n s l (open_by others s l current o a confirmed x)).0) found
@@ -108,20 +111,20 @@ exactly_by told is status e exactly = (λ d. exactly.0 (sym e ∙ d), λ x. e �
 
 -- ---- an OPEN that is judged further
 
-further : (n : ℕ) (files : List (List ℕ)) (others : ℕ) (s : CoreState) (l : NfsLists) (current : Option ℕ) (at : ℕ) (o : Opener) (a : OpenArgsItem) (j : Judged) (confirmed : Bool) → goes_on j ≡ Some confirmed → carried n s l (open_judged files others s l current at o a j) ≡ carried n s l (open_as files others s l current at o a confirmed)
+pub further : (n : ℕ) (files : List (List ℕ)) (others : ℕ) (s : CoreState) (l : NfsLists) (current : Option ℕ) (at : ℕ) (o : Opener) (a : OpenArgsItem) (j : Judged) (confirmed : Bool) → goes_on j ≡ Some confirmed → carried n s l (open_judged files others s l current at o a j) ≡ carried n s l (open_as files others s l current at o a confirmed)
 further n files others s l current at o a judgements.Next confirmed e = ap (λ (b : Bool). carried n s l (open_as files others s l current at o a b)) (same_Some true confirmed e)
 further n files others s l current at o a judgements.New confirmed e = ap (λ (b : Bool). carried n s l (open_as files others s l current at o a b)) (same_Some false confirmed e)
 further n files others s l current at o a judgements.Bad confirmed e = absurd (true≢false (ap is_some (sym e)))
 further n files others s l current at o a (judgements.Repeats number) confirmed e = absurd (true≢false (ap is_some (sym e)))
 further n files others s l current at o a (judgements.Anew number) confirmed e = absurd (true≢false (ap is_some (sym e)))
 
-pub further_told : (n : ℕ) (files : List (List ℕ)) (others : ℕ) (s : CoreState) (l : NfsLists) (current : Option ℕ) (at : ℕ) (o : Opener) (a : OpenArgsItem) (confirmed : Bool) (file : ℕ) (status : NfsStatus) → goes_on (judged l o a.seqid) ≡ Some confirmed → opened_file files s l o.client at a ≡ Ok file → has_room others l o file ≡ true → (status_of (carried n s l (open_judged files others s l current at o a (judged l o a.seqid))).0 ≡ status) ↔ IsOpenTold (share_way s (wish_of s l o a confirmed file) o a file) (share_ask (wish_of s l o a confirmed file) o a file) (share_claim s o a file) status
+pub further_told : (n : ℕ) (files : List (List ℕ)) (others : ℕ) (s : CoreState) (l : NfsLists) (current : Option ℕ) (at : ℕ) (o : Opener) (a : OpenArgsItem) (confirmed : Bool) (file : ℕ) (status : NfsStatus) → goes_on (judged l o a.seqid) ≡ Some confirmed → opened_file files s l o.client at a ≡ Ok file → has_room others l o file ≡ true → (status_of (carried n s l (open_judged files others s l current at o a (judged l o a.seqid))).0 ≡ status) ↔ IsOpenTold n (share_way s (wish_of s l o a confirmed file) o a file) (share_ask (wish_of s l o a confirmed file) o a file) (share_claim s o a file) status
 further_told n files others s l current at o a confirmed file status goes found room =
     exactly_by _ _ status (ap (λ (r : Outcome). status_of r.0) (further n files others s l current at o a (judged l o a.seqid) confirmed goes) ∙ as_status n files others s l current at o a confirmed file found room) (share_exactly n s (wish_of s l o a confirmed file) o a file status)
 
 -- one that was never confirmed is judged further once what it had is gone
 pub anew_told : (n : ℕ) (files : List (List ℕ)) (others : ℕ) (s t : CoreState) (l : NfsLists) (current : Option ℕ) (at : ℕ) (o : Opener) (a : OpenArgsItem) (number file : ℕ) (status : NfsStatus) → judged l o a.seqid ≡ judgements.Anew number → t ≡ all_done n s (gives_all s o (filter (is_whose (whose.Owner number)) l.stateids)) → opened_file files t (without_owner number l) o.client at a ≡ Ok file → has_room others (without_owner number l) o file ≡ true
-    → (status_of (carried n s l (open_judged files others s l current at o a (judged l o a.seqid))).0 ≡ status) ↔ IsOpenTold (share_way t (wish_of t (without_owner number l) o a false file) o a file) (share_ask (wish_of t (without_owner number l) o a false file) o a file) (share_claim t o a file) status
+    → (status_of (carried n s l (open_judged files others s l current at o a (judged l o a.seqid))).0 ≡ status) ↔ IsOpenTold n (share_way t (wish_of t (without_owner number l) o a false file) o a file) (share_ask (wish_of t (without_owner number l) o a false file) o a file) (share_claim t o a file) status
 anew_told n files others s t l current at o a number file status anew after found room =
     exactly_by _ _ status (
     ap (λ (j : Judged). status_of (carried n s l (open_judged files others s l current at o a j)).0) anew
@@ -152,7 +155,7 @@ granted_claims n t l current o a file confirmed (Some write) None = refl
 granted_claims n t l current o a file confirmed (Some write) (Some r) = refl
 
 -- the claims that are left by an answer that grants
-answered_claims : (n : ℕ) (t : CoreState) (l : NfsLists) (current : Option ℕ) (o : Opener) (a : OpenArgsItem) (file : ℕ) (confirmed : Bool) (wish : Option Bool) (answer : Answer) → answer_status (reclaims a.claim) answer ≡ statuses.Ok → ((c : Claim) × (answer ≡ answers.Granted c)) × ((carried n t l (answered l current o a file confirmed wish answer t)).4.claims ≡ t.claims)
+pub answered_claims : (n : ℕ) (t : CoreState) (l : NfsLists) (current : Option ℕ) (o : Opener) (a : OpenArgsItem) (file : ℕ) (confirmed : Bool) (wish : Option Bool) (answer : Answer) → answer_status (reclaims a.claim) answer ≡ statuses.Ok → ((c : Claim) × (answer ≡ answers.Granted c)) × ((carried n t l (answered l current o a file confirmed wish answer t)).4.claims ≡ t.claims)
 answered_claims n t l current o a file confirmed wish (answers.Granted c) ok = ((c, refl), granted_claims n t l current o a file (confirmed || reclaims a.claim) (granted_wish t o file wish) (open_held l o file))
 answered_claims n t l current o a file confirmed wish (answers.Conflict c) ok = absurd (by (reclaims a.claim) ok) where
   by : (late : Bool) → (if late then statuses.ReclaimConflict else statuses.ShareDenied) ≡ statuses.Ok → ⊥

@@ -11,7 +11,6 @@ use Rattle.xl_base.specs.Handles.{file_at}
 use Rattle.xl_base.specs.Lists.{IsIn}
 use Rattle.xl_base.specs.declared.event.Moment.{Moment}
 use Rattle.xl_base.specs.declared.journal.Exports.{Exports}
-use Rattle.xl_names.specs.declared.name.Name.TheVariants.{NfsParty}
 use Rattle.xl_nfs.specs.Basics.{OwnerItem}
 use Rattle.xl_nfs.specs.Clients.{SetClientIdArgsItem}
 use Rattle.xl_nfs.specs.Locks.{LockArgsItem, LockTestArgsItem, LockerItem, NewLockerItem, New, Known}
@@ -29,7 +28,7 @@ use Rattle.xl_nfs.specs.declared.status.NfsStatus.TheVariants as statuses
 use Rattle.xl_nfs_state.proofs.AnyLaws.{all_left}
 use Rattle.xl_nfs_state.specs.Filed.{changed}
 use Rattle.xl_nfs_state.specs.Rows.{with_seqids}
-use Rattle.xl_nfs_state.specs.State.{NfsLists, IsRising, is_client, is_client_named, is_kept, is_owner, is_owner_named, is_stateid, is_whose, next_owner, other_owners, owned_on, with_stateids, without, without_client, without_owner}
+use Rattle.xl_nfs_state.specs.State.{NfsLists, IsRising, is_client, is_client_named, is_kept, is_owner, is_owner_named, is_stateid, is_whose, next_owner, other_owners, with_stateids, without, without_owner}
 use Rattle.xl_nfs_state.specs.Verdict.{next_seqid, verdict}
 use Rattle.xl_nfs_state.specs.declared.client.ClientRow.{ClientRow}
 use Rattle.xl_nfs_state.specs.declared.kept.KeptRow.{KeptRow}
@@ -44,7 +43,6 @@ use Rattle.xl_nfs_state.specs.declared.stateid.Holder.{Holder}
 use Rattle.xl_nfs_state.specs.declared.stateid.StateidRow.{StateidRow}
 use Rattle.xl_nfs_state.specs.declared.stateid.Whose.TheVariants as whose
 use Rattle.xl_programs.specs.Programs.{RequestItem}
-use Rattle.xl_core.specs.Askers.{party_named}
 use Rattle.xl_core.specs.Deeds.{all_done}
 use Rattle.xl_core.specs.Ids.{number_in}
 use Rattle.xl_core.specs.State.{CoreState, drawn}
@@ -78,7 +76,7 @@ use Rattle.xl_nfs_locks.specs.Unlocks.{unlock, unlock_by_owner, unlock_standing,
 use Rattle.xl_nfs_locks.specs.declared.joining.BothOwners.{BothOwners}
 use Rattle.xl_nfs_locks.specs.declared.joining.Joined.{Joined}
 use Rattle.xl_nfs_locks.specs.declared.joining.Joined.TheVariants.{Bad, Again, Joins}
-use Rattle.xl_front_nfs.specs.Clients.{come, come_again, confirm_found, confirm_held, confirm_number, confirm_over, confirmed_by, has_room as has_client_room, number_kept, renew, renew_found, renew_number, set_by, set_client_id, set_client_id_confirm, without_found, without_named, without_number}
+use Rattle.xl_front_nfs.specs.Clients.{confirm_found, confirm_held, confirm_number, confirm_over, confirmed_by, has_room as has_client_room, number_kept, renew, renew_found, renew_number, set_by, set_client_id, set_client_id_confirm, without_found, without_named, without_number}
 use Rattle.xl_front_nfs.specs.FrontNfs.{Called, Garbage, Null, Refused as Turned, Compound, call_in, nfs_step, replied}
 use Rattle.xl_front_nfs.specs.Handles.{found_file, get_fh, look_up, put_fh, put_file, put_root_fh}
 use Rattle.xl_front_nfs.specs.State.{FrontNfs, empty_nfs_front, forgotten, lists_shown, nfs_shown, nfs_tick}

@@ -42,12 +42,11 @@ use Rattle.xl_core.proofs.FrameLaws.{ask_frame, give_back_frame, renew_frame, we
 use Rattle.xl_core.specs.Askers.{asked_claims, asked_whats, party_named}
 use Rattle.xl_core.specs.BreakAnswers.{id_of}
 use Rattle.xl_core.specs.Decide.{ask, before_wish, does_wish, plea_of, way}
-use Rattle.xl_core.specs.Deeds.{Deed, Asks, GivesBack, Weakens, Acks, Cancels, Ends, Closes, Serves, Draws, Advances, Lapses, Renews, Expires, all_done, caches_after, caches_asked, caches_without_party, done, AreFit, IsFitDeed, KeepNames}
-use Rattle.xl_core.specs.Wishes.{cached, caches_wished, has_room, once_wished, wish_of, wished_kind}
+use Rattle.xl_core.specs.Deeds.{Deed, Asks, GivesBack, Weakens, Acks, Cancels, Ends, Closes, Serves, Draws, Advances, Lapses, Renews, Expires, FailsStore, EndsGrace, all_done, caches_after, caches_asked, caches_without_party, done, AreFit, IsFitDeed, KeepNames}
+use Rattle.xl_core.specs.Wishes.{cached, caches_wished, has_room, is_waited_for, once_wished, wish_of, wished_kind}
 use Rattle.xl_core.specs.declared.ask.Answer.{Answer}
 use Rattle.xl_core.specs.declared.ask.Answer.TheVariants as answers
 use Rattle.xl_core.specs.declared.ask.Ask.{Ask}
-use Rattle.xl_wait.specs.Waiting.{waits_on}
 use Rattle.xl_wait.specs.declared.waiter.Rooms.{Rooms}
 use Rattle.xl_cache.specs.Wishing.{best_join_of, best_of, granted_beside, granted_kind, is_its_cache, raised_by, wished_claim}
 use Rattle.xl_cache.specs.declared.wish.Wish.{Wish}
@@ -134,12 +133,12 @@ kind_among cs file number =
     let party = parties.Name Nfs number in
     ap delegation_in (find_kept (is_cache_on file party) (λ (c : Claim). is_cache c.what) cs (λ c there on. (and_parts (is_cache c.what) ((c.file == file) && same_parties c.party party) on).0))
 
-abbrev is_delegated : What → Bool
+abbrev pub is_delegated : What → Bool
 is_delegated (whats.Cache kind running) = is_delegation kind
 is_delegated _ = false
 
 -- it is a delegation
-nfs_kind : (names : List Name) (c : Claim) (file number : ℕ) → IsHeld names c → is_cache_on file (parties.Name Nfs number) c ≡ true → is_delegated c.what ≡ true
+pub nfs_kind : (names : List Name) (c : Claim) (file number : ℕ) → IsHeld names c → is_cache_on file (parties.Name Nfs number) c ≡ true → is_delegated c.what ≡ true
 unfolding is_cache_of is_kind_of
 nfs_kind names c file number held on =
     let parts = and_parts (is_cache c.what) ((c.file == file) && same_parties c.party (parties.Name Nfs number)) on in
@@ -150,6 +149,17 @@ nfs_kind names c file number held on =
     go (whats.Cache kind running) h e = (and_parts (is_delegation kind) (is_break_of (parties.Name Nfs number) kind running) h).0
     go (whats.Share access deny) h e = absurd (true≢false (sym e))
     go (whats.Range extent exclusive) h e = absurd (true≢false (sym e))
+
+-- for writing or for reading
+pub kind_of : (w : What) → is_delegated w ≡ true → (b : Bool) × (delegation_of w ≡ Some b)
+kind_of (whats.Cache cache_kinds.ReadDeleg running) e = (false, refl)
+kind_of (whats.Cache cache_kinds.WriteDeleg running) e = (true, refl)
+kind_of (whats.Cache cache_kinds.R running) e = absurd (true≢false (sym e))
+kind_of (whats.Cache cache_kinds.RH running) e = absurd (true≢false (sym e))
+kind_of (whats.Cache cache_kinds.RW running) e = absurd (true≢false (sym e))
+kind_of (whats.Cache cache_kinds.RWH running) e = absurd (true≢false (sym e))
+kind_of (whats.Share access deny) e = absurd (true≢false (sym e))
+kind_of (whats.Range extent exclusive) e = absurd (true≢false (sym e))
 
 -- of a party whose name isn't kept there is none
 no_party : (s : CoreState) (file number : ℕ) → IsGood s → slice_get s.names number ≡ None → kind_in s.claims file number ≡ None
@@ -261,11 +271,11 @@ way_kind left s a file number good =
 
 -- ---- by the client's id string
 
-abbrev kind_by : List Claim → ℕ → Option ℕ → Option Bool
+abbrev pub kind_by : List Claim → ℕ → Option ℕ → Option Bool
 kind_by claims file None = None
 kind_by claims file (Some number) = kind_in claims file number
 
-held_by : (s : CoreState) (id : List ℕ) (file : ℕ) (x : Option ℕ) → number_of (NfsParty id) s.names ≡ x → delegation_held s id file ≡ kind_by s.claims file x
+pub held_by : (s : CoreState) (id : List ℕ) (file : ℕ) (x : Option ℕ) → number_of (NfsParty id) s.names ≡ x → delegation_held s id file ≡ kind_by s.claims file x
 unfolding cache_held
 held_by s id file None e = ap (λ (o : Option ℕ). delegation_in (cache_by s.claims file (option_map (λ number. parties.Name Nfs number) o))) e
 held_by s id file (Some number) e = ap (λ (o : Option ℕ). delegation_in (cache_by s.claims file (option_map (λ number. parties.Name Nfs number) o))) e
@@ -311,6 +321,39 @@ deed_held n s d id file good fit each = by (number_of (NfsParty id) s.names) (nu
     by None (Some m) e f = held_by t id file (Some m) f ∙ left m f ∙ no_party s file m good (new m e f) ∙ sym (held_by s id file None e)
     by (Some k) y e f = held_by t id file (Some k) (still k e) ∙ left k (still k e) ∙ sym (held_by s id file (Some k) e)
 
+-- at the number that its party has then stood the delegation that it had
+pub kind_before : (s t : CoreState) (id : List ℕ) (file number : ℕ) → IsGood s → IsGood t → KeepNames s.names t.names → number_of (NfsParty id) t.names ≡ Some number → kind_in s.claims file number ≡ delegation_held s id file
+kind_before s t id file number good well stays now = by (number_of (NfsParty id) s.names) refl
+  where
+    name : Name
+    name = NfsParty id
+
+    new : number_of name s.names ≡ None → slice_get s.names number ≡ None
+    new none = go (slice_get s.names number) refl
+      where
+        go : (x : Option Name) → slice_get s.names number ≡ x → slice_get s.names number ≡ None
+        go None at = at
+        go (Some other) at =
+            let is : other ≡ name = same_Some other name (sym (stays number other at) ∙ name_at t.names name number now) in
+            absurd (true≢false (ap is_some (sym (number_at s.names name number good.distinct (at ∙ ap (λ (x : Name). Some x) is)) ∙ none)))
+
+    by : (x : Option ℕ) → number_of name s.names ≡ x → kind_in s.claims file number ≡ delegation_held s id file
+    by None e = no_party s file number good (new e) ∙ sym (held_by s id file None e)
+    by (Some k) e =
+        let same : k ≡ number = same_Some k number (sym (number_at t.names name k well.distinct (stays k name (name_at s.names name k e))) ∙ now) in
+        ap (λ (m : ℕ). kind_in s.claims file m) (sym same) ∙ sym (held_by s id file (Some k) e)
+
+-- who has no delegation has no cache there
+pub uncached : (s : CoreState) (file number : ℕ) → IsGood s → kind_in s.claims file number ≡ None → find (is_cache_on file (parties.Name Nfs number)) s.claims ≡ None
+uncached s file number good none = by (find (is_cache_on file (parties.Name Nfs number)) s.claims) refl
+  where
+    by : (x : Option Claim) → find (is_cache_on file (parties.Name Nfs number)) s.claims ≡ x → find (is_cache_on file (parties.Name Nfs number)) s.claims ≡ None
+    by None e = e
+    by (Some c) e =
+        let found = found_in (is_cache_on file (parties.Name Nfs number)) s.claims c e in
+        let kind = kind_of c.what (nfs_kind s.names c file number (all_in (IsHeld s.names) c s.claims good.known found.0) found.1) in
+        absurd (true≢false (ap is_some (sym kind.1 ∙ ap delegation_in (sym e) ∙ none)))
+
 -- ---- wishes
 
 pub asked_kind : (left : Rooms) (s : CoreState) (a : Ask) (file number : ℕ) → IsGood s → kind_in (caches_of (way left s a).1.claims) file number ≡ kind_in s.claims file number
@@ -319,7 +362,7 @@ asked_kind left s a file number good = kind_among (way left s a).1.claims file n
 -- a wish for nothing gets nothing
 nothing_wanted : (c : Claim) (s : CoreState) → wished_kind (wish_of [] c) s ≡ None
 unfolding wished_kind granted_kind best_of best_join_of
-nothing_wanted c s = by (waits_on c.file s.waiters) (has_room (find (is_its_cache (wish_of [] c)) s.claims) s.claims) (find (is_its_cache (wish_of [] c)) s.claims)
+nothing_wanted c s = by (is_waited_for c.file s) (has_room (find (is_its_cache (wish_of [] c)) s.claims) s.claims) (find (is_its_cache (wish_of [] c)) s.claims)
   where
     raised : (w : What) → raised_by (wish_of [] c) s.claims w ≡ None
     raised (whats.Cache kind None) = refl
@@ -431,6 +474,8 @@ one_quiet n s (Advances now) good fit quiet = absurd quiet
 one_quiet n s (Lapses cache) good fit quiet = absurd quiet
 one_quiet n s (Expires id) good fit quiet = absurd quiet
 one_quiet n s (Closes number party) good fit quiet = absurd quiet
+one_quiet n s (FailsStore stable) good fit quiet = absurd quiet
+one_quiet n s EndsGrace good fit quiet = absurd quiet
 
 pub quiet_then : (s t u : CoreState) → IsQuiet s t → IsQuiet t u → IsQuiet s u
 quiet_then s t u first second = record {
@@ -527,16 +572,6 @@ named_held s c id number good here cache party known =
     let on : is_cache_on c.file (parties.Name Nfs number) c ≡ true = and_from (is_cache c.what) ((c.file == c.file) && same_parties c.party (parties.Name Nfs number)) cache (and_from (c.file == c.file) (same_parties c.party (parties.Name Nfs number)) (eq-eqb c.file c.file refl) (ap (same_parties c.party) (sym party) ∙ same_parties-self c.party)) in
     by (find (is_cache_on c.file (parties.Name Nfs number)) s.claims) refl (find_some (is_cache_on c.file (parties.Name Nfs number)) c s.claims here on)
   where
-    kind_of : (w : What) → is_delegated w ≡ true → (b : Bool) × (delegation_of w ≡ Some b)
-    kind_of (whats.Cache cache_kinds.ReadDeleg running) e = (false, refl)
-    kind_of (whats.Cache cache_kinds.WriteDeleg running) e = (true, refl)
-    kind_of (whats.Cache cache_kinds.R running) e = absurd (true≢false (sym e))
-    kind_of (whats.Cache cache_kinds.RH running) e = absurd (true≢false (sym e))
-    kind_of (whats.Cache cache_kinds.RW running) e = absurd (true≢false (sym e))
-    kind_of (whats.Cache cache_kinds.RWH running) e = absurd (true≢false (sym e))
-    kind_of (whats.Share access deny) e = absurd (true≢false (sym e))
-    kind_of (whats.Range extent exclusive) e = absurd (true≢false (sym e))
-
     by : (x : Option Claim) → find (is_cache_on c.file (parties.Name Nfs number)) s.claims ≡ x → IsSome x → (w : Bool) × (delegation_held s id c.file ≡ Some w)
     by None e some = absurd (true≢false (sym some))
     by (Some d) e some =

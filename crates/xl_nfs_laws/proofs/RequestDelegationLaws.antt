@@ -12,6 +12,7 @@ use Rattle.xl_base.specs.Handles.{file_at}
 use Rattle.xl_base.specs.Lists.{IsIn, Pairwise}
 use Rattle.xl_base.specs.declared.event.Moment.{Moment}
 use Rattle.xl_base.specs.declared.journal.Exports.{Exports}
+use Rattle.xl_base.specs.Stable.{is_recorded}
 use Rattle.xl_base.specs.declared.name.Party.{Party}
 use Rattle.xl_base.specs.declared.name.Party.TheVariants as parties
 use Rattle.xl_base.specs.declared.name.Protocol.TheVariants.{Nfs, Nlm, Smb}
@@ -65,7 +66,8 @@ use Rattle.xl_core.proofs.FrameLaws.{end_party_frame}
 use Rattle.xl_core.specs.BreakAnswers.{client_of, due, id_of}
 use Rattle.xl_core.specs.Leases.{ended}
 use Rattle.xl_core.specs.Settle.{end_party}
-use Rattle.xl_core.specs.Ticks.{end_some, expire, lapse, lapsed_by, unleased}
+use Rattle.xl_core.specs.Stores.{client_name, stored}
+use Rattle.xl_core.specs.Ticks.{end_some, expire, lapse, lapsed_by, unleased, barred, forgotten as forgotten_client, gone_client}
 use Rattle.xl_core.specs.declared.lease.Times.{Times}
 use Rattle.xl_nfs_opens.specs.Opens.{cache_by, cache_held, delegation_in}
 use Rattle.xl_nfs_laws.proofs.RequestNumberLaws.{item_good}
@@ -722,13 +724,25 @@ expires_tied n s gone l d id left tied = record {
         by (inl same) = ap (λ (i : List ℕ). delegation_held (done n s d) i file) ((bytes_decides other id).0 same) ∙ left.own file
         by (inr differs) = left.others other file (λ f. true≢false (sym ((bytes_decides other id).1 f) ∙ differs)) ∙ tied.left other there file
 
-expire_later : (s : CoreState) (id : List ℕ) → s.counter ≤ (expire s id).1.counter
-unfolding expire end_party
-expire_later s id = by (party_named s.names (NfsParty id))
+gone_later : (s : CoreState) (id : List ℕ) → s.counter ≤ (gone_client s id).1.counter
+unfolding gone_client barred end_party
+gone_later s id = by (party_named s.names (NfsParty id))
   where
-    by : (x : Option Party) → s.counter ≤ (unleased id (end_some s x)).1.counter
+    by : (x : Option Party) → s.counter ≤ (unleased id (end_some (barred s id) x)).1.counter
     by None = omega arith
     by (Some party) = omega arith
+
+forgotten_counter : (s : CoreState) (id : List ℕ) → (forgotten_client s id).counter ≡ s.counter
+unfolding stored
+forgotten_counter s id =
+    elim (cases_Bool (is_recorded (client_name id) s.stable.names)) [
+      | inl e ↦ rw e refl
+      | inr e ↦ rw e refl
+    ]
+
+expire_later : (s : CoreState) (id : List ℕ) → s.counter ≤ (expire s id).1.counter
+unfolding expire
+expire_later s id = omega (arith, gone_later (forgotten_client s id) id, forgotten_counter s id)
 
 lapse_later : (s : CoreState) (cache : Claim) → s.counter ≤ (lapse s cache).1.counter
 unfolding lapse

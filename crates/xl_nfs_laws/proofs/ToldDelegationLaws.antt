@@ -306,7 +306,7 @@ told_delegated n files others s l current at c a stateid given flags write good 
 pub returned_gone : (n : ℕ) (s : CoreState) (l : NfsLists) (current : Option ℕ) (r : StateidRow) → find (is_stateid r.number) (carried n s l (return_done s l current (Ok r))).3.stateids ≡ None
 returned_gone n s l current r = number_gone r.number l.stateids
 
-no_map : {A B : Type 0} (f : A → B) (xs : List A) → map f xs ≡ [] → xs ≡ []
+pub no_map : {A B : Type 0} (f : A → B) (xs : List A) → map f xs ≡ [] → xs ≡ []
 no_map f [] e = refl
 no_map f (x ∷ xs) e = absurd cc
 

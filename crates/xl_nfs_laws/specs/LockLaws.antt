@@ -1,6 +1,8 @@
 -- What is said of locks.
 use Rattle.std.specs.Prelude.{◌≡◌, ℕ, Bool, true, false, ◌&&◌, if◌then◌else◌, List, [], ◌∷◌, Some}
 use Rattle.xl_base.specs.Lists.{IsIn}
+use Rattle.xl_base.specs.RecordFile.{with_name}
+use Rattle.xl_base.specs.declared.event.Moment.{Moment}
 use Rattle.xl_base.specs.declared.name.Owner.{Owner}
 use Rattle.xl_matrix.specs.declared.claim.Claim.{Claim}
 use Rattle.xl_matrix.specs.declared.claim.Extent.TheVariants.{Bytes}
@@ -22,6 +24,7 @@ use Rattle.xl_core.specs.Causes.{IsClaimDue, IsTestDue, stands_against}
 use Rattle.xl_core.specs.Decide.{way}
 use Rattle.xl_core.specs.Places.{ByteOf, held_at}
 use Rattle.xl_core.specs.State.{CoreState}
+use Rattle.xl_core.specs.Stores.{client_name, store_failed}
 use Rattle.xl_core.specs.declared.ask.Answer.TheVariants as answers
 use Rattle.xl_core.specs.declared.ask.Ask.{Ask}
 use Rattle.xl_core.specs.declared.ask.Who.TheVariants.{Named}
@@ -41,6 +44,10 @@ lock_claim s o file kind first last = asked_claim (lock_ask o file kind false fi
 -- the state in which that LOCK is judged: the breaks have begun that it begins
 abbrev pub lock_way : CoreState → Opener → ℕ → LockType → Bool → ℕ → ℕ → CoreState
 lock_way s o file kind reclaim first last = (way all_rooms s (lock_ask o file kind reclaim first last)).1
+
+-- the store of the record with this owner's client failed
+abbrev pub unstored_for : Opener → CoreState → CoreState
+unstored_for o s = store_failed (with_name (client_name o.id) s.stable) s
 
 -- the claim of a LOCKT, and the bytes that a LOCKU gives up
 abbrev pub test_claim : CoreState → Opener → ℕ → LockType → ℕ → ℕ → Claim
@@ -73,21 +80,28 @@ AreFree o file first last s t = AreBytes (unlock_claim s o file first last) firs
 
 -- ---- why a LOCK or a LOCKT is answered so
 
--- OK if nothing held stands against the lock and there is room for it, DENIED if something does for good, DELAY if a
--- cache keeps it off, RESOURCE if a limit is passed, and NO_GRACE for a reclaim, which comes too late; nothing else is
--- answered
-abbrev pub IsLockTold : CoreState → Ask → Claim → NfsStatus → Type 0
-IsLockTold s a claim statuses.Ok = IsClaimDue all_rooms s a claim (answers.Granted claim)
-IsLockTold s a claim statuses.Denied = (c : Claim) × IsClaimDue all_rooms s a claim (answers.Conflict c)
-IsLockTold s a claim statuses.Delay = (c : Claim) × IsClaimDue all_rooms s a claim (answers.Recall c)
-IsLockTold s a claim statuses.Resource = (limit : ℕ) × IsClaimDue all_rooms s a claim (answers.Full limit)
-IsLockTold s a claim statuses.NoGrace = IsClaimDue all_rooms s a claim (answers.NoGrace s.clock)
-IsLockTold s a claim _ = ⊥
+-- OK if grace lets the lock in, nothing held stands against it, there is room for it, and its client is recorded or can be, if n
+-- stores of the step succeed; DENIED if something stands against it for good, and RECLAIM_CONFLICT if anything does against a
+-- reclaim; DELAY if a cache keeps it off, and RESOURCE if a limit is passed, that of the record too; GRACE while grace runs, for
+-- what is no reclaim, and NO_GRACE for a reclaim while none runs; RECLAIM_BAD for a reclaim of a client that isn't recorded; and
+-- SERVERFAULT if it would be OK, but the store fails that records its client. Nothing else is answered (RFC 7530 9.6.2).
+abbrev pub IsLockTold : ℕ → CoreState → Ask → Claim → NfsStatus → Type 0
+IsLockTold n s a claim statuses.Ok = IsClaimDue n all_rooms s a claim (answers.Granted claim)
+IsLockTold n s a claim statuses.Denied = (a.reclaim ≡ false) × ((c : Claim) × IsClaimDue n all_rooms s a claim (answers.Conflict c))
+IsLockTold n s a claim statuses.ReclaimConflict = (a.reclaim ≡ true) × ((c : Claim) × IsClaimDue n all_rooms s a claim (answers.Conflict c))
+IsLockTold n s a claim statuses.Delay = (c : Claim) × IsClaimDue n all_rooms s a claim (answers.Recall c)
+IsLockTold n s a claim statuses.Resource = (limit : ℕ) × IsClaimDue n all_rooms s a claim (answers.Full limit)
+IsLockTold n s a claim statuses.Grace = (until : Moment) × IsClaimDue n all_rooms s a claim (answers.Grace until)
+IsLockTold n s a claim statuses.NoGrace = IsClaimDue n all_rooms s a claim (answers.NoGrace s.clock)
+IsLockTold n s a claim statuses.ReclaimBad = IsClaimDue n all_rooms s a claim answers.NotRecorded
+IsLockTold n s a claim statuses.ServerFault = IsClaimDue n all_rooms s a claim answers.StoreFailed
+IsLockTold n s a claim _ = ⊥
 
--- OK if no range that is held stands against it, and DENIED if one does
+-- OK if no range that is held stands against it, DENIED if one does, and GRACE while grace runs
 abbrev pub IsTestTold : CoreState → Ask → Claim → NfsStatus → Type 0
 IsTestTold s a claim statuses.Ok = IsTestDue s a claim (answers.Granted claim)
 IsTestTold s a claim statuses.Denied = (c : Claim) × IsTestDue s a claim (answers.Conflict c)
+IsTestTold s a claim statuses.Grace = (until : Moment) × IsTestDue s a claim (answers.Grace until)
 IsTestTold s a claim _ = ⊥
 
 -- what is answered is a claim that is held and stands against the lock: the least of those that do

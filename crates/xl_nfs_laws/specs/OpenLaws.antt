@@ -1,6 +1,7 @@
 -- What is said of opens.
 use Rattle.std.specs.Prelude.{◌≡◌, ◌≤◌, ◌⊎◌, ◌+◌, Bool, true, false, List, [], ◌∷◌, ℕ, Option, Some, None, option_map}
 use Rattle.std.specs.List.{find}
+use Rattle.xl_base.specs.declared.event.Moment.{Moment}
 use Rattle.xl_nfs.specs.Opens.{OpenArgsItem}
 use Rattle.xl_nfs.specs.declared.basics.Stateid.{Stateid}
 use Rattle.xl_nfs_state.specs.State.{NfsLists, is_owner, is_stateid}
@@ -57,16 +58,22 @@ share_claim s o a file = asked_claim (share_ask None o a file) (whats.Share (rig
 abbrev pub share_way : CoreState → Option Bool → Opener → OpenArgsItem → ℕ → CoreState
 share_way s wish o a file = (way all_rooms s (share_ask wish o a file)).1
 
--- OK if nothing stands against the share and there is room for it, SHARE_DENIED if something does for good, DELAY if
--- a cache keeps it off, RESOURCE if a limit is passed, and NO_GRACE for a reclaim, which comes too late; nothing else
--- is answered
-abbrev pub IsOpenTold : CoreState → Ask → Claim → NfsStatus → Type 0
-IsOpenTold s a claim statuses.Ok = IsClaimDue all_rooms s a claim (answers.Granted claim)
-IsOpenTold s a claim statuses.ShareDenied = (c : Claim) × IsClaimDue all_rooms s a claim (answers.Conflict c)
-IsOpenTold s a claim statuses.Delay = (c : Claim) × IsClaimDue all_rooms s a claim (answers.Recall c)
-IsOpenTold s a claim statuses.Resource = (limit : ℕ) × IsClaimDue all_rooms s a claim (answers.Full limit)
-IsOpenTold s a claim statuses.NoGrace = IsClaimDue all_rooms s a claim (answers.NoGrace s.clock)
-IsOpenTold s a claim _ = ⊥
+-- OK if grace lets the share in, nothing stands against it, there is room for it, and its client is recorded or can be, if n
+-- stores of the step succeed; SHARE_DENIED if something stands against it for good, and RECLAIM_CONFLICT if anything does against
+-- a reclaim; DELAY if a cache keeps it off, and RESOURCE if a limit is passed, that of the record too; GRACE while grace runs,
+-- for what is no reclaim, and NO_GRACE for a reclaim while none runs; RECLAIM_BAD for a reclaim of a client that isn't recorded;
+-- and SERVERFAULT if it would be OK, but the store fails that records its client. Nothing else is answered (RFC 7530 9.6.2).
+abbrev pub IsOpenTold : ℕ → CoreState → Ask → Claim → NfsStatus → Type 0
+IsOpenTold n s a claim statuses.Ok = IsClaimDue n all_rooms s a claim (answers.Granted claim)
+IsOpenTold n s a claim statuses.ShareDenied = (a.reclaim ≡ false) × ((c : Claim) × IsClaimDue n all_rooms s a claim (answers.Conflict c))
+IsOpenTold n s a claim statuses.ReclaimConflict = (a.reclaim ≡ true) × ((c : Claim) × IsClaimDue n all_rooms s a claim (answers.Conflict c))
+IsOpenTold n s a claim statuses.Delay = (c : Claim) × IsClaimDue n all_rooms s a claim (answers.Recall c)
+IsOpenTold n s a claim statuses.Resource = (limit : ℕ) × IsClaimDue n all_rooms s a claim (answers.Full limit)
+IsOpenTold n s a claim statuses.Grace = (until : Moment) × IsClaimDue n all_rooms s a claim (answers.Grace until)
+IsOpenTold n s a claim statuses.NoGrace = IsClaimDue n all_rooms s a claim (answers.NoGrace s.clock)
+IsOpenTold n s a claim statuses.ReclaimBad = IsClaimDue n all_rooms s a claim answers.NotRecorded
+IsOpenTold n s a claim statuses.ServerFault = IsClaimDue n all_rooms s a claim answers.StoreFailed
+IsOpenTold n s a claim _ = ⊥
 
 -- an OPEN that is judged so goes on: of an owner that is confirmed, or of a new one
 abbrev pub goes_on : Judged → Option Bool

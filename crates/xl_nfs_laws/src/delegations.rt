@@ -1,5 +1,5 @@
 //! Laws of delegations (RFC 7530 10.4, 16.6). The functions do nothing: each has laws as its clauses.
-ghost use Rattle.std.specs.Prelude.{◌≡◌, ◌↔◌, ◌&&◌, ℕ, Bool, true, if◌then◌else◌, List, Option, Some, None, Ok, Err};
+ghost use Rattle.std.specs.Prelude.{◌≡◌, ◌↔◌, ◌&&◌, ℕ, Bool, true, if◌then◌else◌, List, Option, Some, None, Ok, Err, is_some, option_map};
 ghost use Rattle.std.specs.List.{find};
 ghost use Rattle.xl_nfs.specs.Opens.{OpenArgsItem, Null, Previous, DelegateCurrent, NamedDelegationItem};
 ghost use Rattle.xl_nfs.specs.declared.opens.CloseArgs.{CloseArgs};
@@ -14,7 +14,7 @@ ghost use Rattle.xl_nfs_state.specs.declared.stateid.StateidRow.{StateidRow};
 ghost use Rattle.xl_core.specs.Good.{IsGood};
 ghost use Rattle.xl_core.specs.State.{CoreState};
 ghost use Rattle.xl_nfs_opens.specs.Closing.{close, deleg_return, open_confirm, return_done, returned, returned_status};
-ghost use Rattle.xl_nfs_laws.specs.Delegated.{AreTied};
+ghost use Rattle.xl_nfs_laws.specs.Delegated.{AreTied, delegation_held};
 ghost use Rattle.xl_nfs_opens.specs.Downgrades.{open_downgrade};
 ghost use Rattle.xl_nfs_laws.specs.StateidNumbers.{AreGivenOut};
 ghost use Rattle.xl_nfs_opens.specs.Opens.{asked_fault, cache_held, client_in, has_none, has_program, is_delegation, judged, named_file, open_file, open_judged, opened_file, opener_of, rights_of, share_ask, type_claimed, wish_of, wished_kinds};
@@ -58,6 +58,13 @@ pub fn wishes_are_by_the_claim()
     ensures reclaims { (s : CoreState) (l : NfsLists) (o : OpenOwner) (a : OpenArgsItem) (confirmed : Bool) (file : ℕ) (type : ClaimedType) → a.claim ≡ Previous type → wish_of s l o a confirmed file ≡ (if has_none s l o file then type_claimed type else None) }
     ensures asks { (s : CoreState) (l : NfsLists) (o : OpenOwner) (a : OpenArgsItem) (confirmed : Bool) (file : ℕ) (type : ClaimedType) → a.claim ≡ Previous type → has_none s l o file ≡ true → ((share_ask (wish_of s l o a confirmed file) o a file).wish ≡ wished_kinds (type_claimed type)) × ((share_ask (wish_of s l o a confirmed file) o a file).reclaim ≡ true) }
     ensures names { (s : CoreState) (l : NfsLists) (o : OpenOwner) (a : OpenArgsItem) (confirmed : Bool) (file : ℕ) (name : List ℕ) → a.claim ≡ Null name → wish_of s l o a confirmed file ≡ (if has_none s l o file then (if confirmed && has_program (find (is_client o.client true) l.clients) then Some (rights_of a.access).w else None) else None) }
+{}
+
+/// A delegation that is claimed from before a restart comes with its open, or neither does: an OPEN by such a claim that is OK is
+/// given just the delegation that it claims if its client has none on the file, and else none (what it has then, say
+/// `told_delegations_are_held` and `delegations_that_come_are_told`; RFC 7530 9.6.2, 10.2.1).
+pub fn reclaimed_delegations_come_with_their_open()
+    ensures { (n : ℕ) (files : List (List ℕ)) (others : ℕ) (s : CoreState) (l : NfsLists) (current : Option ℕ) (at : ℕ) (c : ClientRow) (a : OpenArgsItem) (type : ClaimedType) (stateid : Stateid) (flags : ℕ) (delegation : Option (Stateid × Bool)) → IsGood s → AreTied s l → client_in s l a.owner.clientid ≡ Some c → a.claim ≡ Previous type → (carried n s l (open_judged files others s l current at (opener_of c a) a (judged l (opener_of c a) a.seqid))).0 ≡ Opened stateid flags delegation → option_map (λ given. given.1) delegation ≡ (if is_some (delegation_held s c.id at) then None else type_claimed type) }
 {}
 
 /// Each client has a delegation on a file exactly if it has a cache there, both of one kind; so it stays whatever an

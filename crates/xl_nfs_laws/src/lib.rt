@@ -17,6 +17,7 @@ pub mod open_order;
 pub mod open_seqids;
 pub mod opens;
 pub mod owners_stay;
+pub mod recorded;
 pub mod refusals;
 pub mod request_numbers;
 pub mod request_order;

@@ -75,9 +75,10 @@ pub fn repeated_first_locks_count_with_the_open()
     ensures only { (n : ℕ) (s : CoreState) (l : NfsLists) (current : Option ℕ) (a : LockArgsItem) (x : NewLockerItem) (status : Status) → (carried n s l (join_checked s l current a x (checked s l current 12 x.open_seqid x.open_stateid))).0 ≡ Ended status → advances status ≡ false → (carried n s l (join_checked s l current a x (checked s l current 12 x.open_seqid x.open_stateid))).3 ≡ l }
 {}
 
-/// A LOCK and a LOCKU that are no repeats are never answered with SERVERFAULT: of each stateid of locks that is there
-/// the client and the owner are there. A repeat is sent the bytes that were kept.
-pub fn server_faults_are_never_told()
-    ensures locks { (n : ℕ) (s : CoreState) (l : NfsLists) (current : Option ℕ) (a : LockArgsItem) → IsSound l → (carried n s l (lock s l current a)).0 ≡ Ended ServerFault → ⊥ }
+/// A LOCK that is no repeat is answered with SERVERFAULT exactly if a store failed by it, in a step in which none had: that of the
+/// record with its client (RFC 7530 9.6.3). A LOCKU never is, as it stores nothing: of each stateid of locks that is there the
+/// client and the owner are there. A repeat is sent the bytes that were kept.
+pub fn server_faults_are_failed_stores()
+    ensures locks { (n : ℕ) (s : CoreState) (l : NfsLists) (current : Option ℕ) (a : LockArgsItem) → IsGood s → IsSound l → s.failed ≡ false → ((carried n s l (lock s l current a)).0 ≡ Ended ServerFault) ↔ ((carried n s l (lock s l current a)).4.failed ≡ true) }
     ensures unlocks { (n : ℕ) (s : CoreState) (l : NfsLists) (current : Option ℕ) (a : Unlocked) → IsGood s → IsSound l → (carried n s l (unlock s l current a)).0 ≡ Ended ServerFault → ⊥ }
 {}

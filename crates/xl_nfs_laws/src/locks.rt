@@ -9,12 +9,12 @@ ghost use Rattle.xl_nfs.specs.Outcomes.{is_ok};
 ghost use Rattle.xl_nfs.specs.declared.locks.UnlockArgs.{UnlockArgs as Unlocked};
 ghost use Rattle.xl_nfs.specs.declared.opens.CloseArgs.{CloseArgs as Closed};
 ghost use Rattle.xl_nfs.specs.declared.status.NfsStatus.{NfsStatus as Status};
-ghost use Rattle.xl_nfs.specs.declared.status.NfsStatus.TheVariants.{Resource};
+ghost use Rattle.xl_nfs.specs.declared.status.NfsStatus.TheVariants.{Resource, ServerFault};
 ghost use Rattle.xl_nfs_state.specs.State.{NfsLists};
 ghost use Rattle.xl_nfs_state.specs.declared.owner.SeqidState.{SeqidState as OwnerSeqids};
 ghost use Rattle.xl_nfs_state.specs.declared.stateid.StateidRow.{StateidRow};
 ghost use Rattle.xl_nfs_locks.specs.FirstLocks.{join_to};
-ghost use Rattle.xl_nfs_laws.specs.LockLaws.{lock_claim, lock_way, owner_of, test_claim, AreFree, AreLocked, IsDenial, IsLockTold, IsTestDenial, IsTestTold};
+ghost use Rattle.xl_nfs_laws.specs.LockLaws.{lock_claim, lock_way, owner_of, test_claim, unstored_for, AreFree, AreLocked, IsDenial, IsLockTold, IsTestDenial, IsTestTold};
 ghost use Rattle.xl_nfs_locks.specs.Locks.{lock_by_owner};
 ghost use Rattle.xl_nfs_locks.specs.Ranges.{lock_ask, test_ask};
 ghost use Rattle.xl_nfs_locks.specs.Tests.{test_to};
@@ -31,30 +31,35 @@ ghost use Rattle.xl_nfs_opens.specs.declared.told.Told.TheVariants.{Denied, Ende
 /// A LOCK whose checks passed and that is OK leaves each byte of its range to its owner, in its mode, and each other
 /// byte, each byte of another owner and of another file as they were (RFC 7530 9.1.2, 16.10). So it is of an owner that
 /// has a stateid and of one that gives the open's. One that isn't OK leaves the core as it was once its breaks began:
-/// nothing changes except the caches whose breaks began.
+/// nothing changes except the caches whose breaks began; and if it is SERVERFAULT the store of the record with its client
+/// failed besides.
 pub fn granted_locks_are_held()
     ensures known { (n : ℕ) (s : CoreState) (l : NfsLists) (current : Option ℕ) (a : LockArgsItem) (r : StateidRow) (owner : ℕ) (seqids : OwnerSeqids) (seqid last : ℕ) (o : LockOwner) → IsGood s → a.offset ≤ last → is_ok (status_of (carried n s l (lock_by_owner l current a r owner seqids seqid last (Some o))).0) ≡ true → AreLocked o r.file a.kind a.offset last s (carried n s l (lock_by_owner l current a r owner seqids seqid last (Some o))).4 }
     ensures first { (n : ℕ) (s : CoreState) (l : NfsLists) (current : Option ℕ) (a : LockArgsItem) (b : Owners) (o : LockOwner) (r : StateidRow) (q : Option StateidRow) (last : ℕ) → IsGood s → a.offset ≤ last → is_room_for o l ≡ true → is_ok (status_of (carried n s l (join_to l current a b o r q (Ok last))).0) ≡ true → AreLocked o r.file a.kind a.offset last s (carried n s l (join_to l current a b o r q (Ok last))).4 }
-    ensures known_refused { (n : ℕ) (s : CoreState) (l : NfsLists) (current : Option ℕ) (a : LockArgsItem) (r : StateidRow) (owner : ℕ) (seqids : OwnerSeqids) (seqid last : ℕ) (o : LockOwner) → IsGood s → a.offset ≤ last → is_ok (status_of (carried n s l (lock_by_owner l current a r owner seqids seqid last (Some o))).0) ≡ false → (carried n s l (lock_by_owner l current a r owner seqids seqid last (Some o))).4 ≡ lock_way s o r.file a.kind a.reclaim a.offset last }
-    ensures first_refused { (n : ℕ) (s : CoreState) (l : NfsLists) (current : Option ℕ) (a : LockArgsItem) (b : Owners) (o : LockOwner) (r : StateidRow) (q : Option StateidRow) (last : ℕ) → IsGood s → a.offset ≤ last → is_room_for o l ≡ true → is_ok (status_of (carried n s l (join_to l current a b o r q (Ok last))).0) ≡ false → (carried n s l (join_to l current a b o r q (Ok last))).4 ≡ lock_way s o r.file a.kind a.reclaim a.offset last }
+    ensures known_refused { (n : ℕ) (s : CoreState) (l : NfsLists) (current : Option ℕ) (a : LockArgsItem) (r : StateidRow) (owner : ℕ) (seqids : OwnerSeqids) (seqid last : ℕ) (o : LockOwner) → IsGood s → a.offset ≤ last → is_ok (status_of (carried n s l (lock_by_owner l current a r owner seqids seqid last (Some o))).0) ≡ false → (status_of (carried n s l (lock_by_owner l current a r owner seqids seqid last (Some o))).0 ≡ ServerFault → ⊥) → (carried n s l (lock_by_owner l current a r owner seqids seqid last (Some o))).4 ≡ lock_way s o r.file a.kind a.reclaim a.offset last }
+    ensures first_refused { (n : ℕ) (s : CoreState) (l : NfsLists) (current : Option ℕ) (a : LockArgsItem) (b : Owners) (o : LockOwner) (r : StateidRow) (q : Option StateidRow) (last : ℕ) → IsGood s → a.offset ≤ last → is_room_for o l ≡ true → is_ok (status_of (carried n s l (join_to l current a b o r q (Ok last))).0) ≡ false → (status_of (carried n s l (join_to l current a b o r q (Ok last))).0 ≡ ServerFault → ⊥) → (carried n s l (join_to l current a b o r q (Ok last))).4 ≡ lock_way s o r.file a.kind a.reclaim a.offset last }
+    ensures known_failed { (n : ℕ) (s : CoreState) (l : NfsLists) (current : Option ℕ) (a : LockArgsItem) (r : StateidRow) (owner : ℕ) (seqids : OwnerSeqids) (seqid last : ℕ) (o : LockOwner) → IsGood s → a.offset ≤ last → status_of (carried n s l (lock_by_owner l current a r owner seqids seqid last (Some o))).0 ≡ ServerFault → (carried n s l (lock_by_owner l current a r owner seqids seqid last (Some o))).4 ≡ unstored_for o (lock_way s o r.file a.kind a.reclaim a.offset last) }
+    ensures first_failed { (n : ℕ) (s : CoreState) (l : NfsLists) (current : Option ℕ) (a : LockArgsItem) (b : Owners) (o : LockOwner) (r : StateidRow) (q : Option StateidRow) (last : ℕ) → IsGood s → a.offset ≤ last → is_room_for o l ≡ true → status_of (carried n s l (join_to l current a b o r q (Ok last))).0 ≡ ServerFault → (carried n s l (join_to l current a b o r q (Ok last))).4 ≡ unstored_for o (lock_way s o r.file a.kind a.reclaim a.offset last) }
 {}
 
 /// A LOCK whose checks passed is answered with each status exactly if that has its cause, once the breaks of the
-/// caches in its way began: OK if nothing held stands against it and no limit is passed, DENIED if something does for
-/// good, DELAY if a cache keeps it off, RESOURCE at a limit, NO_GRACE if it reclaims, and no other; if there is no room
-/// for its owner, RESOURCE, and nothing changes (RFC 7530 16.10). DENIED gives a claim that is held and stands against
-/// the lock, the least of those that do, with its holder.
+/// caches in its way began: OK if grace lets it in, nothing held stands against it, no limit is passed, and its client is
+/// recorded or can be; DENIED if something stands against it for good, and RECLAIM_CONFLICT if anything does against a reclaim;
+/// DELAY if a cache keeps it off, RESOURCE at a limit; GRACE in grace if it doesn't reclaim, NO_GRACE out of grace if it does,
+/// RECLAIM_BAD if it reclaims and its client isn't recorded; SERVERFAULT if the store fails that records its client; and no
+/// other (RFC 7530 9.6.2). If there is no room for its owner, RESOURCE, and nothing changes (RFC 7530 16.10). DENIED gives a
+/// claim that is held and stands against the lock, the least of those that do, with its holder.
 pub fn lock_statuses_have_causes()
-    ensures known { (n : ℕ) (s : CoreState) (l : NfsLists) (current : Option ℕ) (a : LockArgsItem) (r : StateidRow) (owner : ℕ) (seqids : OwnerSeqids) (seqid last : ℕ) (o : LockOwner) (status : Status) → (status_of (carried n s l (lock_by_owner l current a r owner seqids seqid last (Some o))).0 ≡ status) ↔ IsLockTold (lock_way s o r.file a.kind a.reclaim a.offset last) (lock_ask o r.file a.kind a.reclaim a.offset last) (lock_claim s o r.file a.kind a.offset last) status }
-    ensures first { (n : ℕ) (s : CoreState) (l : NfsLists) (current : Option ℕ) (a : LockArgsItem) (b : Owners) (o : LockOwner) (r : StateidRow) (q : Option StateidRow) (last : ℕ) (status : Status) → is_room_for o l ≡ true → (status_of (carried n s l (join_to l current a b o r q (Ok last))).0 ≡ status) ↔ IsLockTold (lock_way s o r.file a.kind a.reclaim a.offset last) (lock_ask o r.file a.kind a.reclaim a.offset last) (lock_claim s o r.file a.kind a.offset last) status }
+    ensures known { (n : ℕ) (s : CoreState) (l : NfsLists) (current : Option ℕ) (a : LockArgsItem) (r : StateidRow) (owner : ℕ) (seqids : OwnerSeqids) (seqid last : ℕ) (o : LockOwner) (status : Status) → (status_of (carried n s l (lock_by_owner l current a r owner seqids seqid last (Some o))).0 ≡ status) ↔ IsLockTold n (lock_way s o r.file a.kind a.reclaim a.offset last) (lock_ask o r.file a.kind a.reclaim a.offset last) (lock_claim s o r.file a.kind a.offset last) status }
+    ensures first { (n : ℕ) (s : CoreState) (l : NfsLists) (current : Option ℕ) (a : LockArgsItem) (b : Owners) (o : LockOwner) (r : StateidRow) (q : Option StateidRow) (last : ℕ) (status : Status) → is_room_for o l ≡ true → (status_of (carried n s l (join_to l current a b o r q (Ok last))).0 ≡ status) ↔ IsLockTold n (lock_way s o r.file a.kind a.reclaim a.offset last) (lock_ask o r.file a.kind a.reclaim a.offset last) (lock_claim s o r.file a.kind a.offset last) status }
     ensures full { (n : ℕ) (s : CoreState) (l : NfsLists) (current : Option ℕ) (a : LockArgsItem) (b : Owners) (o : LockOwner) (r : StateidRow) (q : Option StateidRow) (last : ℕ) → is_room_for o l ≡ false → carried n s l (join_to l current a b o r q (Ok last)) ≡ (Ended Resource, current, [], l, s) }
     ensures known_denied { (n : ℕ) (s : CoreState) (l : NfsLists) (current : Option ℕ) (a : LockArgsItem) (r : StateidRow) (owner : ℕ) (seqids : OwnerSeqids) (seqid last : ℕ) (o : LockOwner) (h : Held) → IsGood s → a.offset ≤ last → (carried n s l (lock_by_owner l current a r owner seqids seqid last (Some o))).0 ≡ Denied h → IsDenial (lock_way s o r.file a.kind a.reclaim a.offset last) l (lock_claim s o r.file a.kind a.offset last) h }
     ensures first_denied { (n : ℕ) (s : CoreState) (l : NfsLists) (current : Option ℕ) (a : LockArgsItem) (b : Owners) (o : LockOwner) (r : StateidRow) (q : Option StateidRow) (last : ℕ) (h : Held) → IsGood s → a.offset ≤ last → is_room_for o l ≡ true → (carried n s l (join_to l current a b o r q (Ok last))).0 ≡ Denied h → IsDenial (lock_way s o r.file a.kind a.reclaim a.offset last) l (lock_claim s o r.file a.kind a.offset last) h }
 {}
 
 /// A LOCKT changes nothing, neither what is remembered nor the core, except for the lease that it renews before. Once
-/// its checks passed it is OK exactly if no range that is held stands against it, and DENIED exactly if one does, of
-/// which it gives the least with its holder (RFC 7530 16.11).
+/// its checks passed it is GRACE exactly while grace runs; else it is OK exactly if no range that is held stands against it,
+/// and DENIED exactly if one does, of which it gives the least with its holder (RFC 7530 16.11).
 pub fn tests_tell_and_change_nothing()
     ensures nothing { (n : ℕ) (s : CoreState) (l : NfsLists) (current : Option ℕ) (a : LockTestArgsItem) (file : ℕ) (o : LockOwner) (last : Option ℕ) → ((carried n s l (test_to l current a file o last)).3 ≡ l) × ((carried n s l (test_to l current a file o last)).4 ≡ s) }
     ensures told { (n : ℕ) (s : CoreState) (l : NfsLists) (current : Option ℕ) (a : LockTestArgsItem) (file : ℕ) (o : LockOwner) (last : ℕ) (status : Status) → (status_of (carried n s l (test_to l current a file o (Some last))).0 ≡ status) ↔ IsTestTold s (test_ask o file a.kind a.offset last) (test_claim s o file a.kind a.offset last) status }

@@ -1,7 +1,6 @@
 //! LOCK under an open, by a lock owner that has no stateid there yet, or has one (RFC 7530 16.10).
 ghost use Rattle.std.specs.Prelude.{◌≡◌, ◌≤◌, ℕ, [], false, true, Option, None, Some, Ok, IsSome, IfSome, IfOk, OnOk, option_copied};
 ghost use Rattle.std.specs.List.{find};
-ghost use Rattle.xl_base.specs.Outside.{HandedOn};
 ghost use Rattle.xl_core.specs.State.{CoreState, MayBe};
 ghost use Rattle.xl_nfs.specs.Locks.{shown_lock_args, shown_new_locker};
 ghost use Rattle.xl_nfs_state.specs.State.{NfsLists, is_client, is_owner, is_stateid, is_kept};
@@ -14,6 +13,7 @@ ghost use Rattle.xl_nfs_opens.specs.Plans.{carried};
 ghost use Rattle.xl_nfs_opens.specs.Results.{spelled, ToldFits};
 ghost use Rattle.xl_nfs_opens.specs.Seqids.{is_room_for};
 ghost use Rattle.xl_plan.specs.Budgets.{IsReady};
+ghost use Rattle.xl_plan.specs.Keepers.{HandsTo, IsQuiet};
 ghost use Rattle.xl_nfs_opens.specs.Short.{Leaves};
 
 use crate::asks::lock_ask;
@@ -213,6 +213,7 @@ fn join_new(
     requires ready { IsReady 0 core.old }
     ensures done { (n : ℕ) (current : Option ℕ) → IfOk result (λ told. carried n core.old state.old (joined_new core.old state.old current both locker.now above.now) ≡ (told, current, [], state.new, core.new)) }
     ensures leaves { OnOk result (Leaves 1 core.old core.new) }
+    ensures quiet { OnOk result (IsQuiet core.old core.new) }
 {
     let number = u64::from(drawn(core));
     let told = Told::State(stateid_of(core, number, FIRST_SEQID));
@@ -260,6 +261,7 @@ fn join_granted(
     requires ready { IsReady 0 core.old }
     ensures done { (n : ℕ) (current : Option ℕ) → IfOk result (λ told. carried n core.old state.old (joined_by core.old state.old current both locker.now above.now had) ≡ (told, current, [], state.new, core.new)) }
     ensures leaves { OnOk result (Leaves 1 core.old core.new) }
+    ensures quiet { OnOk result (IsQuiet core.old core.new) }
 {
     match had {
         Some(lock) => {
@@ -288,6 +290,7 @@ fn join_answered(
     requires ready { IsReady 2 core.old }
     ensures done { (n : ℕ) → IfOk result (λ r. carried n core.old state.old (join_answered state.old on.now.turn.asked.current on.now.turn.both on.now.locker.now on.now.turn.above on.now.had on.now.turn.asked.args.now.reclaim answer core.old) ≡ (r.0, r.1, [], state.new, core.new)) }
     ensures leaves { OnOk result (Leaves 2 core.old core.new) }
+    ensures quiet { OnOk result (IsQuiet core.old core.new) }
 {
     let (turn, current) = (&on.turn, on.turn.asked.current);
     if !is_granted(answer) {
@@ -325,7 +328,7 @@ fn join_bytes<K: Keeper>(
     requires ends { on.now.turn.asked.args.now.offset ≤ last }
     ensures done { (n : ℕ) → IfOk result (λ r. MayBe n core.new → carried n core.old state.old (join_to state.old on.now.turn.asked.current (shown_lock_args on.now.turn.asked.args.now) on.now.turn.both on.now.locker.now on.now.turn.above on.now.had (Ok last)) ≡ (r.0, r.1, r.2, state.new, core.new)) }
     ensures leaves { OnOk result (Leaves 4 core.old core.new) }
-    ensures keeper { HandedOn keeper.old keeper.new }
+    ensures keeper { OnOk result (HandsTo K.held K.given K.faults K.left core.old core.new keeper.old keeper.new) }
 {
     let (args, file) = (on.turn.asked.args, on.turn.above.file);
     let (kind, reclaim, offset) = (args.kind, args.reclaim, args.offset);
@@ -350,7 +353,7 @@ fn join_in<K: Keeper>(
     requires had { IfSome on.now.had (λ lock. (find (is_stateid lock.number) state.old.stateids ≡ Some lock) × (lock.standing.closed ≡ false)) }
     ensures done { (n : ℕ) → IfOk result (λ r. MayBe n core.new → carried n core.old state.old (join_in state.old on.now.turn.asked.current (shown_lock_args on.now.turn.asked.args.now) on.now.turn.both on.now.locker.now on.now.turn.above on.now.had) ≡ (r.0, r.1, r.2, state.new, core.new)) }
     ensures leaves { OnOk result (Leaves 4 core.old core.new) }
-    ensures keeper { HandedOn keeper.old keeper.new }
+    ensures keeper { OnOk result (HandsTo K.held K.given K.faults K.left core.old core.new keeper.old keeper.new) }
 {
     let (turn, locker, args) = (&on.turn, on.locker, on.turn.asked.args);
     let (access, current) = (turn.above.standing.access, turn.asked.current);
@@ -450,7 +453,7 @@ fn join_as<K: Keeper>(
     requires joined { IsJoined state.old joined }
     ensures done { (n : ℕ) → IfOk result (λ r. MayBe n core.new → carried n core.old state.old (join_as state.old turn.now.asked.current (shown_lock_args turn.now.asked.args.now) turn.now.both locker.now turn.now.above joined) ≡ (r.0, r.1, r.2, state.new, core.new)) }
     ensures leaves { OnOk result (Leaves 4 core.old core.new) }
-    ensures keeper { HandedOn keeper.old keeper.new }
+    ensures keeper { OnOk result (HandsTo K.held K.given K.faults K.left core.old core.new keeper.old keeper.new) }
 {
     let current = turn.asked.current;
     match joined {
@@ -517,7 +520,7 @@ fn join_of<K: Keeper>(
     requires owner { IsSome (find (is_owner turn.now.both.number) state.old.owners) }
     ensures done { (n : ℕ) → IfOk result (λ r. MayBe n core.new → carried n core.old state.old (join_of state.old turn.now.asked.current (shown_lock_args turn.now.asked.args.now) (shown_new_locker turn.now.asked.given.now) turn.now.both turn.now.above (locker_under turn.now.above turn.now.asked.given.now.owner.owner.now (client_in core.old state.old turn.now.asked.given.now.owner.clientid))) ≡ (r.0, r.1, r.2, state.new, core.new)) }
     ensures leaves { OnOk result (Leaves 4 core.old core.new) }
-    ensures keeper { HandedOn keeper.old keeper.new }
+    ensures keeper { OnOk result (HandsTo K.held K.given K.faults K.left core.old core.new keeper.old keeper.new) }
 {
     let (above, given) = (&turn.above, turn.asked.given);
     let client = client_in(state, core, given.owner.clientid);
@@ -543,7 +546,7 @@ fn join_passed<K: Keeper>(
     requires owner { IsSome (find (is_owner turn.now.both.number) state.old.owners) }
     ensures done { (n : ℕ) → IfOk result (λ r. MayBe n core.new → carried n core.old state.old (join_standing core.old state.old turn.now.asked.current (shown_lock_args turn.now.asked.args.now) (shown_new_locker turn.now.asked.given.now) turn.now.both turn.now.above (standing_fault turn.now.above turn.now.both.seqids turn.now.asked.given.now.open_stateid.seqid true)) ≡ (r.0, r.1, r.2, state.new, core.new)) }
     ensures leaves { OnOk result (Leaves 4 core.old core.new) }
-    ensures keeper { HandedOn keeper.old keeper.new }
+    ensures keeper { OnOk result (HandsTo K.held K.given K.faults K.left core.old core.new keeper.old keeper.new) }
 {
     let seqid = turn.asked.given.open_stateid.seqid;
     if let Some(status) = standing_fault(&turn.above, turn.both.seqids, seqid, true) {
@@ -568,7 +571,7 @@ fn join_checked<K: Keeper>(
     requires found { IsChecked state.old checked }
     ensures done { (n : ℕ) → IfOk result (λ r. MayBe n core.new → carried n core.old state.old (join_checked core.old state.old asked.now.current (shown_lock_args asked.now.args.now) (shown_new_locker asked.now.given.now) checked) ≡ (r.0, r.1, r.2, state.new, core.new)) }
     ensures leaves { OnOk result (Leaves 4 core.old core.new) }
-    ensures keeper { HandedOn keeper.old keeper.new }
+    ensures keeper { OnOk result (HandsTo K.held K.given K.faults K.left core.old core.new keeper.old keeper.new) }
 {
     match checked {
         Checked::Refused(status) => Ok(ended_as(alloc, status, asked.current)),
@@ -604,7 +607,7 @@ fn lock_named<K: Keeper>(
     requires ready { IsReady 4 core.old }
     ensures done { (n : ℕ) → IfOk result (λ r. MayBe n core.new → carried n core.old state.old (lock_named core.old state.old current (shown_lock_args args.now) (shown_new_locker given.now)) ≡ (r.0, r.1, r.2, state.new, core.new)) }
     ensures leaves { OnOk result (Leaves 4 core.old core.new) }
-    ensures keeper { HandedOn keeper.old keeper.new }
+    ensures keeper { OnOk result (HandsTo K.held K.given K.faults K.left core.old core.new keeper.old keeper.new) }
 {
     let client = number_in(core, given.owner.clientid);
     renew_for(alloc, state, core, client)?;
@@ -638,7 +641,7 @@ pub(crate) fn lock_new<K: Keeper>(
     requires ready { IsReady 4 core.old }
     ensures done { (n : ℕ) → IfOk result (λ r. MayBe n core.new → carried n core.old state.old (lock_new core.old state.old current (shown_lock_args args.now) (shown_new_locker given.now)) ≡ (r.0, r.1, r.2, state.new, core.new)) }
     ensures leaves { OnOk result (Leaves 4 core.old core.new) }
-    ensures keeper { HandedOn keeper.old keeper.new }
+    ensures keeper { OnOk result (HandsTo K.held K.given K.faults K.left core.old core.new keeper.old keeper.new) }
 {
     let client = state_client(state, core, &given.open_stateid);
     renew_for(alloc, state, core, client)?;

@@ -1,7 +1,6 @@
 //! LOCK by a lock owner that has a stateid under the open (RFC 7530 16.10).
 ghost use Rattle.std.specs.Prelude.{◌≡◌, ◌≤◌, ℕ, [], false, true, Some, IsSome, IfOk, OnOk};
 ghost use Rattle.std.specs.List.{find};
-ghost use Rattle.xl_base.specs.Outside.{HandedOn};
 ghost use Rattle.xl_core.specs.State.{CoreState, MayBe};
 ghost use Rattle.xl_nfs.specs.Locks.{shown_lock_args};
 ghost use Rattle.xl_nfs_state.specs.State.{is_owner, is_stateid};
@@ -13,6 +12,7 @@ ghost use Rattle.xl_nfs_opens.specs.Operations.{op_lock};
 ghost use Rattle.xl_nfs_opens.specs.Plans.{carried};
 ghost use Rattle.xl_nfs_opens.specs.Results.{ToldFits};
 ghost use Rattle.xl_plan.specs.Budgets.{IsReady};
+ghost use Rattle.xl_plan.specs.Keepers.{HandsTo};
 ghost use Rattle.xl_nfs_opens.specs.Short.{Leaves};
 
 use crate::asks::lock_ask;
@@ -115,7 +115,7 @@ fn lock_bytes<K: Keeper>(
     requires ends { turn.now.asked.args.now.offset ≤ last }
     ensures done { (n : ℕ) → IfOk result (λ r. MayBe n core.new → carried n core.old state.old (lock_by_owner state.old turn.now.asked.current (shown_lock_args turn.now.asked.args.now) turn.now.found.row turn.now.found.owner turn.now.found.seqids turn.now.asked.known.now.seqid last (Some by.now)) ≡ (r.0, r.1, r.2, state.new, core.new)) }
     ensures leaves { OnOk result (Leaves 2 core.old core.new) }
-    ensures keeper { HandedOn keeper.old keeper.new }
+    ensures keeper { OnOk result (HandsTo K.held K.given K.faults K.left core.old core.new keeper.old keeper.new) }
 {
     let (args, file) = (turn.asked.args, turn.found.row.file);
     let request = lock_ask(alloc, by, file, args.kind, args.reclaim, args.offset, last)?;
@@ -167,7 +167,7 @@ fn lock_to<K: Keeper>(
     requires open { turn.now.found.row.standing.closed ≡ false }
     ensures done { (n : ℕ) → IfOk result (λ r. MayBe n core.new → carried n core.old state.old (lock_to state.old turn.now.asked.current (shown_lock_args turn.now.asked.args.now) turn.now.found.row turn.now.found.owner turn.now.found.seqids turn.now.asked.known.now.seqid (lock_end turn.now.asked.args.now.kind access (last_byte turn.now.asked.args.now.offset turn.now.asked.args.now.len))) ≡ (r.0, r.1, r.2, state.new, core.new)) }
     ensures leaves { OnOk result (Leaves 2 core.old core.new) }
-    ensures keeper { HandedOn keeper.old keeper.new }
+    ensures keeper { OnOk result (HandsTo K.held K.given K.faults K.left core.old core.new keeper.old keeper.new) }
 {
     let (args, current) = (turn.asked.args, turn.asked.current);
     match lock_end(args.kind, access, args.offset, args.len) {
@@ -202,7 +202,7 @@ fn lock_passed<K: Keeper>(
     requires open { turn.now.found.row.standing.closed ≡ false }
     ensures done { (n : ℕ) → IfOk result (λ r. MayBe n core.new → carried n core.old state.old (lock_standing state.old turn.now.asked.current (shown_lock_args turn.now.asked.args.now) turn.now.found.row turn.now.found.owner turn.now.found.seqids turn.now.asked.known.now.seqid (standing_fault turn.now.found.row turn.now.found.seqids turn.now.asked.known.now.stateid.seqid true)) ≡ (r.0, r.1, r.2, state.new, core.new)) }
     ensures leaves { OnOk result (Leaves 2 core.old core.new) }
-    ensures keeper { HandedOn keeper.old keeper.new }
+    ensures keeper { OnOk result (HandsTo K.held K.given K.faults K.left core.old core.new keeper.old keeper.new) }
 {
     let (known, found) = (turn.asked.known, &turn.found);
     if let Some(status) = standing_fault(&found.row, found.seqids, known.stateid.seqid, true) {
@@ -229,7 +229,7 @@ fn lock_found<K: Keeper>(
     requires found { IsChecked state.old checked }
     ensures done { (n : ℕ) → IfOk result (λ r. MayBe n core.new → carried n core.old state.old (lock_found core.old state.old asked.now.current (shown_lock_args asked.now.args.now) asked.now.known.now checked) ≡ (r.0, r.1, r.2, state.new, core.new)) }
     ensures leaves { OnOk result (Leaves 2 core.old core.new) }
-    ensures keeper { HandedOn keeper.old keeper.new }
+    ensures keeper { OnOk result (HandsTo K.held K.given K.faults K.left core.old core.new keeper.old keeper.new) }
 {
     match checked {
         Checked::Refused(status) => Ok(ended_as(alloc, status, asked.current)),
@@ -264,7 +264,7 @@ pub(crate) fn lock_known<K: Keeper>(
     requires ready { IsReady 2 core.old }
     ensures done { (n : ℕ) → IfOk result (λ r. MayBe n core.new → carried n core.old state.old (lock_known core.old state.old current (shown_lock_args args.now) known.now) ≡ (r.0, r.1, r.2, state.new, core.new)) }
     ensures leaves { OnOk result (Leaves 2 core.old core.new) }
-    ensures keeper { HandedOn keeper.old keeper.new }
+    ensures keeper { OnOk result (HandsTo K.held K.given K.faults K.left core.old core.new keeper.old keeper.new) }
 {
     let client = state_client(state, core, &known.stateid);
     renew_for(alloc, state, core, client)?;

@@ -5,6 +5,7 @@ ghost use Rattle.xl_nfs_locks.specs.Releases.{holds_any, holds_by, release, rele
 ghost use Rattle.xl_nfs_opens.specs.Opens.{client_in};
 ghost use Rattle.xl_nfs_opens.specs.Plans.{carried};
 ghost use Rattle.xl_plan.specs.Budgets.{IsReady};
+ghost use Rattle.xl_plan.specs.Keepers.{IsQuiet};
 ghost use Rattle.xl_nfs_opens.specs.Short.{Leaves};
 
 use std::alloc::{AllocError, Global};
@@ -85,6 +86,7 @@ pub fn release(
     requires ready { IsReady 0 core.old }
     ensures done { (n : ℕ) → IfOk result (λ r. carried n core.old state.old (release core.old state.old current (shown_owner args.now)) ≡ (r.0, r.1, r.2, state.new, core.new)) }
     ensures leaves { OnOk result (Leaves 0 core.old core.new) }
+    ensures quiet { OnOk result (IsQuiet core.old core.new) }
 {
     let client = number_in(core, args.clientid);
     renew_for(alloc, state, core, client)?;

@@ -1,12 +1,12 @@
 //! LOCKT (RFC 7530 16.11).
 ghost use Rattle.std.specs.Prelude.{◌≡◌, ◌≤◌, ℕ, IfOk, OnOk, Some};
-ghost use Rattle.xl_base.specs.Outside.{HandedOn};
 ghost use Rattle.xl_core.specs.State.{MayBe};
 ghost use Rattle.xl_nfs.specs.Locks.{shown_lock_test_args};
 ghost use Rattle.xl_nfs_locks.specs.Ranges.{last_byte};
 ghost use Rattle.xl_nfs_locks.specs.Tests.{lock_test, locker_of, test_at, test_to, tested_told};
 ghost use Rattle.xl_nfs_opens.specs.Plans.{carried};
 ghost use Rattle.xl_plan.specs.Budgets.{IsReady};
+ghost use Rattle.xl_plan.specs.Keepers.{HandsTo};
 ghost use Rattle.xl_nfs_opens.specs.Short.{Leaves};
 
 use crate::asks::test_ask;
@@ -60,7 +60,7 @@ fn test_to<K: Keeper>(
     requires ready { IsReady 2 core.old }
     ensures done { (n : ℕ) → IfOk result (λ r. MayBe n core.new → carried n core.old state.now (test_to state.now (Some file) (shown_lock_test_args args.now) file by.now (last_byte args.now.offset args.now.len)) ≡ (r.0, r.1, r.2, state.now, core.new)) }
     ensures leaves { OnOk result (Leaves 2 core.old core.new) }
-    ensures keeper { HandedOn keeper.old keeper.new }
+    ensures keeper { OnOk result (HandsTo K.held K.given K.faults K.left core.old core.new keeper.old keeper.new) }
 {
     let Some(last) = last_byte(args.offset, args.len) else {
         return Ok(ended_as(alloc, NfsStatus::Inval, Some(file)));
@@ -84,7 +84,7 @@ fn test_at<K: Keeper>(
     requires ready { IsReady 2 core.old }
     ensures done { (n : ℕ) → IfOk result (λ r. MayBe n core.new → carried n core.old state.now (test_at core.old state.now (shown_lock_test_args args.now) current) ≡ (r.0, r.1, r.2, state.now, core.new)) }
     ensures leaves { OnOk result (Leaves 2 core.old core.new) }
-    ensures keeper { HandedOn keeper.old keeper.new }
+    ensures keeper { OnOk result (HandsTo K.held K.given K.faults K.left core.old core.new keeper.old keeper.new) }
 {
     let Some(at) = current else {
         return Ok(ended_as(alloc, NfsStatus::NoFileHandle, current));
@@ -101,7 +101,7 @@ fn test_at<K: Keeper>(
 }
 
 /// LOCKT: whether the range could be locked. DENIED with a lock that stands against it; NOFILEHANDLE, ISDIR at the root,
-/// STALE_CLIENTID, and INVAL for a range of no bytes or past the last one.
+/// STALE_CLIENTID, and INVAL for a range of no bytes or past the last one; behind these GRACE while grace runs.
 #[tactic(auto, unfolding(crate::specs::Tests::lock_test), using(xl_plan::proofs::BudgetLaws::leaves_then, xl_plan::proofs::BudgetLaws::ready_then))]
 pub fn lock_test<K: Keeper>(
     alloc: Global,
@@ -114,7 +114,7 @@ pub fn lock_test<K: Keeper>(
     requires ready { IsReady 2 core.old }
     ensures done { (n : ℕ) → IfOk result (λ r. MayBe n core.new → carried n core.old state.old (lock_test core.old state.old current (shown_lock_test_args args.now)) ≡ (r.0, r.1, r.2, state.new, core.new)) }
     ensures leaves { OnOk result (Leaves 2 core.old core.new) }
-    ensures keeper { HandedOn keeper.old keeper.new }
+    ensures keeper { OnOk result (HandsTo K.held K.given K.faults K.left core.old core.new keeper.old keeper.new) }
 {
     let client = number_in(core, args.owner.clientid);
     renew_for(alloc, state, core, client)?;

@@ -1,7 +1,6 @@
 //! LOCKU (RFC 7530 16.12).
 ghost use Rattle.std.specs.Prelude.{◌≡◌, ◌≤◌, ℕ, [], false, true, Some, IsSome, IfOk, OnOk};
 ghost use Rattle.std.specs.List.{find};
-ghost use Rattle.xl_base.specs.Outside.{HandedOn};
 ghost use Rattle.xl_core.specs.State.{MayBe};
 ghost use Rattle.xl_nfs.specs.Outcomes.{is_ok};
 ghost use Rattle.xl_nfs_state.specs.State.{is_owner, is_stateid};
@@ -10,6 +9,7 @@ ghost use Rattle.xl_nfs_locks.specs.Unlocks.{unlock, unlock_by_owner, unlock_fou
 ghost use Rattle.xl_nfs_opens.specs.Closing.{standing_fault, IsChecked};
 ghost use Rattle.xl_nfs_opens.specs.Plans.{carried};
 ghost use Rattle.xl_plan.specs.Budgets.{IsReady};
+ghost use Rattle.xl_plan.specs.Keepers.{HandsTo};
 ghost use Rattle.xl_nfs_opens.specs.Short.{Leaves};
 
 use crate::ranges::last_byte;
@@ -99,7 +99,7 @@ fn unlock_bytes<K: Keeper>(
     requires ends { turn.now.args.now.offset ≤ last }
     ensures done { (n : ℕ) → IfOk result (λ r. MayBe n core.new → carried n core.old state.old (unlock_by_owner state.old turn.now.current turn.now.args.now turn.now.found.row turn.now.found.owner turn.now.found.seqids last (Some by.now)) ≡ (r.0, r.1, r.2, state.new, core.new)) }
     ensures leaves { OnOk result (Leaves 2 core.old core.new) }
-    ensures keeper { HandedOn keeper.old keeper.new }
+    ensures keeper { OnOk result (HandsTo K.held K.given K.faults K.left core.old core.new keeper.old keeper.new) }
 {
     let request = unlock_ask(alloc, by, turn.found.row.file, turn.args.offset, last)?;
     let (said, effects) = asked(alloc, core, keeper, request)?;
@@ -123,7 +123,7 @@ fn unlock_to<K: Keeper>(
     requires open { turn.now.found.row.standing.closed ≡ false }
     ensures done { (n : ℕ) → IfOk result (λ r. MayBe n core.new → carried n core.old state.old (unlock_to state.old turn.now.current turn.now.args.now turn.now.found.row turn.now.found.owner turn.now.found.seqids (last_byte turn.now.args.now.offset turn.now.args.now.len)) ≡ (r.0, r.1, r.2, state.new, core.new)) }
     ensures leaves { OnOk result (Leaves 2 core.old core.new) }
-    ensures keeper { HandedOn keeper.old keeper.new }
+    ensures keeper { OnOk result (HandsTo K.held K.given K.faults K.left core.old core.new keeper.old keeper.new) }
 {
     let (args, found, current) = (turn.args, &turn.found, turn.current);
     let Some(last) = last_byte(args.offset, args.len) else {
@@ -153,7 +153,7 @@ fn unlock_passed<K: Keeper>(
     requires open { turn.now.found.row.standing.closed ≡ false }
     ensures done { (n : ℕ) → IfOk result (λ r. MayBe n core.new → carried n core.old state.old (unlock_standing state.old turn.now.current turn.now.args.now turn.now.found.row turn.now.found.owner turn.now.found.seqids (standing_fault turn.now.found.row turn.now.found.seqids turn.now.args.now.stateid.seqid true)) ≡ (r.0, r.1, r.2, state.new, core.new)) }
     ensures leaves { OnOk result (Leaves 2 core.old core.new) }
-    ensures keeper { HandedOn keeper.old keeper.new }
+    ensures keeper { OnOk result (HandsTo K.held K.given K.faults K.left core.old core.new keeper.old keeper.new) }
 {
     let (args, found) = (turn.args, &turn.found);
     if let Some(status) = standing_fault(&found.row, found.seqids, args.stateid.seqid, true) {
@@ -180,7 +180,7 @@ fn unlock_found<K: Keeper>(
     requires found { IsChecked state.old checked }
     ensures done { (n : ℕ) → IfOk result (λ r. MayBe n core.new → carried n core.old state.old (unlock_found core.old state.old current args.now checked) ≡ (r.0, r.1, r.2, state.new, core.new)) }
     ensures leaves { OnOk result (Leaves 2 core.old core.new) }
-    ensures keeper { HandedOn keeper.old keeper.new }
+    ensures keeper { OnOk result (HandsTo K.held K.given K.faults K.left core.old core.new keeper.old keeper.new) }
 {
     match checked {
         Checked::Refused(status) => Ok(ended_as(alloc, status, current)),
@@ -202,7 +202,7 @@ fn unlock_found<K: Keeper>(
 
 /// LOCKU: the bytes of the range are no longer the lock owner's, held or not. INVAL for a range of no bytes or past the
 /// last one; BAD_STATEID, OLD_STATEID, STALE_STATEID and BAD_SEQID by the lock's stateid; RESOURCE if what is left of a
-/// lock that is cut has no room.
+/// lock that is cut has no room. It is done in grace too.
 #[tactic(auto, unfolding(crate::specs::Unlocks::unlock), using(xl_nfs_opens::proofs::CheckLaws::passed_there, xl_plan::proofs::BudgetLaws::leaves_then, xl_plan::proofs::BudgetLaws::ready_then))]
 pub fn unlock<K: Keeper>(
     alloc: Global,
@@ -215,7 +215,7 @@ pub fn unlock<K: Keeper>(
     requires ready { IsReady 2 core.old }
     ensures done { (n : ℕ) → IfOk result (λ r. MayBe n core.new → carried n core.old state.old (unlock core.old state.old current args.now) ≡ (r.0, r.1, r.2, state.new, core.new)) }
     ensures leaves { OnOk result (Leaves 2 core.old core.new) }
-    ensures keeper { HandedOn keeper.old keeper.new }
+    ensures keeper { OnOk result (HandsTo K.held K.given K.faults K.left core.old core.new keeper.old keeper.new) }
 {
     let client = state_client(state, core, &args.stateid);
     renew_for(alloc, state, core, client)?;

@@ -283,8 +283,9 @@ abbrev pub wished_kinds : Option Bool → List CacheKind
 wished_kinds None = []
 wished_kinds (Some write) = (if write then cache_kinds.WriteDeleg else cache_kinds.ReadDeleg) ∷ []
 
--- The share of an owner, which never waits, with this wish. The rows that it adds are counted before; clients aren't recorded
--- yet (CORE-6).
+-- The share of an owner, which never waits, with this wish: of a reclaim the delegation that is claimed with it, so that both are
+-- there or neither (RFC 7530 10.2.1) (NFS-34). Its client is recorded before the grant (RFC 7530 9.6.3). The rows that it adds are
+-- counted before (CORE-6).
 unfoldable pub share_ask : Option Bool → Opener → OpenArgsItem → ℕ → Ask
 share_ask wish o a file = record {
   file = file;
@@ -296,7 +297,7 @@ share_ask wish o a file = record {
   blocking = false;
   awaits = false;
   reclaim = reclaims a.claim;
-  monitored = false;
+  monitored = true;
   rows = no_rows;
 }
 
@@ -319,7 +320,7 @@ abbrev pub is_granted : Answer → Bool
 is_granted (answers.Granted c) = true
 is_granted answer = false
 
--- the status by the core's answer
+-- the status by the core's answer (NFS-33)
 abbrev pub answer_status : Bool → Answer → NfsStatus
 answer_status reclaim (answers.Granted c) = statuses.Ok
 answer_status reclaim (answers.Conflict c) = if reclaim then statuses.ReclaimConflict else statuses.ShareDenied

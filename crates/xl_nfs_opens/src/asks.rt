@@ -43,7 +43,7 @@ pub fn range_ask(
         blocking: false,
         awaits: false,
         reclaim,
-        monitored: false,
+        monitored: true,
         rows: NO_ROWS,
     })
 }

@@ -5,13 +5,13 @@ ghost use Rattle.xl_nfs_opens.specs.Opens.{stood};
 ghost use Rattle.std.specs.Prelude.{◌≡◌, ℕ, false, true, None, Some, Ok, IsSome, IfSome, IfOk, OnOk};
 ghost use Rattle.std.specs.List.{find};
 ghost use Rattle.xl_base.specs.Lists.{IsIn};
-ghost use Rattle.xl_base.specs.Outside.{HandedOn};
 ghost use Rattle.xl_core.specs.State.{CoreState};
 ghost use Rattle.xl_nfs_state.specs.State.{is_owner, is_stateid};
 ghost use Rattle.xl_nfs_opens.specs.Closing.{close, close_by, close_done, share_closed, confirm_by, confirm_done, deleg_return, failed, cache_of, next_seqids, open_confirm, opener_by, return_done, returned, delegates, share_of_open, standing_fault, state_returned, state_told, told_lists, IsChecked};
 ghost use Rattle.xl_nfs_opens.specs.Plans.{carried};
 ghost use Rattle.xl_nfs_opens.specs.Results.{spelled, ToldFits};
 ghost use Rattle.xl_plan.specs.Budgets.{IsReady};
+ghost use Rattle.xl_plan.specs.Keepers.{HandsTo, IsQuiet};
 ghost use Rattle.xl_nfs_opens.specs.Short.{Leaves};
 
 use crate::checking::{check, find_state, standing_fault};
@@ -179,6 +179,7 @@ pub fn open_confirm(
     requires ready { IsReady 0 core.old }
     ensures done { (n : ℕ) → IfOk result (λ r. carried n core.old state.old (open_confirm core.old state.old current args.now) ≡ (r.0, r.1, r.2, state.new, core.new)) }
     ensures leaves { OnOk result (Leaves 0 core.old core.new) }
+    ensures quiet { OnOk result (IsQuiet core.old core.new) }
 {
     let client = state_client(state, core, &args.stateid);
     renew_for(alloc, state, core, client)?;
@@ -253,6 +254,7 @@ fn close_share(
     requires open { found.now.row.standing.closed ≡ false }
     ensures done { (n : ℕ) → IfOk result (λ r. carried n core.old state.old (share_closed core.old state.old current args.now found.now.row found.now.owner found.now.seqids) ≡ (r.0, r.1, r.2, state.new, core.new)) }
     ensures leaves { OnOk result (Leaves 0 core.old core.new) }
+    ensures quiet { OnOk result (IsQuiet core.old core.new) }
 {
     let op = operation::CLOSE;
     let share = share_of_open(alloc, state, core, &found.row, found.owner)?;
@@ -286,7 +288,7 @@ fn close_passed<K: Keeper>(
     requires open { found.now.row.standing.closed ≡ false }
     ensures done { (n : ℕ) → IfOk result (λ r. carried n core.old state.old (close_done core.old state.old current args.now found.now.row found.now.owner found.now.seqids (standing_fault found.now.row found.now.seqids args.now.stateid.seqid true)) ≡ (r.0, r.1, r.2, state.new, core.new)) }
     ensures leaves { OnOk result (Leaves 0 core.old core.new) }
-    ensures keeper { HandedOn keeper.old keeper.new }
+    ensures keeper { OnOk result (HandsTo K.held K.given K.faults K.left core.old core.new keeper.old keeper.new) }
 {
     let op = operation::CLOSE;
     if let Some(status) = standing_fault(&found.row, found.seqids, args.stateid.seqid, true) {
@@ -312,7 +314,7 @@ fn close_by<K: Keeper>(
     requires found { IsChecked state.old checked }
     ensures done { (n : ℕ) → IfOk result (λ r. carried n core.old state.old (close_by core.old state.old current args.now checked) ≡ (r.0, r.1, r.2, state.new, core.new)) }
     ensures leaves { OnOk result (Leaves 0 core.old core.new) }
-    ensures keeper { HandedOn keeper.old keeper.new }
+    ensures keeper { OnOk result (HandsTo K.held K.given K.faults K.left core.old core.new keeper.old keeper.new) }
 {
     match checked {
         Checked::Refused(status) => Ok(ended_as(alloc, status, current)),
@@ -337,7 +339,7 @@ pub fn close<K: Keeper>(
     requires ready { IsReady 2 core.old }
     ensures done { (n : ℕ) → IfOk result (λ r. carried n core.old state.old (close core.old state.old current args.now) ≡ (r.0, r.1, r.2, state.new, core.new)) }
     ensures leaves { OnOk result (Leaves 0 core.old core.new) }
-    ensures keeper { HandedOn keeper.old keeper.new }
+    ensures keeper { OnOk result (HandsTo K.held K.given K.faults K.left core.old core.new keeper.old keeper.new) }
 {
     let client = state_client(state, core, &args.stateid);
     renew_for(alloc, state, core, client)?;
@@ -420,6 +422,7 @@ fn return_by(
     requires ready { IsReady 0 core.old }
     ensures done { (n : ℕ) → IfOk result (λ r. carried n core.old state.old (return_done core.old state.old current found) ≡ (r.0, r.1, r.2, state.new, core.new)) }
     ensures leaves { OnOk result (Leaves 0 core.old core.new) }
+    ensures quiet { OnOk result (IsQuiet core.old core.new) }
 {
     match found {
         Err(status) => Ok(ended_as(alloc, status, current)),
@@ -445,6 +448,7 @@ pub fn deleg_return(
     requires ready { IsReady 0 core.old }
     ensures done { (n : ℕ) → IfOk result (λ r. carried n core.old state.old (deleg_return core.old state.old current stateid.now) ≡ (r.0, r.1, r.2, state.new, core.new)) }
     ensures leaves { OnOk result (Leaves 0 core.old core.new) }
+    ensures quiet { OnOk result (IsQuiet core.old core.new) }
 {
     let client = state_client(state, core, stateid);
     renew_for(alloc, state, core, client)?;

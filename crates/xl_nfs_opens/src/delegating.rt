@@ -9,6 +9,7 @@ ghost use Rattle.xl_nfs_state.specs.Keys.{place_of, same_place};
 ghost use Rattle.xl_core.specs.Askers.{party_named};
 ghost use Rattle.xl_nfs_opens.specs.Opens.{cache_by, cache_held, delegation_of, can_stand, delegated, delegated_in, delegation_row, delegation_told, drawn_for, granted_wish, has_none, has_program, kind_for, type_claimed, wish_of, wished_kinds};
 ghost use Rattle.xl_plan.specs.Budgets.{IsReady};
+ghost use Rattle.xl_plan.specs.Keepers.{IsQuiet};
 ghost use Rattle.xl_nfs_opens.specs.Short.{Leaves};
 
 use crate::leases::drawn;
@@ -266,6 +267,7 @@ pub(crate) fn delegate(
     ensures core { OnOk result (core.new ≡ drawn_for write core.old) }
     ensures told { IfOk result (λ told. told ≡ delegation_told core.old write) }
     ensures leaves { OnOk result (Leaves 1 core.old core.new) }
+    ensures quiet { OnOk result (IsQuiet core.old core.new) }
 {
     let Some(write) = write else {
         return Ok(None);

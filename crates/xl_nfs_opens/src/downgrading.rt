@@ -7,6 +7,7 @@ ghost use Rattle.xl_nfs_opens.specs.Closing.{can_weaken, standing_fault, IsCheck
 ghost use Rattle.xl_nfs_opens.specs.Downgrades.{downgrade_by, downgrade_done, downgrade_fault, open_downgrade};
 ghost use Rattle.xl_nfs_opens.specs.Plans.{carried};
 ghost use Rattle.xl_plan.specs.Budgets.{IsReady};
+ghost use Rattle.xl_plan.specs.Keepers.{IsQuiet};
 ghost use Rattle.xl_nfs_opens.specs.Short.{Leaves};
 
 use crate::checking::{check, standing_fault};
@@ -71,6 +72,7 @@ fn downgrade_passed(
     requires open { found.now.row.standing.closed ≡ false }
     ensures done { (n : ℕ) → IfOk result (λ r. carried n core.old state.old (downgrade_done core.old state.old current args.now found.now.row found.now.owner found.now.seqids (downgrade_fault found.now.row found.now.seqids args.now)) ≡ (r.0, r.1, r.2, state.new, core.new)) }
     ensures leaves { OnOk result (Leaves 0 core.old core.new) }
+    ensures quiet { OnOk result (IsQuiet core.old core.new) }
 {
     let op = operation::OPEN_DOWNGRADE;
     if let Some(status) = downgrade_fault(&found.row, found.seqids, args) {
@@ -99,6 +101,7 @@ fn downgrade_by(
     requires found { IsChecked state.old checked }
     ensures done { (n : ℕ) → IfOk result (λ r. carried n core.old state.old (downgrade_by core.old state.old current args.now checked) ≡ (r.0, r.1, r.2, state.new, core.new)) }
     ensures leaves { OnOk result (Leaves 0 core.old core.new) }
+    ensures quiet { OnOk result (IsQuiet core.old core.new) }
 {
     match checked {
         Checked::Refused(status) => Ok(ended_as(alloc, status, current)),
@@ -122,6 +125,7 @@ pub fn open_downgrade(
     requires ready { IsReady 0 core.old }
     ensures done { (n : ℕ) → IfOk result (λ r. carried n core.old state.old (open_downgrade core.old state.old current args.now) ≡ (r.0, r.1, r.2, state.new, core.new)) }
     ensures leaves { OnOk result (Leaves 0 core.old core.new) }
+    ensures quiet { OnOk result (IsQuiet core.old core.new) }
 {
     let client = state_client(state, core, &args.stateid);
     renew_for(alloc, state, core, client)?;

@@ -1,9 +1,9 @@
 //! The locks under an open, which end with it.
 ghost use Rattle.std.specs.Prelude.{◌≡◌, ℕ, [], IfOk, OnOk};
-ghost use Rattle.xl_base.specs.Outside.{HandedOn};
 ghost use Rattle.xl_core.specs.Deeds.{all_done, all_told_of};
 ghost use Rattle.xl_nfs_opens.specs.Closing.{ends_locks, gives_up, lock_owner, locks_under};
 ghost use Rattle.xl_plan.specs.Budgets.{IsReady};
+ghost use Rattle.xl_plan.specs.Keepers.{HandsTo};
 ghost use Rattle.xl_nfs_opens.specs.Short.{Leaves};
 
 use crate::asks::unlock_ask;
@@ -37,7 +37,7 @@ fn give_up<K: Keeper>(
     ensures done { (n : ℕ) → OnOk result (all_done n core.old (gives_up file owner.now) ≡ core.new) }
     ensures told { (n : ℕ) → OnOk result (all_told_of n core.old (gives_up file owner.now) ≡ []) }
     ensures leaves { OnOk result (Leaves 0 core.old core.new) }
-    ensures keeper { HandedOn keeper.old keeper.new }
+    ensures keeper { OnOk result (HandsTo K.held K.given K.faults K.left core.old core.new keeper.old keeper.new) }
 {
     let Some(opener) = owner else {
         return Ok(());
@@ -60,7 +60,7 @@ fn end_each<K: Keeper>(
     ensures done { (n : ℕ) → OnOk result (all_done n core.old (ends_locks state.now above.now locks.now) ≡ core.new) }
     ensures told { (n : ℕ) → OnOk result (all_told_of n core.old (ends_locks state.now above.now locks.now) ≡ []) }
     ensures leaves { OnOk result (Leaves 0 core.old core.new) }
-    ensures keeper { HandedOn keeper.old keeper.new }
+    ensures keeper { OnOk result (HandsTo K.held K.given K.faults K.left core.old core.new keeper.old keeper.new) }
 {
     let Some((lock, rest)) = locks.split_first() else {
         return Ok(());
@@ -93,7 +93,7 @@ pub(crate) fn end_locks<K: Keeper>(
     ensures done { (n : ℕ) → OnOk result (all_done n core.old (ends_locks state.now above.now (locks_under state.now above.now.number)) ≡ core.new) }
     ensures told { (n : ℕ) → OnOk result (all_told_of n core.old (ends_locks state.now above.now (locks_under state.now above.now.number)) ≡ []) }
     ensures leaves { OnOk result (Leaves 0 core.old core.new) }
-    ensures keeper { HandedOn keeper.old keeper.new }
+    ensures keeper { OnOk result (HandsTo K.held K.given K.faults K.left core.old core.new keeper.old keeper.new) }
 {
     let locks = locks_under(alloc, state, above.number)?;
     end_each(alloc, state, core, keeper, above, &locks)?;

@@ -3,6 +3,7 @@ ghost use Rattle.std.specs.Prelude.{◌≡◌, ℕ, ◌+◌, [], ◌∷◌, OnOk
 ghost use Rattle.xl_core.specs.Deeds.{all_done, all_told_of, Renews};
 ghost use Rattle.xl_core.specs.State.{drawn};
 ghost use Rattle.xl_plan.specs.Budgets.{IsReady};
+ghost use Rattle.xl_plan.specs.Keepers.{IsQuiet};
 ghost use Rattle.xl_nfs_opens.specs.Short.{Leaves};
 
 use std::alloc::{AllocError, Global};
@@ -15,6 +16,7 @@ pub fn renewed(alloc: Global, core: &mut Core, id: &[u8]) -> Result<(), AllocErr
     ensures state { (n : ℕ) → OnOk result (all_done n core.old (Renews id.now ∷ []) ≡ core.new) }
     ensures told { (n : ℕ) → all_told_of n core.old (Renews id.now ∷ []) ≡ [] }
     ensures leaves { OnOk result (Leaves 0 core.old core.new) }
+    ensures quiet { OnOk result (IsQuiet core.old core.new) }
 {
     core.renew(alloc, id)?;
     Ok(())
@@ -29,6 +31,7 @@ pub fn drawn(core: &mut Core) -> u32
     ensures counter { core.new.counter ≡ core.old.counter + 1 }
     ensures stable { core.new.stable ≡ core.old.stable }
     ensures leaves { Leaves 1 core.old core.new }
+    ensures quiet { IsQuiet core.old core.new }
 {
     core.draw()
 }

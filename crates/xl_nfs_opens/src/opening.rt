@@ -1,7 +1,6 @@
 //! OPEN (RFC 7530 16.16).
 ghost use Rattle.std.specs.Prelude.{◌≡◌, ◌||◌, ℕ, [], false, true, None, Some, IsSome, option_copied, IfOk, OnOk};
 ghost use Rattle.std.specs.List.{find};
-ghost use Rattle.xl_base.specs.Outside.{HandedOn};
 ghost use Rattle.xl_core.specs.State.{CoreState, MayBe};
 ghost use Rattle.xl_nfs.specs.Opens.{shown_open_args, shown_open_claim};
 ghost use Rattle.xl_nfs.specs.Outcomes.{is_ok};
@@ -9,6 +8,7 @@ ghost use Rattle.xl_nfs_state.specs.State.{is_client, is_stateid};
 ghost use Rattle.xl_nfs_opens.specs.Opens.{answer_status, answered, granted_by, is_granted, granted_more, granted_new, judged, judged_by, open_as, open_at, open_claimed, open_file, open_judged, open_on, reclaims, refused, claim_client, client_in, open_held, opener_of};
 ghost use Rattle.xl_nfs_opens.specs.Plans.{carried};
 ghost use Rattle.xl_plan.specs.Budgets.{IsReady};
+ghost use Rattle.xl_plan.specs.Keepers.{HandsTo, IsQuiet};
 ghost use Rattle.xl_nfs_opens.specs.Short.{Leaves};
 
 use crate::aims::opened_file;
@@ -149,6 +149,7 @@ fn grant_new(
     requires ready { IsReady 2 core.old }
     ensures done { (n : ℕ) → IfOk result (λ r. carried n core.old state.old (granted_new core.old state.old opening.now.opener.now (shown_open_args opening.now.args.now) opened.file opened.confirmed opened.write) ≡ (r.0, r.1, [], state.new, core.new)) }
     ensures leaves { OnOk result (Leaves 2 core.old core.new) }
+    ensures quiet { OnOk result (IsQuiet core.old core.new) }
 {
     let (opener, args, file) = (opening.opener, opening.args, opened.file);
     let owner = opener_number(state, opener);
@@ -179,6 +180,7 @@ fn grant_more(
     requires ready { IsReady 2 core.old }
     ensures done { (n : ℕ) → IfOk result (λ r. carried n core.old state.old (granted_more core.old state.old opening.now.opener.now (shown_open_args opening.now.args.now) opened.file opened.confirmed opened.write row.now) ≡ (r.0, r.1, [], state.new, core.new)) }
     ensures leaves { OnOk result (Leaves 2 core.old core.new) }
+    ensures quiet { OnOk result (IsQuiet core.old core.new) }
 {
     let (opener, args, file) = (opening.opener, opening.args, opened.file);
     let owner = opener_number(state, opener);
@@ -206,6 +208,7 @@ fn grant(
     requires ready { IsReady 2 core.old }
     ensures done { (n : ℕ) → IfOk result (λ r. carried n core.old state.old (granted_by core.old state.old opening.now.opener.now (shown_open_args opening.now.args.now) opened.file opened.confirmed opened.write (open_held state.old opening.now.opener.now opened.file)) ≡ (r.0, r.1, [], state.new, core.new)) }
     ensures leaves { OnOk result (Leaves 2 core.old core.new) }
+    ensures quiet { OnOk result (IsQuiet core.old core.new) }
 {
     match open_held(state, opening.opener, opened.file) {
         Some(row) => {
@@ -233,6 +236,7 @@ fn answer(
     requires ready { IsReady 2 core.old }
     ensures done { (n : ℕ) → IfOk result (λ r. carried n core.old state.old (answered state.old (Some opening.now.at) opening.now.opener.now (shown_open_args opening.now.args.now) opened.file opened.confirmed opened.write answer core.old) ≡ (r.0, r.1, [], state.new, core.new)) }
     ensures leaves { OnOk result (Leaves 2 core.old core.new) }
+    ensures quiet { OnOk result (IsQuiet core.old core.new) }
 {
     let (opener, args) = (opening.opener, opening.args);
     let reclaim = reclaims(&args.claim);
@@ -268,7 +272,7 @@ fn open_on<K: Keeper>(
     requires ready { IsReady 4 core.old }
     ensures done { (n : ℕ) → IfOk result (λ r. MayBe n core.new → carried n core.old state.old (open_on opening.now.exported.others core.old state.old (Some opening.now.at) opening.now.opener.now (shown_open_args opening.now.args.now) confirmed file) ≡ (r.0, r.1, r.2, state.new, core.new)) }
     ensures leaves { OnOk result (Leaves 4 core.old core.new) }
-    ensures keeper { HandedOn keeper.old keeper.new }
+    ensures keeper { OnOk result (HandsTo K.held K.given K.faults K.left core.old core.new keeper.old keeper.new) }
 {
     let (opener, args) = (opening.opener, opening.args);
     if !has_room(state, opening.exported.others, opener, file) {
@@ -300,7 +304,7 @@ fn open_as<K: Keeper>(
     requires ready { IsReady 4 core.old }
     ensures done { (n : ℕ) → IfOk result (λ r. MayBe n core.new → carried n core.old state.old (open_as opening.now.exported.files.now opening.now.exported.others core.old state.old (Some opening.now.at) opening.now.at opening.now.opener.now (shown_open_args opening.now.args.now) confirmed) ≡ (r.0, r.1, r.2, state.new, core.new)) }
     ensures leaves { OnOk result (Leaves 4 core.old core.new) }
-    ensures keeper { HandedOn keeper.old keeper.new }
+    ensures keeper { OnOk result (HandsTo K.held K.given K.faults K.left core.old core.new keeper.old keeper.new) }
 {
     let (at, opener, args) = (opening.at, opening.opener, opening.args);
     let files = opening.exported.files;
@@ -330,7 +334,7 @@ fn open_anew<K: Keeper>(
     requires ready { IsReady 4 core.old }
     ensures done { (n : ℕ) → IfOk result (λ r. MayBe n core.new → carried n core.old state.old (open_judged opening.now.exported.files.now opening.now.exported.others core.old state.old (Some opening.now.at) opening.now.at opening.now.opener.now (shown_open_args opening.now.args.now) (Judged.Anew number)) ≡ (r.0, r.1, r.2, state.new, core.new)) }
     ensures leaves { OnOk result (Leaves 4 core.old core.new) }
-    ensures keeper { HandedOn keeper.old keeper.new }
+    ensures keeper { OnOk result (HandsTo K.held K.given K.faults K.left core.old core.new keeper.old keeper.new) }
 {
     let Ok(rows) = state.list_stateids(alloc, Whose::Owner(number)) else {
         return Err(AllocError);
@@ -355,7 +359,7 @@ fn open_judged<K: Keeper>(
     requires ready { IsReady 4 core.old }
     ensures done { (n : ℕ) → IfOk result (λ r. MayBe n core.new → carried n core.old state.old (open_judged opening.now.exported.files.now opening.now.exported.others core.old state.old (Some opening.now.at) opening.now.at opening.now.opener.now (shown_open_args opening.now.args.now) judged) ≡ (r.0, r.1, r.2, state.new, core.new)) }
     ensures leaves { OnOk result (Leaves 4 core.old core.new) }
-    ensures keeper { HandedOn keeper.old keeper.new }
+    ensures keeper { OnOk result (HandsTo K.held K.given K.faults K.left core.old core.new keeper.old keeper.new) }
 {
     let current = Some(opening.at);
     match judged {
@@ -407,7 +411,7 @@ fn open_at<K: Keeper>(
     requires ready { IsReady 4 core.old }
     ensures done { (n : ℕ) → IfOk result (λ r. MayBe n core.new → carried n core.old state.old (open_at exported.now.files.now exported.now.others core.old state.old (shown_open_args args.now) current) ≡ (r.0, r.1, r.2, state.new, core.new)) }
     ensures leaves { OnOk result (Leaves 4 core.old core.new) }
-    ensures keeper { HandedOn keeper.old keeper.new }
+    ensures keeper { OnOk result (HandsTo K.held K.given K.faults K.left core.old core.new keeper.old keeper.new) }
 {
     let Some(at) = current else {
         return Ok(ended_as(alloc, NfsStatus::NoFileHandle, current));
@@ -451,7 +455,7 @@ fn open_claimed<K: Keeper>(
     requires ready { IsReady 4 core.old }
     ensures done { (n : ℕ) → IfOk result (λ r. MayBe n core.new → carried n core.old state.old (open_claimed exported.now.files.now exported.now.others core.old state.old current (shown_open_args args.now)) ≡ (r.0, r.1, r.2, state.new, core.new)) }
     ensures leaves { OnOk result (Leaves 4 core.old core.new) }
-    ensures keeper { HandedOn keeper.old keeper.new }
+    ensures keeper { OnOk result (HandsTo K.held K.given K.faults K.left core.old core.new keeper.old keeper.new) }
 {
     let client = claim_client(state, core, &args.claim);
     renew_for(alloc, state, core, client)?;
@@ -473,7 +477,7 @@ pub fn open_file<K: Keeper>(
     requires ready { IsReady 4 core.old }
     ensures done { (n : ℕ) → IfOk result (λ r. MayBe n core.new → carried n core.old state.old (open_file exported.now.files.now exported.now.others core.old state.old current (shown_open_args args.now)) ≡ (r.0, r.1, r.2, state.new, core.new)) }
     ensures leaves { OnOk result (Leaves 4 core.old core.new) }
-    ensures keeper { HandedOn keeper.old keeper.new }
+    ensures keeper { OnOk result (HandsTo K.held K.given K.faults K.left core.old core.new keeper.old keeper.new) }
 {
     let client = number_in(core, args.owner.clientid);
     renew_for(alloc, state, core, client)?;

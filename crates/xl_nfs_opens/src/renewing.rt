@@ -3,6 +3,7 @@ ghost use Rattle.std.specs.Prelude.{◌≡◌, ℕ, [], Some, OnOk};
 ghost use Rattle.xl_core.specs.Deeds.{all_done, all_told_of};
 ghost use Rattle.xl_nfs_opens.specs.Renewing.{number_of, renewals, same_stateid, state_client, stateid_of};
 ghost use Rattle.xl_plan.specs.Budgets.{IsReady};
+ghost use Rattle.xl_plan.specs.Keepers.{IsQuiet};
 ghost use Rattle.xl_nfs_opens.specs.Short.{Leaves};
 
 use crate::leases::renewed;
@@ -70,6 +71,7 @@ pub fn renew_for(
     ensures done { (n : ℕ) → OnOk result (all_done n core.old (renewals state.now client) ≡ core.new) }
     ensures told { (n : ℕ) → OnOk result (all_told_of n core.old (renewals state.now client) ≡ []) }
     ensures leaves { OnOk result (Leaves 0 core.old core.new) }
+    ensures quiet { OnOk result (IsQuiet core.old core.new) }
 {
     let Some(number) = client else {
         return Ok(());

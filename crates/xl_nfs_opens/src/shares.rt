@@ -3,7 +3,6 @@ ghost use Rattle.xl_nfs_opens.specs.Downgrades.{weakens};
 ghost use Rattle.xl_names.specs.declared.name.Name.TheVariants.{NfsShare};
 ghost use Rattle.std.specs.Prelude.{◌≡◌, ℕ, [], IfOk, IfSome, OnOk};
 ghost use Rattle.xl_base.specs.Lists.{IsIn};
-ghost use Rattle.xl_base.specs.Outside.{HandedOn};
 ghost use Rattle.xl_core.specs.Askers.{IsFit};
 ghost use Rattle.xl_core.specs.Decide.{ask};
 ghost use Rattle.xl_core.specs.Deeds.{all_done, all_told_of};
@@ -12,6 +11,7 @@ ghost use Rattle.xl_core.specs.State.{MayBe};
 ghost use Rattle.xl_nfs.specs.Opens.{shown_open_args, shown_open_claim};
 ghost use Rattle.xl_nfs_opens.specs.Opens.{all_rooms, gives, gives_all, rights_of, share_ask, share_by, share_held, given_up, reclaims};
 ghost use Rattle.xl_plan.specs.Budgets.{IsReady};
+ghost use Rattle.xl_plan.specs.Keepers.{HandsTo, IsQuiet};
 ghost use Rattle.xl_nfs_opens.specs.Short.{Leaves, IsNfsAsk};
 
 use crate::delegating::wished_kinds;
@@ -99,6 +99,7 @@ pub(crate) fn give(alloc: Global, core: &mut Core, share: Option<Claim>)
     ensures told { (n : ℕ) → all_told_of n core.old (gives share) ≡ [] }
     ensures state { core.new ≡ given_up core.old share }
     ensures leaves { Leaves 0 core.old core.new }
+    ensures quiet { IsQuiet core.old core.new }
 {
     if let Some(claim) = share {
         let _effects = core.give_back(alloc, &claim);
@@ -124,6 +125,7 @@ pub(crate) fn weaken(alloc: Global, core: &mut Core, share: Option<Claim>, acces
     ensures done { (n : ℕ) → all_done n core.old (weakens share access deny) ≡ core.new }
     ensures told { (n : ℕ) → all_told_of n core.old (weakens share access deny) ≡ [] }
     ensures leaves { Leaves 0 core.old core.new }
+    ensures quiet { IsQuiet core.old core.new }
 {
     let Some(claim) = share else {
         return;
@@ -145,6 +147,7 @@ pub(crate) fn give_all(
     ensures done { (n : ℕ) → OnOk result (all_done n core.old (gives_all core.old opener.now rows.now) ≡ core.new) }
     ensures told { (n : ℕ) → OnOk result (all_told_of n core.old (gives_all core.old opener.now rows.now) ≡ []) }
     ensures leaves { OnOk result (Leaves 0 core.old core.new) }
+    ensures quiet { OnOk result (IsQuiet core.old core.new) }
 {
     let Some((row, rest)) = rows.split_first() else {
         return Ok(());
@@ -188,7 +191,7 @@ pub(crate) fn share_ask(
         blocking: false,
         awaits: false,
         reclaim: reclaims(&args.claim),
-        monitored: false,
+        monitored: true,
         rows: NO_ROWS,
     })
 }
@@ -206,7 +209,7 @@ pub fn asked<K: Keeper>(
     requires ready { IsReady 2 core.old }
     ensures state { (n : ℕ) → IfOk result (λ r. MayBe n core.new → ask n all_rooms core.old request ≡ (r.0, r.1, core.new)) }
     ensures leaves { OnOk result (Leaves 2 core.old core.new) }
-    ensures keeper { HandedOn keeper.old keeper.new }
+    ensures keeper { OnOk result (HandsTo K.held K.given K.faults K.left core.old core.new keeper.old keeper.new) }
 {
     let (answer, effects) = core.ask(alloc, keeper, &request, &ALL_ROOMS)?;
     Ok((answer, effects))

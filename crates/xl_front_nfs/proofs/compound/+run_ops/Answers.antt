@@ -24,3 +24,6 @@ pub returns-then-not-more-clause-course : goal.returns-then-not-more-clause-cour
 returns-then-not-more-clause-course g t c = λ n may.
     course_ends n c.args.exported.now.files.now c.args.exported.now.others (course_of c.args.progress.now) (course_of c.do_op.new.progress) c.args.core.now c.do_op.new.core c.args.state.now c.do_op.new.state c.args.progress.now.effects c.do_op.new.progress.effects c.args.ops.now.count c.args.ops.now.bytes.rest.now c.next_op.new.args.rest.now (shown_op c.in-Ok.op) c.in_ok-more.more
     c.if-ops-eq0.false c.in-Ok.ensures.exact (c.in_ok-more.ensures.done n may) c.in_ok-more.ensures.more c.if-not-more.true
+
+pub returns-clause-keeper : goal.returns-clause-keeper
+returns-clause-keeper g t c = λ before told. c.in_ok-run_ops.ensures.keeper before (c.in_ok-more.ensures.keeper before told)

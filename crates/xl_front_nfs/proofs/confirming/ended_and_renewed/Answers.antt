@@ -13,3 +13,6 @@ returns-clause-state c = λ n. over_done n c.args.core.now c.ended.new.core c.re
 
 pub returns-clause-leaves : goal.returns-clause-leaves
 returns-clause-leaves c = leaves_then c.args.core.now c.ended.new.core c.renewed.new.core 0 0 c.in_ok-effects.ensures.leaves c.in_ok-renewed.ensures.leaves
+
+pub returns-clause-quiet : goal.returns-clause-quiet
+returns-clause-quiet c = λ before now told. c.in_ok-renewed.ensures.quiet before now (c.in_ok-effects.ensures.quiet before now told)

@@ -21,3 +21,6 @@ returns-clause-done g c = λ n may.
 
 pub returns-clause-leaves : goal.returns-clause-leaves
 returns-clause-leaves g c = asked_leaves c.args.core.now c.asked.new.core c.join_answered.new.core c.in_ok-said.ensures.leaves c.in_ok-told.ensures.leaves
+
+pub returns-clause-keeper : goal.returns-clause-keeper
+returns-clause-keeper g c = λ before told. c.in_ok-told.ensures.quiet before _ (c.in_ok-said.ensures.keeper before told)

@@ -19,3 +19,6 @@ returns-clause-done g t c = λ n.
 
 pub returns-clause-told : goal.returns-clause-told
 returns-clause-told g t c = λ n. ends_told n c.args.core.now c.args.state.now c.args.above.now c.args.locks.now
+
+pub returns-clause-keeper : goal.returns-clause-keeper
+returns-clause-keeper g t c = λ before told. c.in_ok-end_each.ensures.keeper before (c.in_ok-give_up.ensures.keeper before told)

@@ -1,8 +1,0 @@
-use Rattle.xl_nfs_laws.proofs.ServerFaultLaws.{lock_sound, unlock_sound}
-use Rattle.xl_nfs_laws.proofs.lock_seqids.server_faults_are_never_told.Goals as goal
-
-pub returns-clause-locks : goal.returns-clause-locks
-returns-clause-locks c = lock_sound
-
-pub returns-clause-unlocks : goal.returns-clause-unlocks
-returns-clause-unlocks c = unlock_sound
