@@ -21,7 +21,7 @@ use Rattle.xl_core.proofs.ChangeLaws.{AskWay, Stays, Tests, Holds, Waits, Frees,
 use Rattle.xl_core.proofs.FrameLaws.{made_way_frame}
 use Rattle.xl_core.proofs.GoodLaws.{asked_way_good}
 use Rattle.xl_core.proofs.RowLaws.{is_refusal}
-use Rattle.xl_core.specs.Askers.{IsFit, asked_claims, asked_whats, is_client, may_wish_for}
+use Rattle.xl_core.specs.Askers.{asked_claims, asked_whats, is_client, may_wish_for}
 use Rattle.xl_core.specs.Decide.{Answered, ask, before_wish, decided, plea_of, way}
 use Rattle.xl_core.specs.Good.{IsGood}
 use Rattle.xl_core.specs.State.{CoreState}
@@ -63,9 +63,14 @@ wish_fits number client level None key is = subst (λ (k : Option (List ℕ)). A
 wish_fits number client level (Some lease) key is =
     subst (λ (k : Option (List ℕ)). AllByRecursion (λ kind. may_wish_for (party_by client number k) true kind ≡ true) (lease_choices lease.state)) (sym is) (kinds_fit client lease.key (kind_of_state lease.state))
 
-pub open_fits : (conn number : ℕ) (row : Open) (c : CreateCallItem) → row.lease ≡ key_asked c → IsFit (open_ask conn number row c)
+pub open_fits : (conn number : ℕ) (row : Open) (c : CreateCallItem) → row.lease ≡ key_asked c → IsOpenAsk (open_ask conn number row c)
 unfolding open_ask
-open_fits conn number row c under = record { act = tt; own = refl; party = party_fits number row; wish = wish_fits number row.client c.oplock_level (lease_asked c) row.lease under }
+open_fits conn number row c under = record {
+  fit = record { act = tt; own = refl; party = party_fits number row; wish = wish_fits number row.client c.oplock_level (lease_asked c) row.lease under };
+  unnamed = refl;
+  reclaim = refl;
+  monitored = refl;
+}
 
 -- and it is the open's
 pub open_owns : (conn number : ℕ) (row : Open) (c : CreateCallItem) → ((open_ask conn number row c).owner ≡ who.Open number) × ((open_ask conn number row c).party ≡ party_for number row)
@@ -84,6 +89,8 @@ asks_open conn number row c party access deny wish own is under = record {
         (subst (λ (kinds : List CacheKind). AllByRecursion (λ kind. may_wish_for (party_for number row) true kind ≡ true) kinds) (sym is) (wish_fits number row.client c.oplock_level (lease_asked c) row.lease under));
   };
   unnamed = refl;
+  reclaim = refl;
+  monitored = refl;
 }
 
 -- ---- a request that is told to wait
@@ -100,7 +107,7 @@ way_number t a r id (Tests c holds e) at = absurd (not_granted (sym (ap (λ (x :
 way_number t a r id (Holds c claims is holds e) at = absurd (not_granted (sym (ap (λ (x : Answered). x.0) e) ∙ at))
 way_number t a r id (Frees c first last holds act file owner e) at = absurd (not_granted (sym (ap (λ (x : Answered). x.0) e) ∙ at))
 way_number t a r id (Gives c d holds act file owner range e) at = absurd (not_granted (sym (ap (λ (x : Answered). x.0) e) ∙ at))
-way_number t a r id (Waits c cs may blocked is holds e) at = numbered (t.counter + 1) id (sym (ap (λ (x : Answered). x.0) e) ∙ at)
+way_number t a r id (Waits c cs waits is holds e) at = numbered (t.counter + 1) id (sym (ap (λ (x : Answered). x.0) e) ∙ at)
 
 -- it has a later number than those that were given out before
 pub queued_after : (n : ℕ) (left : Rooms) (s : CoreState) (a : Ask) (id : ℕ) → IsGood s → is_client a.owner a.party ≡ true → (ask n left s a).0 ≡ answers.Queued id → s.counter < id

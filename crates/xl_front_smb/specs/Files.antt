@@ -93,8 +93,8 @@ abbrev pub choices_by : ℕ → Option Lease → List CacheKind
 choices_by level None = oplock_choices level
 choices_by level (Some lease) = lease_choices lease.state
 
--- the open of this row, which asks for its share of the file, waits for the answers to breaks, and wishes for an oplock, or
--- for the lease that it is to be under
+-- the open of this row, which asks for its share of the file, waits for the end of grace and for the answers to breaks, and wishes
+-- for an oplock, or for the lease that it is to be under
 unfoldable pub open_ask : ℕ → ℕ → Open → CreateCallItem → Ask
 open_ask conn number row c = record {
   file = row.file;

@@ -114,18 +114,18 @@ OnceFound status due None told = told ≡ Failed status
 OnceFound status due (Some x) told = due x told
 
 -- SHARING_VIOLATION if something held stands against the share for good, INSUFFICIENT_RESOURCES if it passes a limit
-abbrev pub IsRefusalDue : Rooms → CoreState → Ask → Claim → SmbStatus → Type 0
-IsRefusalDue left s a claim status.SharingViolation = (c : Claim) × IsClaimDue left s a claim (answers.Conflict c)
-IsRefusalDue left s a claim status.InsufficientResources = (limit : ℕ) × IsClaimDue left s a claim (answers.Full limit)
-IsRefusalDue left s a claim _ = ⊥
+abbrev pub IsRefusalDue : ℕ → Rooms → CoreState → Ask → Claim → SmbStatus → Type 0
+IsRefusalDue n left s a claim status.SharingViolation = (c : Claim) × IsClaimDue n left s a claim (answers.Conflict c)
+IsRefusalDue n left s a claim status.InsufficientResources = (limit : ℕ) × IsClaimDue n left s a claim (answers.Full limit)
+IsRefusalDue n left s a claim _ = ⊥
 
 -- open under this id if the core is due to grant the share, which nothing held stands against, and with this said of
--- its cache; pending if the core is due to let it wait
-abbrev pub IsOpenDue : Rooms → CoreState → Ask → Claim → ℕ → Caching → Told → Type 0
-IsOpenDue left s a claim id cache (Opened opened of) = (opened ≡ id) × (of ≡ cache) × IsClaimDue left s a claim (answers.Granted claim)
-IsOpenDue left s a claim id cache (Pending number) = IsClaimDue left s a claim (answers.Queued number)
-IsOpenDue left s a claim id cache (Failed refused) = IsRefusalDue left s a claim refused
-IsOpenDue left s a claim id cache _ = ⊥
+-- its cache; pending if the core is due to let it wait: while grace runs, or for the answers to the breaks of caches in its way
+abbrev pub IsOpenDue : ℕ → Rooms → CoreState → Ask → Claim → ℕ → Caching → Told → Type 0
+IsOpenDue n left s a claim id cache (Opened opened of) = (opened ≡ id) × (of ≡ cache) × IsClaimDue n left s a claim (answers.Granted claim)
+IsOpenDue n left s a claim id cache (Pending number) = IsClaimDue n left s a claim (answers.Queued number)
+IsOpenDue n left s a claim id cache (Failed refused) = IsRefusalDue n left s a claim refused
+IsOpenDue n left s a claim id cache _ = ⊥
 
 -- the share that the open of this number is for; its party is the lease that it is under, if it is under one
 abbrev pub open_claim : List Name → ℕ → Open → CreateCallItem → Claim
@@ -138,30 +138,30 @@ open_claim names number row c = record {
 
 -- the open of the next number: by what is held once its breaks began; and it is given the cache that it has in
 -- the state that is left
-abbrev pub IsNextDue : CoreState → CoreState → ℕ → Lists → ℕ → CreateCallItem → Open → Told → Type 0
-IsNextDue s t others l conn c row =
+abbrev pub IsNextDue : ℕ → CoreState → CoreState → ℕ → Lists → ℕ → CreateCallItem → Open → Told → Type 0
+IsNextDue n s t others l conn c row =
     let a = open_ask conn (s.counter + 1) row c in
-    IsOpenDue (rooms_left others l) (way (rooms_left others l) (drawn s) a).1 a (open_claim (drawn s).names (s.counter + 1) row c) (id_of s (s.counter + 1)) (caching t (s.counter + 1) row)
+    IsOpenDue n (rooms_left others l) (way (rooms_left others l) (drawn s) a).1 a (open_claim (drawn s).names (s.counter + 1) row c) (id_of s (s.counter + 1)) (caching t (s.counter + 1) row)
 
 -- of the file that is found, which is only opened, under no lease whose key is in use on another file
-abbrev pub IsFileDue : CoreState → CoreState → ℕ → Lists → List ℕ → Place → CreateCallItem → ℕ → Told → Type 0
-IsFileDue s t others l client place c file =
+abbrev pub IsFileDue : ℕ → CoreState → CoreState → ℕ → Lists → List ℕ → Place → CreateCallItem → ℕ → Told → Type 0
+IsFileDue n s t others l client place c file =
     FailsIf (c.disposition == 2) status.ObjectNameCollision
     (FailsIf (is_key_elsewhere file (lease_key client (key_asked c)) l) status.InvalidParameter
     (FailsIf (not (has_room_for_open others l (s.counter + 1))) status.InsufficientResources
-    (IsNextDue s t others l place.connection c (open_row file client place c))))
+    (IsNextDue n s t others l place.connection c (open_row file client place c))))
 
 -- by the disposition and the name
-abbrev pub IsDispositionDue : CoreState → CoreState → List (List ℕ) → ℕ → Lists → List ℕ → Place → CreateCallItem → Told → Type 0
-IsDispositionDue s t files others l client place c =
+abbrev pub IsDispositionDue : ℕ → CoreState → CoreState → List (List ℕ) → ℕ → Lists → List ℕ → Place → CreateCallItem → Told → Type 0
+IsDispositionDue n s t files others l client place c =
     FailsIf (nat_lt 5 c.disposition) status.InvalidParameter
     (FailsIf (overwrites c.disposition) status.NotSupported
-    (OnceFound status.ObjectNameNotFound (IsFileDue s t others l client place c) (file_spelled files c.name)))
+    (OnceFound status.ObjectNameNotFound (IsFileDue n s t others l client place c) (file_spelled files c.name)))
 
 -- of a client, in a session, on a tree connect of it, if this state is left
-abbrev pub IsCreateDue : CoreState → CoreState → List (List ℕ) → ℕ → Lists → ℕ → SmbHead → CreateCallItem → Told → Type 0
-IsCreateDue s t files others l conn h c =
+abbrev pub IsCreateDue : ℕ → CoreState → CoreState → List (List ℕ) → ℕ → Lists → ℕ → SmbHead → CreateCallItem → Told → Type 0
+IsCreateDue n s t files others l conn h c =
     OnceFound status.InvalidParameter
     (λ client. OnceFound status.UserSessionDeleted
-    (λ session. OnceFound status.NetworkNameDeleted (λ (place : Place). IsDispositionDue s t files others l client place c) (tree_named l conn client h session)) (session_named s l conn h.session_id))
+    (λ session. OnceFound status.NetworkNameDeleted (λ (place : Place). IsDispositionDue n s t files others l client place c) (tree_named l conn client h session)) (session_named s l conn h.session_id))
     (client_of conn l)

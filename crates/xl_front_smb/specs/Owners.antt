@@ -69,11 +69,11 @@ IsPartyIn names es number (Some party) = (row : Open) × IsIn (number, row) es �
 -- It draws a number, closes an open under the connection, whose own caches go with it or those of its lease, or one
 -- that a request under it waits to make, cancels a request that came by it, answers the break of an oplock of an open
 -- under it, or of a lease of its client, or asks for an open under it, or for the open of the next number, which is
--- new, if this was the last one.
+-- new, if this was the last one. What is asked is no reclaim, and no record names its client.
 abbrev pub IsOwn : List Name → ℕ → Lists → ℕ → Deed → Type 0
 IsOwn names conn l last Draws = Unit {0}
 IsOwn names conn l last (Closes number party) = IsOpenOn conn l number × IsPartyIn names l.opens number party
-IsOwn names conn l last (Asks left a) = IsAskedBy conn l last a.owner a.party
+IsOwn names conn l last (Asks left a) = IsAskedBy conn l last a.owner a.party × (a.reclaim ≡ false) × (a.monitored ≡ false)
 IsOwn names conn l last (Acks cache to) = IsHolderOn names conn l cache.party
 IsOwn names conn l last (Cancels id) = IsIn id (waiting_under (scope.Connection conn) l)
 IsOwn names conn l last _ = ⊥

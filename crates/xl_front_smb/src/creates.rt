@@ -1,6 +1,6 @@
 //! CREATE.
 ghost use Rattle.std.specs.Prelude.{◌≡◌, ℕ, ◌+◌, ◌<◌, true, Some, None, length, IfOk, OnOk};
-ghost use Rattle.xl_base.specs.Outside.{HandedOn};
+ghost use Rattle.xl_plan.specs.Keepers.{HandsTo};
 ghost use Rattle.xl_smb.specs.Creates.{shown_create_call};
 ghost use Rattle.xl_smb.specs.declared.command.Command.TheVariants as command;
 ghost use Rattle.xl_smb_state.specs.Links.{most_opens, IsHolderLinked, IsOpenLinked};
@@ -251,7 +251,7 @@ fn open_as<K: Keeper>(
     ensures done { (n : ℕ) → IfOk result (λ r. MayBe n core.new → carried n core.old state.old (open_as core.old arrival.now.others state.old arrival.now.head.now target.now.client target.now.place (shown_create_call call.now) target.now.file (core.old.counter + 1)) ≡ (r.0, r.1, state.new, core.new)) }
     ensures leaves { OnOk result (Leaves 3 core.old core.new) }
     ensures answer { IfOk result (λ r. IsAnswer (Some command.Create) r.0) }
-    ensures keeper { HandedOn keeper.old keeper.new }
+    ensures keeper { OnOk result (HandsTo K.held K.given K.faults K.left core.old core.new keeper.old keeper.new) }
 {
     let left = rooms_left(state, arrival.others);
     let number = drawn(core);
@@ -392,7 +392,7 @@ pub(crate) fn create<K: Keeper>(
     ensures done { (n : ℕ) → IfOk result (λ r. MayBe n core.new → carried n core.old state.old (create core.old arrival.now.files.now arrival.now.others state.old arrival.now.conn client.now arrival.now.head.now (shown_create_call call.now)) ≡ (r.0, r.1, state.new, core.new)) }
     ensures leaves { OnOk result (Leaves 3 core.old core.new) }
     ensures answer { IfOk result (λ r. IsAnswer (Some command.Create) r.0) }
-    ensures keeper { HandedOn keeper.old keeper.new }
+    ensures keeper { OnOk result (HandsTo K.held K.given K.faults K.left core.old core.new keeper.old keeper.new) }
 {
     match target_of(core, state, arrival, client, call) {
         Ok(target) => Ok(open_as(alloc, state, core, keeper, arrival, &target, call)?),

@@ -5,6 +5,7 @@ ghost use Rattle.xl_programs.specs.Sent.{FitsFrame};
 ghost use Rattle.xl_smb_state.specs.State.{session_of, sessions_on, trees_of, opens_under};
 ghost use Rattle.xl_smb_state.specs.declared.row.Scope.TheVariants as scope;
 ghost use Rattle.xl_core.specs.Settle.{close_open};
+ghost use Rattle.xl_plan.specs.Keepers.{IsQuiet};
 ghost use Rattle.xl_front_smb.specs.Ending.{party_going, leavers, without_party, leavers_under, all_dismissed, all_ended, all_closed, trees_dropped, session_gone, sessions_gone, connection_gone, requests_gone, requests_dropped, smb_end};
 ghost use Rattle.xl_front_smb.specs.Short.{IsReady, Leaves};
 
@@ -51,6 +52,7 @@ fn end_one(
     ensures state { OnOk result (core.new ≡ (close_open core.old leaver.0 leaver.1).1) }
     ensures told { OnOk result (effects.new ≡ effects.old ++ (close_open core.old leaver.0 leaver.1).0) }
     ensures leaves { OnOk result (Leaves 0 core.old core.new) }
+    ensures quiet { OnOk result (IsQuiet core.old core.new) }
 {
     let told = core.close_open(alloc, leaver.0, leaver.1)?;
     push_all(effects, told)?;
@@ -58,7 +60,7 @@ fn end_one(
 }
 
 /// Ends these opens, one after the other.
-#[tactic(auto, using(xl_plan::proofs::BudgetLaws::leaves_self, xl_smb_locks::proofs::LeaveLaws::leaves_on, xl_smb_locks::proofs::LeaveLaws::ready_on, crate::proofs::EndLaws::ended_step))]
+#[tactic(auto, using(xl_smb_locks::proofs::LeaveLaws::ready_on))]
 fn end_all(
     alloc: Global,
     core: &mut Core,
@@ -67,6 +69,7 @@ fn end_all(
     requires ready { IsReady 0 core.old }
     ensures state { IfOk result (λ effects. all_ended leavers.now core.old ≡ (effects, core.new)) }
     ensures leaves { OnOk result (Leaves 0 core.old core.new) }
+    ensures quiet { OnOk result (IsQuiet core.old core.new) }
 {
     let mut effects = Sequence::new(alloc);
     'opens: for leaver in leavers {
@@ -121,6 +124,7 @@ pub(crate) fn end_under(
     ensures closed { OnOk result (state.new ≡ all_closed (opens_under under state.old) state.old) }
     ensures none { OnOk result (opens_under under state.new ≡ []) }
     ensures leaves { OnOk result (Leaves 0 core.old core.new) }
+    ensures quiet { OnOk result (IsQuiet core.old core.new) }
 {
     let opens = state.under(alloc, under)?;
     let creates = state.creates_under(alloc, under)?;
@@ -237,7 +241,7 @@ pub(crate) fn dismiss_all(
 
 /// The connection of this number ends: each open under it ends with all that it holds and waits for, in the order in which
 /// they came, and so do those that requests under it wait to make; its sessions and tree connects go, and its requests that wait
-/// are forgotten. What the core tells of is handed on; nothing is sent.
+/// are forgotten. What the core tells of is handed on; nothing is sent, and nothing is stored.
 #[tactic(auto, unfolding(crate::specs::Ending::smb_end))]
 pub fn smb_end(
     alloc: Global,
@@ -248,6 +252,7 @@ pub fn smb_end(
     requires ready { IsReady 0 core.old }
     ensures state { IfOk result (λ effects. smb_end front.old core.old conn ≡ (effects, front.new, core.new)) }
     ensures leaves { OnOk result (Leaves 0 core.old core.new) }
+    ensures quiet { OnOk result (IsQuiet core.old core.new) }
 {
     let effects = end_under(alloc, &mut front.state, core, Scope::Connection(conn))?;
     end_connection(alloc, &mut front.state, conn)?;

@@ -7,6 +7,7 @@ ghost use Rattle.xl_smb_state.specs.State.{Lists, open_of, lease_of};
 ghost use Rattle.xl_core.specs.BreakAnswers.{may_be_left};
 ghost use Rattle.xl_core.specs.Deeds.{Acks};
 ghost use Rattle.xl_core.specs.State.{CoreState};
+ghost use Rattle.xl_plan.specs.Keepers.{IsQuiet};
 ghost use Rattle.xl_front_smb.specs.Files.{close_open, close, is_read, leaves_less, is_refused, left_at, ack_by, ack_oplock, may_keep, lease_left, ack_cache, ack_lease, break_by, acknowledge};
 ghost use Rattle.xl_front_smb.specs.Checks.{refused};
 ghost use Rattle.xl_front_smb.specs.Plans.{Does, Fails, carried};
@@ -39,6 +40,7 @@ fn close_open(
     requires there { IsSome (open_of number state.old) }
     ensures done { (n : ℕ) → IfOk result (λ r. carried n core.old state.old (close_open core.old state.old number) ≡ (r.0, r.1, state.new, core.new)) }
     ensures leaves { OnOk result (Leaves 0 core.old core.new) }
+    ensures quiet { OnOk result (IsQuiet core.old core.new) }
     ensures answer { IfOk result (λ r. IsAnswer (Some command.Close) r.0) }
 {
     let party = party_going(core, state, number);
@@ -61,6 +63,7 @@ pub(crate) fn close(
     requires ready { IsReady 0 core.old }
     ensures done { (n : ℕ) → IfOk result (λ r. carried n core.old state.old (close core.old state.old conn client.now head.now id) ≡ (r.0, r.1, state.new, core.new)) }
     ensures leaves { OnOk result (Leaves 0 core.old core.new) }
+    ensures quiet { OnOk result (IsQuiet core.old core.new) }
     ensures answer { IfOk result (λ r. IsAnswer (Some command.Close) r.0) }
 {
     let Some(session) = session_named(core, state, conn, head.session_id) else {
@@ -122,6 +125,7 @@ fn answer_break(
     ensures done { (n : ℕ) (l : Lists) → carried n core.old l (Does (Acks cache.now to ∷ []) l told) ≡ (result.0, result.1, l, core.new) }
     ensures told { result.0 ≡ told }
     ensures leaves { Leaves 0 core.old core.new }
+    ensures quiet { IsQuiet core.old core.new }
 {
     let effects = core.ack(alloc, cache, to);
     (told, effects)
@@ -143,6 +147,7 @@ fn ack_running(
     requires runs { cache.now.what ≡ Cache kind (Some running) }
     ensures done { (n : ℕ) (l : Lists) → carried n core.old l (ack_by l id level cache.now (Cache kind (Some running))) ≡ (result.0, result.1, l, core.new) }
     ensures leaves { Leaves 0 core.old core.new }
+    ensures quiet { IsQuiet core.old core.new }
     ensures answer { IsAnswer (Some command.OplockBreak) result.0 }
 {
     if is_refused(level, kind, Some(running)) {
@@ -172,6 +177,7 @@ fn ack_by(alloc: Global, core: &mut Core, id: u64, level: u8, cache: &Claim) -> 
     requires held { IsIn cache.now core.old.claims }
     ensures done { (n : ℕ) (l : Lists) → carried n core.old l (ack_by l id level cache.now cache.now.what) ≡ (result.0, result.1, l, core.new) }
     ensures leaves { Leaves 0 core.old core.new }
+    ensures quiet { IsQuiet core.old core.new }
     ensures answer { IsAnswer (Some command.OplockBreak) result.0 }
 {
     match cache.what {
@@ -195,6 +201,7 @@ fn ack_oplock(
     requires ready { IsReady 0 core.old }
     ensures done { (n : ℕ) → IfOk result (λ r. carried n core.old state.now (ack_oplock core.old state.now level number) ≡ (r.0, r.1, state.now, core.new)) }
     ensures leaves { OnOk result (Leaves 0 core.old core.new) }
+    ensures quiet { OnOk result (IsQuiet core.old core.new) }
     ensures answer { IfOk result (λ r. IsAnswer (Some command.OplockBreak) r.0) }
 {
     if level == LEASE_LEVEL {
@@ -236,6 +243,7 @@ fn ack_cache(alloc: Global, core: &mut Core, lease: &Lease, cache: &Claim) -> Do
     requires held { IsIn cache.now core.old.claims }
     ensures done { (n : ℕ) (l : Lists) → carried n core.old l (ack_cache l lease.now cache.now) ≡ (result.0, result.1, l, core.new) }
     ensures leaves { Leaves 0 core.old core.new }
+    ensures quiet { IsQuiet core.old core.new }
     ensures answer { IsAnswer (Some command.OplockBreak) result.0 }
 {
     let What::Cache(_, Some(running)) = cache.what else {
@@ -271,6 +279,7 @@ fn ack_lease(
     requires ready { IsReady 0 core.old }
     ensures done { (n : ℕ) → IfOk result (λ r. carried n core.old state.now (ack_lease core.old state.now client.now lease.now) ≡ (r.0, r.1, state.now, core.new)) }
     ensures leaves { OnOk result (Leaves 0 core.old core.new) }
+    ensures quiet { OnOk result (IsQuiet core.old core.new) }
     ensures answer { IfOk result (λ r. IsAnswer (Some command.OplockBreak) r.0) }
 {
     let Some(file) = file_leased(state, client, &lease.key) else {
@@ -296,6 +305,7 @@ fn break_by(
     requires ready { IsReady 0 core.old }
     ensures done { (n : ℕ) → IfOk result (λ r. carried n core.old state.now (break_by core.old state.now conn client.now held) ≡ (r.0, r.1, state.now, core.new)) }
     ensures leaves { OnOk result (Leaves 0 core.old core.new) }
+    ensures quiet { OnOk result (IsQuiet core.old core.new) }
     ensures answer { IfOk result (λ r. IsAnswer (Some command.OplockBreak) r.0) }
 {
     match held {
@@ -324,6 +334,7 @@ pub(crate) fn acknowledge(
     requires ready { IsReady 0 core.old }
     ensures done { (n : ℕ) → IfOk result (λ r. carried n core.old state.now (acknowledge core.old state.now conn client.now head.now held) ≡ (r.0, r.1, state.now, core.new)) }
     ensures leaves { OnOk result (Leaves 0 core.old core.new) }
+    ensures quiet { OnOk result (IsQuiet core.old core.new) }
     ensures answer { IfOk result (λ r. IsAnswer (Some command.OplockBreak) r.0) }
 {
     let Some(_session) = session_named(core, state, conn, head.session_id) else {

@@ -1,7 +1,7 @@
 //! LOCK and CANCEL.
 ghost use Rattle.std.specs.Prelude.{◌≡◌, ℕ, ◌≤◌, ◌==◌, Some, None, length, IfOk, OnOk, option_copied};
 ghost use Rattle.std.specs.List.{list_any};
-ghost use Rattle.xl_base.specs.Outside.{HandedOn};
+ghost use Rattle.xl_plan.specs.Keepers.{HandsTo, IsQuiet};
 ghost use Rattle.xl_smb.specs.Locks.{shown_lock, elements_of};
 ghost use Rattle.xl_smb.specs.declared.command.Command.TheVariants as command;
 ghost use Rattle.xl_smb_state.specs.State.{open_of};
@@ -126,7 +126,7 @@ fn lock_all<K: Keeper>(
     ensures done { (n : ℕ) → IfOk result (λ r. MayBe n core.new → carried n core.old state.old (lock_by arrival.now.conn (waiting_row arrival.now.head.now (place_of held.now.row.holder held.now.place) held.now.number Request.Lock) held.now.number held.now.row elements.now None) ≡ (r.0, r.1, state.new, core.new)) }
     ensures leaves { OnOk result (Leaves 2 core.old core.new) }
     ensures answer { IfOk result (λ r. IsAnswer (Some command.Lock) r.0) }
-    ensures keeper { HandedOn keeper.old keeper.new }
+    ensures keeper { OnOk result (HandsTo K.held K.given K.faults K.left core.old core.new keeper.old keeper.new) }
 {
     let (locking, effects) = xl_smb_locks::lock(
         alloc,
@@ -157,7 +157,7 @@ fn unlock_all<K: Keeper>(
     ensures done { (n : ℕ) → IfOk result (λ r. carried n core.old state.now (unlock_by state.now (unlocks core.old number row.now elements.now)) ≡ (r.0, r.1, state.now, core.new)) }
     ensures leaves { OnOk result (Leaves 0 core.old core.new) }
     ensures answer { IfOk result (λ r. IsAnswer (Some command.Lock) r.0) }
-    ensures keeper { HandedOn keeper.old keeper.new }
+    ensures keeper { OnOk result (HandsTo K.held K.given K.faults K.left core.old core.new keeper.old keeper.new) }
 {
     let locking = xl_smb_locks::unlock(alloc, core, keeper, number, row, elements)?;
     Ok((told_as(locking), Sequence::new(alloc)))
@@ -178,7 +178,7 @@ fn lock_on<K: Keeper>(
     ensures done { (n : ℕ) → IfOk result (λ r. MayBe n core.new → carried n core.old state.old (lock_on core.old state.old arrival.now.conn arrival.now.head.now held.now.number held.now.place elements.now held.now.row) ≡ (r.0, r.1, state.new, core.new)) }
     ensures leaves { OnOk result (Leaves 2 core.old core.new) }
     ensures answer { IfOk result (λ r. IsAnswer (Some command.Lock) r.0) }
-    ensures keeper { HandedOn keeper.old keeper.new }
+    ensures keeper { OnOk result (HandsTo K.held K.given K.faults K.left core.old core.new keeper.old keeper.new) }
 {
     if !is_count(elements.len()) {
         return Ok(failed(alloc, SmbStatus::InvalidParameter));
@@ -245,7 +245,7 @@ pub(crate) fn lock<K: Keeper>(
     ensures done { (n : ℕ) → IfOk result (λ r. MayBe n core.new → carried n core.old state.old (lock core.old state.old arrival.now.conn client.now arrival.now.head.now (shown_lock call.now)) ≡ (r.0, r.1, state.new, core.new)) }
     ensures leaves { OnOk result (Leaves 2 core.old core.new) }
     ensures answer { IfOk result (λ r. IsAnswer (Some command.Lock) r.0) }
-    ensures keeper { HandedOn keeper.old keeper.new }
+    ensures keeper { OnOk result (HandsTo K.held K.given K.faults K.left core.old core.new keeper.old keeper.new) }
 {
     match held_of(core, state, arrival, client, call) {
         Ok(held) => {
@@ -311,6 +311,7 @@ pub(crate) fn cancel(
     requires ready { IsReady 0 core.old }
     ensures done { (n : ℕ) → IfOk result (λ r. carried n core.old state.now (cancel core.old state.now conn head.now) ≡ (r.0, r.1, state.now, core.new)) }
     ensures leaves { OnOk result (Leaves 0 core.old core.new) }
+    ensures quiet { OnOk result (IsQuiet core.old core.new) }
     ensures answer { IfOk result (λ r. IsAnswer (Some command.Cancel) r.0) }
 {
     let Some(id) = request_named(state, conn, head.message_id, head.route) else {

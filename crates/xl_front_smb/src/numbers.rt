@@ -1,6 +1,7 @@
 //! Numbers that are given out.
 ghost use Rattle.std.specs.Prelude.{◌≡◌, ◌+◌};
 ghost use Rattle.xl_core.specs.State.{drawn};
+ghost use Rattle.xl_plan.specs.Keepers.{IsQuiet};
 ghost use Rattle.xl_front_smb.specs.Short.{IsReady, Leaves};
 
 use xl_core::Core;
@@ -13,6 +14,7 @@ pub(crate) fn drawn(core: &mut Core) -> u32
     ensures number { result ≡ core.old.counter + 1 }
     ensures stable { core.new.stable ≡ core.old.stable }
     ensures leaves { Leaves 1 core.old core.new }
+    ensures quiet { IsQuiet core.old core.new }
 {
     core.draw()
 }

@@ -1,6 +1,6 @@
 //! A request, by its command.
 ghost use Rattle.std.specs.Prelude.{◌≡◌, ℕ, Some, Ok, IfOk, OnOk};
-ghost use Rattle.xl_base.specs.Outside.{HandedOn};
+ghost use Rattle.xl_plan.specs.Keepers.{HandsTo};
 ghost use Rattle.xl_smb.specs.Calls.{shown_call, command_of_call};
 ghost use Rattle.xl_smb.specs.Heads.{command_of, head_of};
 ghost use Rattle.xl_smb_state.specs.State.{client_of};
@@ -42,7 +42,7 @@ fn commanded<K: Keeper>(
     ensures done { (n : ℕ) → IfOk result (λ r. MayBe n core.new → carried n core.old state.old (commanded core.old arrival.now.files.now arrival.now.others state.old arrival.now.conn arrival.now.head.now (shown_call call.now) client.now) ≡ (r.0, r.1, state.new, core.new)) }
     ensures leaves { OnOk result (Leaves 3 core.old core.new) }
     ensures answer { IfOk result (λ r. IsAnswer (command_of_call (shown_call call.now)) r.0) }
-    ensures keeper { HandedOn keeper.old keeper.new }
+    ensures keeper { OnOk result (HandsTo K.held K.given K.faults K.left core.old core.new keeper.old keeper.new) }
 {
     let conn = arrival.conn;
     let head = arrival.head;
@@ -78,7 +78,7 @@ fn once_negotiated<K: Keeper>(
     ensures done { (n : ℕ) → IfOk result (λ r. MayBe n core.new → carried n core.old state.old (negotiated_by (commanded core.old arrival.now.files.now arrival.now.others state.old arrival.now.conn arrival.now.head.now (shown_call call.now)) (client_of arrival.now.conn state.old)) ≡ (r.0, r.1, state.new, core.new)) }
     ensures leaves { OnOk result (Leaves 3 core.old core.new) }
     ensures answer { IfOk result (λ r. IsAnswer (command_of_call (shown_call call.now)) r.0) }
-    ensures keeper { HandedOn keeper.old keeper.new }
+    ensures keeper { OnOk result (HandsTo K.held K.given K.faults K.left core.old core.new keeper.old keeper.new) }
 {
     match client_on(state, arrival.conn) {
         Some(client) => Ok(commanded(alloc, state, core, keeper, arrival, &client, call)?),
@@ -100,7 +100,7 @@ fn planned<K: Keeper>(
     ensures done { (n : ℕ) → IfOk result (λ r. MayBe n core.new → carried n core.old state.old (planned core.old arrival.now.files.now arrival.now.others state.old arrival.now.conn arrival.now.head.now (shown_call call.now)) ≡ (r.0, r.1, state.new, core.new)) }
     ensures leaves { OnOk result (Leaves 3 core.old core.new) }
     ensures answer { IfOk result (λ r. IsAnswer (command_of_call (shown_call call.now)) r.0) }
-    ensures keeper { HandedOn keeper.old keeper.new }
+    ensures keeper { OnOk result (HandsTo K.held K.given K.faults K.left core.old core.new keeper.old keeper.new) }
 {
     match call {
         SmbCall::Negotiate(args) => Ok(negotiate(alloc, state, arrival.conn, args)),
@@ -133,7 +133,7 @@ pub(crate) fn requested<K: Keeper>(
     ensures done { (n : ℕ) → IfOk result (λ r. MayBe n core.new → carried n core.old state.old (requested core.old arrival.now.files.now arrival.now.others state.old arrival.now.conn bytes.now arrival.now.head.now) ≡ (r.0, r.1, state.new, core.new)) }
     ensures leaves { OnOk result (Leaves 3 core.old core.new) }
     ensures answer { IfOk result (λ r. IsAnswer (command_of arrival.now.head.now.command) r.0) }
-    ensures keeper { HandedOn keeper.old keeper.new }
+    ensures keeper { OnOk result (HandsTo K.held K.given K.faults K.left core.old core.new keeper.old keeper.new) }
 {
     let head = arrival.head;
     if head.next_command != 0 || head.command > Command::OplockBreak.number() {

@@ -6,6 +6,7 @@ ghost use Rattle.xl_smb_state.specs.State.{client_of, session_of, tree_of};
 ghost use Rattle.xl_smb_state.specs.Links.{IsHolderLinked};
 ghost use Rattle.xl_smb_state.specs.declared.row.Holder.TheVariants as holder;
 ghost use Rattle.xl_core.specs.State.{CoreState};
+ghost use Rattle.xl_plan.specs.Keepers.{IsQuiet};
 ghost use Rattle.xl_front_smb.specs.Plans.{carried};
 ghost use Rattle.xl_front_smb.specs.Replies.{IsAnswer};
 ghost use Rattle.xl_front_smb.specs.Sessions.{negotiate, set_up_as, has_room_for_session, set_up, session_setup, logoff, connect_as, has_room_for_tree, connect, tree_connect, disconnect, tree_disconnect};
@@ -74,6 +75,7 @@ fn set_up_as(
     requires room { has_room_for_session state.old conn (core.old.counter + 1) ≡ true }
     ensures done { (n : ℕ) → IfOk result (λ r. carried n core.old state.old (set_up_as core.old state.old conn (core.old.counter + 1)) ≡ (r.0, r.1, state.new, core.new)) }
     ensures leaves { OnOk result (Leaves 1 core.old core.new) }
+    ensures quiet { OnOk result (IsQuiet core.old core.new) }
     ensures answer { IfOk result (λ r. IsAnswer (Some command.SessionSetup) r.0) }
 {
     let number = drawn(core);
@@ -93,6 +95,7 @@ fn set_up(
     requires client { is_some (client_of conn state.old) ≡ true }
     ensures done { (n : ℕ) → IfOk result (λ r. carried n core.old state.old (set_up core.old state.old conn) ≡ (r.0, r.1, state.new, core.new)) }
     ensures leaves { OnOk result (Leaves 1 core.old core.new) }
+    ensures quiet { OnOk result (IsQuiet core.old core.new) }
     ensures answer { IfOk result (λ r. IsAnswer (Some command.SessionSetup) r.0) }
 {
     if !has_room_for_session(alloc, state, conn, core.counter() + 1)? {
@@ -115,6 +118,7 @@ pub(crate) fn session_setup(
     requires client { is_some (client_of conn state.old) ≡ true }
     ensures done { (n : ℕ) → IfOk result (λ r. carried n core.old state.old (session_setup core.old state.old conn head.now) ≡ (r.0, r.1, state.new, core.new)) }
     ensures leaves { OnOk result (Leaves 1 core.old core.new) }
+    ensures quiet { OnOk result (IsQuiet core.old core.new) }
     ensures answer { IfOk result (λ r. IsAnswer (Some command.SessionSetup) r.0) }
 {
     if head.session_id == 0 {
@@ -139,6 +143,7 @@ pub(crate) fn logoff(
     requires ready { IsReady 0 core.old }
     ensures done { (n : ℕ) → IfOk result (λ r. carried n core.old state.old (logoff core.old state.old conn head.now) ≡ (r.0, r.1, state.new, core.new)) }
     ensures leaves { OnOk result (Leaves 0 core.old core.new) }
+    ensures quiet { OnOk result (IsQuiet core.old core.new) }
     ensures answer { IfOk result (λ r. IsAnswer (Some command.Logoff) r.0) }
 {
     let Some(session) = session_named(core, state, conn, head.session_id) else {
@@ -176,6 +181,7 @@ fn connect_as(
     requires room { has_room_for_tree state.old conn (core.old.counter + 1) ≡ true }
     ensures done { (n : ℕ) → IfOk result (λ r. carried n core.old state.old (connect_as state.old conn session (core.old.counter + 1)) ≡ (r.0, r.1, state.new, core.new)) }
     ensures leaves { OnOk result (Leaves 1 core.old core.new) }
+    ensures quiet { OnOk result (IsQuiet core.old core.new) }
     ensures answer { IfOk result (λ r. IsAnswer (Some command.TreeConnect) r.0) }
 {
     let number = drawn(core);
@@ -201,6 +207,7 @@ fn connect(
     requires session { session_of session state.old ≡ Some (record { connection = conn }) }
     ensures done { (n : ℕ) → IfOk result (λ r. carried n core.old state.old (connect core.old state.old conn path.now session) ≡ (r.0, r.1, state.new, core.new)) }
     ensures leaves { OnOk result (Leaves 1 core.old core.new) }
+    ensures quiet { OnOk result (IsQuiet core.old core.new) }
     ensures answer { IfOk result (λ r. IsAnswer (Some command.TreeConnect) r.0) }
 {
     if !has_room_for_tree(alloc, state, conn, core.counter() + 1)? {
@@ -226,6 +233,7 @@ pub(crate) fn tree_connect(
     requires ready { IsReady 1 core.old }
     ensures done { (n : ℕ) → IfOk result (λ r. carried n core.old state.old (tree_connect core.old state.old conn head.now path.now) ≡ (r.0, r.1, state.new, core.new)) }
     ensures leaves { OnOk result (Leaves 1 core.old core.new) }
+    ensures quiet { OnOk result (IsQuiet core.old core.new) }
     ensures answer { IfOk result (λ r. IsAnswer (Some command.TreeConnect) r.0) }
 {
     let Some(session) = session_named(core, state, conn, head.session_id) else {
@@ -247,6 +255,7 @@ fn disconnect(
     requires there { IsSome (tree_of place.now.tree state.old) }
     ensures done { (n : ℕ) → IfOk result (λ r. carried n core.old state.old (disconnect core.old state.old place.now) ≡ (r.0, r.1, state.new, core.new)) }
     ensures leaves { OnOk result (Leaves 0 core.old core.new) }
+    ensures quiet { OnOk result (IsQuiet core.old core.new) }
     ensures answer { IfOk result (λ r. IsAnswer (Some command.TreeDisconnect) r.0) }
 {
     let effects = end_under(alloc, state, core, Scope::Tree(place.tree))?;
@@ -267,6 +276,7 @@ pub(crate) fn tree_disconnect(
     requires ready { IsReady 0 core.old }
     ensures done { (n : ℕ) → IfOk result (λ r. carried n core.old state.old (tree_disconnect core.old state.old conn client.now head.now) ≡ (r.0, r.1, state.new, core.new)) }
     ensures leaves { OnOk result (Leaves 0 core.old core.new) }
+    ensures quiet { OnOk result (IsQuiet core.old core.new) }
     ensures answer { IfOk result (λ r. IsAnswer (Some command.TreeDisconnect) r.0) }
 {
     let Some(session) = session_named(core, state, conn, head.session_id) else {

@@ -2,7 +2,7 @@
 ghost use Rattle.std.specs.Prelude.{◌≡◌, ℕ, ◌≤◌, length, option_map, IfSome, IfOk, OnOk};
 ghost use Rattle.std.specs.List.{AllByRecursion};
 ghost use Rattle.xl_base.specs.Limits.{most_message_bytes};
-ghost use Rattle.xl_base.specs.Outside.{HandedOn};
+ghost use Rattle.xl_plan.specs.Keepers.{HandsTo};
 ghost use Rattle.xl_programs.specs.Sent.{FitsFrame};
 ghost use Rattle.xl_core.specs.State.{MayBe};
 ghost use Rattle.xl_front_smb.specs.FrontSmb.{sent_by, smb_step, smb_shown};
@@ -36,8 +36,9 @@ fn sent_by(alloc: Global, conn: u64, reply: Option<Vec<u8>>) -> Result<Sequence<
 /// its own reply, if there is one, each without its frame and at most 65,536 bytes long; and what the core told of
 /// besides. The other fronts have this number of opens. NEGOTIATE, SESSION_SETUP, LOGOFF, TREE_CONNECT,
 /// TREE_DISCONNECT, CREATE, CLOSE, LOCK, CANCEL, ECHO and acknowledgements of the breaks of oplocks and leases are
-/// served. A CANCEL gets no reply, nor does what has no header of SMB 2.1 or is a reply by its flags. The breaks that
-/// begin for it come first among what the core tells of. After an error nothing is known of the front and the core.
+/// served. A CREATE that the core lets wait, for the end of grace or for a cache in its way, is pending, and so is a LOCK. A
+/// CANCEL gets no reply, nor does what has no header of SMB 2.1 or is a reply by its flags. The breaks that begin for it come
+/// first among what the core tells of. After an error nothing is known of the front and the core.
 #[tactic(auto, unfolding(crate::specs::FrontSmb::smb_step), using(xl_plan::proofs::BudgetLaws::leaves_self, xl_plan::proofs::BudgetLaws::leaves_more, xl_plan::proofs::BudgetLaws::ready_less, xl_smb_locks::proofs::FinalLaws::fit_both))]
 pub fn smb_step<K: Keeper>(
     alloc: Global,
@@ -52,7 +53,7 @@ pub fn smb_step<K: Keeper>(
     ensures state { (n : ℕ) → IfOk result (λ r. MayBe n core.new → smb_step n exports.now others front.old core.old packet.now.conn packet.now.bytes.now ≡ (r.0, r.1, front.new, core.new)) }
     ensures leaves { OnOk result (Leaves 3 core.old core.new) }
     ensures little { IfOk result (λ r. AllByRecursion FitsFrame r.0) }
-    ensures keeper { HandedOn keeper.old keeper.new }
+    ensures keeper { OnOk result (HandsTo K.held K.given K.faults K.left core.old core.new keeper.old keeper.new) }
 {
     let Ok(head) = read_head(packet.bytes) else {
         return Ok((Sequence::new(alloc), Sequence::new(alloc)));

@@ -3,7 +3,7 @@ use Rattle.std.proofs.Common.{◌≡◌, ◌↔◌, ℕ, ◌+◌, Bool, true, fa
 use Rattle.std.specs.Prelude.{◌==◌, nat_eq, nat_lt, map}
 use Rattle.std.specs.List.{AllByRecursion}
 use Rattle.std.specs.Map.{lookup}
-use Rattle.std.proofs.lemmas.Bool.{cases_Bool, true≢false, false≢true}
+use Rattle.std.proofs.lemmas.Bool.{cases_Bool}
 use Rattle.xl_base.specs.declared.name.Owner.TheVariants as owners
 use Rattle.xl_matrix.specs.declared.claim.Claim.{Claim}
 use Rattle.xl_matrix.specs.declared.claim.What.TheVariants.{Share}
@@ -44,59 +44,62 @@ use Rattle.xl_front_smb.proofs.AckLaws.{not_false}
 use Rattle.xl_front_smb.proofs.PlanLaws.{open_new}
 use Rattle.xl_smb_laws.proofs.PlanWalks.{walk_created, walk_refused}
 use Rattle.xl_smb_locks.proofs.FitLaws.{party_fits}
+use Rattle.xl_smb_locks.proofs.PlainLaws.{no_other}
+use Rattle.xl_smb_locks.specs.Short.{IsOpenAsk}
+use Rattle.xl_front_smb.proofs.AskLaws.{open_fits}
 use Rattle.xl_smb_locks.specs.Levels.{caching}
 use Rattle.xl_smb_locks.specs.declared.levels.Caching.{Caching}
 use Rattle.xl_smb_state.specs.declared.row.Waiting.{Waiting}
 
 -- ---- by what the core is due to answer
 
-due_forth : (left : Rooms) (s : CoreState) (a : Ask) (claim : Claim) (id : ℕ) (cache : Caching) (answer : Answer) → a.reclaim ≡ false → a.awaits ≡ true → IsClaimDue left s a claim answer → IsOpenDue left s a claim id cache (opened_told id cache answer)
-due_forth left s a claim id cache (answers.Granted c) timely rests due = (refl, refl, (refl, due.1, due.2, due.3))
-due_forth left s a claim id cache (answers.Conflict c) timely rests due = (c, due)
-due_forth left s a claim id cache (answers.Full limit) timely rests due = (limit, due)
-due_forth left s a claim id cache (answers.Queued number) timely rests due = due
-due_forth left s a claim id cache (answers.NoGrace clock) timely rests due = absurd (false≢true (sym timely ∙ due.1))
-due_forth left s a claim id cache (answers.Recall c) timely rests due = absurd (true≢false (sym rests ∙ due.1))
-due_forth left s a claim id cache (answers.Grace until) timely rests due = absurd due
-due_forth left s a claim id cache answers.NotRecorded timely rests due = absurd due
-due_forth left s a claim id cache answers.NotHeld timely rests due = absurd due
-due_forth left s a claim id cache answers.StoreFailed timely rests due = absurd due
+due_forth : (n : ℕ) (left : Rooms) (s : CoreState) (a : Ask) (claim : Claim) (id : ℕ) (cache : Caching) (answer : Answer) → IsOpenAsk a → a.awaits ≡ true → IsClaimDue n left s a claim answer → IsOpenDue n left s a claim id cache (opened_told id cache answer)
+due_forth n left s a claim id cache (answers.Granted c) is rests due = (refl, refl, (refl, due.1, due.2, due.3, due.4))
+due_forth n left s a claim id cache (answers.Conflict c) is rests due = (c, due)
+due_forth n left s a claim id cache (answers.Full limit) is rests due = (limit, due)
+due_forth n left s a claim id cache (answers.Queued number) is rests due = due
+due_forth n left s a claim id cache (answers.NoGrace clock) is rests due = absurd (no_other n left s a claim (answers.NoGrace clock) is rests refl due)
+due_forth n left s a claim id cache (answers.Recall c) is rests due = absurd (no_other n left s a claim (answers.Recall c) is rests refl due)
+due_forth n left s a claim id cache (answers.Grace until) is rests due = absurd (no_other n left s a claim (answers.Grace until) is rests refl due)
+due_forth n left s a claim id cache answers.NotRecorded is rests due = absurd (no_other n left s a claim answers.NotRecorded is rests refl due)
+due_forth n left s a claim id cache answers.StoreFailed is rests due = absurd (no_other n left s a claim answers.StoreFailed is rests refl due)
+due_forth n left s a claim id cache answers.NotHeld is rests due = absurd due
 
-refusal_back : (left : Rooms) (s : CoreState) (a : Ask) (claim : Claim) (id : ℕ) (cache : Caching) (r : Answer) → ((answer : Answer) → IsClaimDue left s a claim answer → r ≡ answer) → (refused : SmbStatus) → IsRefusalDue left s a claim refused → opened_told id cache r ≡ Failed refused
-refusal_back left s a claim id cache r exact status.SharingViolation due = ap (opened_told id cache) (exact (answers.Conflict due.0) due.1)
-refusal_back left s a claim id cache r exact status.InsufficientResources due = ap (opened_told id cache) (exact (answers.Full due.0) due.1)
-refusal_back left s a claim id cache r exact status.InvalidParameter due = absurd due
-refusal_back left s a claim id cache r exact status.ObjectNameNotFound due = absurd due
-refusal_back left s a claim id cache r exact status.ObjectNameCollision due = absurd due
-refusal_back left s a claim id cache r exact status.NotSupported due = absurd due
-refusal_back left s a claim id cache r exact status.NetworkNameDeleted due = absurd due
-refusal_back left s a claim id cache r exact status.BadNetworkName due = absurd due
-refusal_back left s a claim id cache r exact status.InvalidOplockProtocol due = absurd due
-refusal_back left s a claim id cache r exact status.FileClosed due = absurd due
-refusal_back left s a claim id cache r exact status.InvalidDeviceState due = absurd due
-refusal_back left s a claim id cache r exact status.UserSessionDeleted due = absurd due
-refusal_back left s a claim id cache r exact status.LockNotGranted due = absurd due
-refusal_back left s a claim id cache r exact status.RangeNotLocked due = absurd due
-refusal_back left s a claim id cache r exact status.InvalidLockRange due = absurd due
-refusal_back left s a claim id cache r exact status.Cancelled due = absurd due
-refusal_back left s a claim id cache r exact status.Unsuccessful due = absurd due
-refusal_back left s a claim id cache r exact status.RequestNotAccepted due = absurd due
+refusal_back : (n : ℕ) (left : Rooms) (s : CoreState) (a : Ask) (claim : Claim) (id : ℕ) (cache : Caching) (r : Answer) → ((answer : Answer) → IsClaimDue n left s a claim answer → r ≡ answer) → (refused : SmbStatus) → IsRefusalDue n left s a claim refused → opened_told id cache r ≡ Failed refused
+refusal_back n left s a claim id cache r exact status.SharingViolation due = ap (opened_told id cache) (exact (answers.Conflict due.0) due.1)
+refusal_back n left s a claim id cache r exact status.InsufficientResources due = ap (opened_told id cache) (exact (answers.Full due.0) due.1)
+refusal_back n left s a claim id cache r exact status.InvalidParameter due = absurd due
+refusal_back n left s a claim id cache r exact status.ObjectNameNotFound due = absurd due
+refusal_back n left s a claim id cache r exact status.ObjectNameCollision due = absurd due
+refusal_back n left s a claim id cache r exact status.NotSupported due = absurd due
+refusal_back n left s a claim id cache r exact status.NetworkNameDeleted due = absurd due
+refusal_back n left s a claim id cache r exact status.BadNetworkName due = absurd due
+refusal_back n left s a claim id cache r exact status.InvalidOplockProtocol due = absurd due
+refusal_back n left s a claim id cache r exact status.FileClosed due = absurd due
+refusal_back n left s a claim id cache r exact status.InvalidDeviceState due = absurd due
+refusal_back n left s a claim id cache r exact status.UserSessionDeleted due = absurd due
+refusal_back n left s a claim id cache r exact status.LockNotGranted due = absurd due
+refusal_back n left s a claim id cache r exact status.RangeNotLocked due = absurd due
+refusal_back n left s a claim id cache r exact status.InvalidLockRange due = absurd due
+refusal_back n left s a claim id cache r exact status.Cancelled due = absurd due
+refusal_back n left s a claim id cache r exact status.Unsuccessful due = absurd due
+refusal_back n left s a claim id cache r exact status.RequestNotAccepted due = absurd due
 
-due_back : (left : Rooms) (s : CoreState) (a : Ask) (claim : Claim) (id : ℕ) (cache : Caching) (r : Answer) → ((answer : Answer) → IsClaimDue left s a claim answer → r ≡ answer) → (told : Told) → IsOpenDue left s a claim id cache told → opened_told id cache r ≡ told
-due_back left s a claim id cache r exact (Opened opened of) due = ap (opened_told id cache) (exact (answers.Granted claim) due.2) ∙ (λ i. Opened ((sym due.0) i) ((sym due.1) i))
-due_back left s a claim id cache r exact (Pending number) due = ap (opened_told id cache) (exact (answers.Queued number) due)
-due_back left s a claim id cache r exact (Failed refused) due = refusal_back left s a claim id cache r exact refused due
-due_back left s a claim id cache r exact Nothing due = absurd due
-due_back left s a claim id cache r exact Negotiated due = absurd due
-due_back left s a claim id cache r exact (SetUp session) due = absurd due
-due_back left s a claim id cache r exact LoggedOff due = absurd due
-due_back left s a claim id cache r exact (Connected tree) due = absurd due
-due_back left s a claim id cache r exact Disconnected due = absurd due
-due_back left s a claim id cache r exact Closed due = absurd due
-due_back left s a claim id cache r exact Locked due = absurd due
-due_back left s a claim id cache r exact (Acknowledged opened of) due = absurd due
-due_back left s a claim id cache r exact (Answered lease) due = absurd due
-due_back left s a claim id cache r exact Echoed due = absurd due
+due_back : (n : ℕ) (left : Rooms) (s : CoreState) (a : Ask) (claim : Claim) (id : ℕ) (cache : Caching) (r : Answer) → ((answer : Answer) → IsClaimDue n left s a claim answer → r ≡ answer) → (told : Told) → IsOpenDue n left s a claim id cache told → opened_told id cache r ≡ told
+due_back n left s a claim id cache r exact (Opened opened of) due = ap (opened_told id cache) (exact (answers.Granted claim) due.2) ∙ (λ i. Opened ((sym due.0) i) ((sym due.1) i))
+due_back n left s a claim id cache r exact (Pending number) due = ap (opened_told id cache) (exact (answers.Queued number) due)
+due_back n left s a claim id cache r exact (Failed refused) due = refusal_back n left s a claim id cache r exact refused due
+due_back n left s a claim id cache r exact Nothing due = absurd due
+due_back n left s a claim id cache r exact Negotiated due = absurd due
+due_back n left s a claim id cache r exact (SetUp session) due = absurd due
+due_back n left s a claim id cache r exact LoggedOff due = absurd due
+due_back n left s a claim id cache r exact (Connected tree) due = absurd due
+due_back n left s a claim id cache r exact Disconnected due = absurd due
+due_back n left s a claim id cache r exact Closed due = absurd due
+due_back n left s a claim id cache r exact Locked due = absurd due
+due_back n left s a claim id cache r exact (Acknowledged opened of) due = absurd due
+due_back n left s a claim id cache r exact (Answered lease) due = absurd due
+due_back n left s a claim id cache r exact Echoed due = absurd due
 
 -- this is told exactly where that is due
 abbrev Exactly : Told → (Told → Type 0) → Type 0
@@ -106,16 +109,16 @@ Exactly is due = (told : Told) → (is ≡ told) ↔ due told
 abbrev Comes : Outcome → (CoreState → Told → Type 0) → Type 0
 Comes r due = Exactly r.0 (due r.3)
 
-open_exactly : (n : ℕ) (left : Rooms) (s : CoreState) (conn number id : ℕ) (cache : Caching) (row : Open) (c : CreateCallItem) → Exactly (opened_told id cache (ask n left s (open_ask conn number row c)).0) (IsOpenDue left (way left s (open_ask conn number row c)).1 (open_ask conn number row c) (open_claim s.names number row c) id cache)
+open_exactly : (n : ℕ) (left : Rooms) (s : CoreState) (conn number id : ℕ) (cache : Caching) (row : Open) (c : CreateCallItem) → row.lease ≡ key_asked c → Exactly (opened_told id cache (ask n left s (open_ask conn number row c)).0) (IsOpenDue n left (way left s (open_ask conn number row c)).1 (open_ask conn number row c) (open_claim s.names number row c) id cache)
 unfolding open_ask
-open_exactly n left s conn number id cache row c told =
+open_exactly n left s conn number id cache row c under told =
     let a = open_ask conn number row c in
     let claim = open_claim s.names number row c in
     let r = (ask n left s a).0 in
     let t = (way left s a).1 in
     let what = Share (access_of c.desired_access) (deny_of (access_of c.desired_access) c.share_access) in (
-      λ e. subst (IsOpenDue left t a claim id cache) e (due_forth left t a claim id cache r refl refl ((ask_due n left s a what r refl).0 refl)),
-      λ due. due_back left t a claim id cache r (λ answer k. (ask_due n left s a what answer refl).1 k) told due,
+      λ e. subst (IsOpenDue n left t a claim id cache) e (due_forth n left t a claim id cache r (open_fits conn number row c under) refl ((ask_due n left s a what r refl).0 refl)),
+      λ due. due_back n left t a claim id cache r (λ answer k. (ask_due n left s a what answer refl).1 k) told due,
     )
 
 -- ---- by the checks before
@@ -152,35 +155,35 @@ module _ (n : ℕ) (s : CoreState) (l : Lists) where
   by_found None refused go due rest = failed_exactly refused
   by_found (Some x) refused go due rest = rest x
 
-  file_exactly : (others : ℕ) (h : SmbHead) (client : List ℕ) (place : Place) (c : CreateCallItem) (file : ℕ) → Comes (carried n s l (file_plan s others l h client place c file)) (λ t. IsFileDue s t others l client place c file)
+  file_exactly : (others : ℕ) (h : SmbHead) (client : List ℕ) (place : Place) (c : CreateCallItem) (file : ℕ) → Comes (carried n s l (file_plan s others l h client place c file)) (λ t. IsFileDue n s t others l client place c file)
   file_exactly others h client place c file =
       let row = open_row file client place c in
       let opens = open_as s others l h client place c file (s.counter + 1) in
-      let next = λ (t : CoreState). IsNextDue s t others l place.connection c row in
+      let next = λ (t : CoreState). IsNextDue n s t others l place.connection c row in
       let full = not (has_room_for_open others l (s.counter + 1)) in
       let room = λ (t : CoreState). FailsIf full status.InsufficientResources (next t) in
       let elsewhere = is_key_elsewhere file (lease_key client (key_asked c)) l in
       by_check (c.disposition == 2) status.ObjectNameCollision (if elsewhere then Fails status.InvalidParameter else if full then Fails status.InsufficientResources else opens) (λ t. FailsIf elsewhere status.InvalidParameter (room t))
       (by_check elsewhere status.InvalidParameter (if full then Fails status.InsufficientResources else opens) room
-      (by_check full status.InsufficientResources opens next (open_exactly n (rooms_left others l) (drawn s) place.connection (s.counter + 1) (id_of s (s.counter + 1)) _ row c)))
+      (by_check full status.InsufficientResources opens next (open_exactly n (rooms_left others l) (drawn s) place.connection (s.counter + 1) (id_of s (s.counter + 1)) _ row c refl)))
 
-  create_exactly : (files : List (List ℕ)) (others : ℕ) (h : SmbHead) (client : List ℕ) (c : CreateCallItem) (place : Place) → Comes (carried n s l (create_on s files others l h client c place)) (λ t. IsDispositionDue s t files others l client place c)
+  create_exactly : (files : List (List ℕ)) (others : ℕ) (h : SmbHead) (client : List ℕ) (c : CreateCallItem) (place : Place) → Comes (carried n s l (create_on s files others l h client c place)) (λ t. IsDispositionDue n s t files others l client place c)
   create_exactly files others h client c place =
-      let named = λ (t : CoreState). OnceFound status.ObjectNameNotFound (IsFileDue s t others l client place c) (file_spelled files c.name) in
+      let named = λ (t : CoreState). OnceFound status.ObjectNameNotFound (IsFileDue n s t others l client place c) (file_spelled files c.name) in
       let plan = found (file_spelled files c.name) status.ObjectNameNotFound (file_plan s others l h client place c) in
       by_check (nat_lt 5 c.disposition) status.InvalidParameter (if overwrites c.disposition then Fails status.NotSupported else plan) (λ t. FailsIf (overwrites c.disposition) status.NotSupported (named t))
       (by_check (overwrites c.disposition) status.NotSupported plan named
-      (by_found (file_spelled files c.name) status.ObjectNameNotFound (file_plan s others l h client place c) (λ t file. IsFileDue s t others l client place c file) (file_exactly others h client place c)))
+      (by_found (file_spelled files c.name) status.ObjectNameNotFound (file_plan s others l h client place c) (λ t file. IsFileDue n s t others l client place c file) (file_exactly others h client place c)))
 
-pub create_due : (n : ℕ) (s : CoreState) (files : List (List ℕ)) (others : ℕ) (l : Lists) (conn : ℕ) (h : SmbHead) (c : CreateCallItem) (told : Told) → ((outcome_of n s files others l conn h (Create c)).0 ≡ told) ↔ IsCreateDue s (outcome_of n s files others l conn h (Create c)).3 files others l conn h c told
+pub create_due : (n : ℕ) (s : CoreState) (files : List (List ℕ)) (others : ℕ) (l : Lists) (conn : ℕ) (h : SmbHead) (c : CreateCallItem) (told : Told) → ((outcome_of n s files others l conn h (Create c)).0 ≡ told) ↔ IsCreateDue n s (outcome_of n s files others l conn h (Create c)).3 files others l conn h c told
 unfolding planned commanded create
 create_due n s files others l conn h c told =
     let at = λ (client : List ℕ) (session : ℕ). tree_named l conn client h session in
-    let placed = λ (t : CoreState) (client : List ℕ) (session : ℕ). OnceFound status.NetworkNameDeleted (λ (place : Place). IsDispositionDue s t files others l client place c) (at client session) in
+    let placed = λ (t : CoreState) (client : List ℕ) (session : ℕ). OnceFound status.NetworkNameDeleted (λ (place : Place). IsDispositionDue n s t files others l client place c) (at client session) in
     by_found n s l (client_of conn l) status.InvalidParameter (λ client. commanded s files others l conn h (Create c) client)
     (λ t client. OnceFound status.UserSessionDeleted (placed t client) (session_named s l conn h.session_id))
     (λ client. by_found n s l (session_named s l conn h.session_id) status.UserSessionDeleted (λ session. on_tree (create_on s files others l h client c) (at client session)) (λ t session. placed t client session)
-    (λ session. by_found n s l (at client session) status.NetworkNameDeleted (create_on s files others l h client c) (λ t place. IsDispositionDue s t files others l client place c) (λ place. create_exactly n s l files others h client c place))) told
+    (λ session. by_found n s l (at client session) status.NetworkNameDeleted (create_on s files others l h client c) (λ t place. IsDispositionDue n s t files others l client place c) (λ place. create_exactly n s l files others h client c place))) told
 
 -- ---- what is open is held
 

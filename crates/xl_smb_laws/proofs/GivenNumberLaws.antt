@@ -30,7 +30,7 @@ use Rattle.xl_core.proofs.DeedLists.{deeds_good}
 use Rattle.xl_core.proofs.FrameLaws.{ack_frame, ask_frame, cancel_frame, close_open_frame, drawn_frame}
 use Rattle.xl_core.proofs.GoodLaws.{drawn_good}
 use Rattle.xl_core.specs.Decide.{ask}
-use Rattle.xl_core.specs.Deeds.{Acks, Advances, AreFit, Asks, Cancels, Closes, Deed, Draws, Ends, Expires, GivesBack, IsFitDeed, Lapses, Renews, Serves, Weakens, all_done, done}
+use Rattle.xl_core.specs.Deeds.{Acks, Advances, AreFit, Asks, Cancels, Closes, Deed, Draws, Ends, EndsGrace, Expires, FailsStore, GivesBack, IsFitDeed, Lapses, Renews, Serves, Weakens, all_done, done}
 use Rattle.xl_core.specs.Good.{IsGood}
 use Rattle.xl_core.specs.State.{CoreState, drawn}
 use Rattle.xl_core.specs.declared.ask.Answer.{Answer}
@@ -219,6 +219,8 @@ deed_rises n s names conn l last (Advances now) good fit own = absurd own
 deed_rises n s names conn l last (Lapses cache) good fit own = absurd own
 deed_rises n s names conn l last (Renews id) good fit own = absurd own
 deed_rises n s names conn l last (Expires id) good fit own = absurd own
+deed_rises n s names conn l last (FailsStore stable) good fit own = absurd own
+deed_rises n s names conn l last EndsGrace good fit own = absurd own
 
 deeds_rise : (n : ℕ) (s : CoreState) (names : List Name) (conn : ℕ) (l : Lists) (last : ℕ) (ds : List Deed) → IsGood s → AreFit n s ds → AllByRecursion (IsOwn names conn l last) ds → s.counter + draws ds ≤ (all_done n s ds).counter
 deeds_rise n s names conn l last [] good fit own = omega arith

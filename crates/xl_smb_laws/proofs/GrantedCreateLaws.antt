@@ -5,6 +5,7 @@ use Rattle.std.proofs.lemmas.Bool.{true≢false, false≢true}
 use Rattle.std.proofs.lemmas.Bool.Decides.{nat_tests}
 use Rattle.xl_base.proofs.Members.{all_in, in_append_right}
 use Rattle.xl_base.specs.Lists.{IsIn, Pairwise}
+use Rattle.xl_base.specs.RecordFile.{most_record_bytes}
 use Rattle.xl_base.specs.declared.event.Out.{Out}
 use Rattle.xl_base.specs.declared.name.Owner.TheVariants as owners
 use Rattle.xl_base.specs.declared.name.Party.{Party}
@@ -25,8 +26,10 @@ use Rattle.xl_core.proofs.FrameLaws.{way_leaves}
 use Rattle.xl_core.proofs.LimitLaws.{grant_found}
 use Rattle.xl_core.proofs.SettleLaws.{turn_is}
 use Rattle.xl_core.specs.Blockers.{blockers, cache_against, is_stopped}
-use Rattle.xl_core.specs.Causes.{IsEachBehind, IsTurn, Answered, WaitsOn}
+use Rattle.xl_core.specs.Causes.{IsEachBehind, IsTurn, Answered, WaitsOn, last_answer, name_waiting}
 use Rattle.xl_core.specs.Frames.{who_left}
+use Rattle.xl_core.specs.Judge.{to_record}
+use Rattle.xl_core.specs.Stores.{bytes_with, may_record}
 use Rattle.xl_core.specs.Good.{IsGood, are_apart}
 use Rattle.xl_core.specs.Limits.{first_passed, grant_limits, is_passed, most_hosts, most_owners}
 use Rattle.xl_table.specs.Flat.{is_blocked}
@@ -68,12 +71,12 @@ second_passed : (a b : Bool) (rest : List (ℕ × Bool)) → is_passed ((most_ho
 second_passed a false rest h = refl
 second_passed a true rest h = absurd (true≢false h)
 
-each_room : (earlier : List Waiter) (left rows : Rooms) (kept : ℕ) (first c d : Claim) (s : CoreState) → IsEachBehind earlier left rows kept first (c ∷ []) s (answers.Granted d) → rows.opens ≤ left.opens
-each_room earlier left rows kept first c d s due =
+each_room : (earlier : List Waiter) (left rows : Rooms) (bytes kept : ℕ) (last : Answer) (c d : Claim) (s : CoreState) → IsEachBehind earlier left rows bytes kept last (c ∷ []) s (answers.Granted d) → rows.opens ≤ left.opens
+each_room earlier left rows bytes kept last c d s due =
     let moves : is_stopped earlier s c ≡ false = free_of (least s.names (blockers earlier s c)) refl in
     let clear : cache_against s.claims c ≡ None = none_of moves (cache_against s.claims c) refl in
     let free : is_blocked s.claims c ≡ false = free_unless earlier s c moves clear in
-    by free (first_passed (grant_limits left rows (length (granted_claims c s.claims)) kept)) refl
+    by free (first_passed (grant_limits left rows (length (granted_claims c s.claims)) bytes kept)) refl
   where
     free_of : (o : Option Claim) → least s.names (blockers earlier s c) ≡ o → is_stopped earlier s c ≡ false
     free_of None e = blockers_none earlier s c e
@@ -83,10 +86,11 @@ each_room earlier left rows kept first c d s due =
     none_of moves None e = refl
     none_of moves (Some x) e = absurd (not_recall (due.1 x moves e))
 
-    by : is_blocked s.claims c ≡ false → (o : Option ℕ) → first_passed (grant_limits left rows (length (granted_claims c s.claims)) kept) ≡ o → rows.opens ≤ left.opens
+    by : is_blocked s.claims c ≡ false → (o : Option ℕ) → first_passed (grant_limits left rows (length (granted_claims c s.claims)) bytes kept) ≡ o → rows.opens ≤ left.opens
     by free None e = not_less left.opens rows.opens (second_passed (nat_lt left.hosts rows.hosts) (nat_lt left.opens rows.opens)
-        ((most_owners, nat_lt left.owners rows.owners) ∷ (most_claims, nat_lt most_claims (length (granted_claims c s.claims))) ∷ (most_names, nat_lt most_names kept) ∷ []) (grant_found left rows (length (granted_claims c s.claims)) kept None e most_opens))
-    by free (Some limit) e = absurd (not_full (due.2 limit free (grant_found left rows (length (granted_claims c s.claims)) kept (Some limit) e)))
+        ((most_owners, nat_lt left.owners rows.owners) ∷ (most_claims, nat_lt most_claims (length (granted_claims c s.claims))) ∷ (most_record_bytes, nat_lt most_record_bytes bytes) ∷ (most_names, nat_lt most_names kept) ∷ [])
+        (grant_found left rows (length (granted_claims c s.claims)) bytes kept None e most_opens))
+    by free (Some limit) e = absurd (not_full (due.2 limit free (grant_found left rows (length (granted_claims c s.claims)) bytes kept (Some limit) e)))
 
 -- ---- who is served is the waiter of the row
 
@@ -155,8 +159,8 @@ pub record IsGrantOf (left : Rooms) (s : CoreState) (told : List Effect) (party 
   pub asked : waiter.asked ≡ claim ∷ claims
   pub room : claims ≡ [] → waiter.rows.opens ≤ left.opens
 
-pub served_grant : (left : Rooms) (s t : CoreState) (told : List Effect) (party : Party) (id : ℕ) (claim : Claim) → IsTurn left s told t → IsIn (effects.Served party id (answers.Granted claim)) told → IsGrantOf left s told party id claim
-served_grant left s t told party id claim turn here =
+pub served_grant : (n : ℕ) (left : Rooms) (s t : CoreState) (told : List Effect) (party : Party) (id : ℕ) (claim : Claim) → IsTurn n left s told t → IsIn (effects.Served party id (answers.Granted claim)) told → IsGrantOf left s told party id claim
+served_grant n left s t told party id claim turn here =
     elim (in_either (effects.Served party id (answers.Granted claim)) (way_again turn.before s turn.waiter).0 turn.told (subst (λ (es : List Effect). IsIn (effects.Served party id (answers.Granted claim)) es) turn.effects_are here)) [
       | inl begun ↦ absurd (none_served party id (answers.Granted claim) (way_again turn.before s turn.waiter).0 (way_leaves turn.before (plea_again s turn.waiter) turn.waiter.asked s) begun)
       | inr last ↦ elim turn.served [
@@ -176,19 +180,23 @@ served_grant left s t told party id claim turn here =
                 named = same_party one;
                 claims = turn.claims;
                 asked = turn.asked ∙ ap (λ (c : Claim). c ∷ turn.claims) (sym this);
-                room = λ alone. each_room turn.before left turn.waiter.rows (length (way_again turn.before s turn.waiter).1.names) turn.claim turn.claim claim (way_again turn.before s turn.waiter).1
-                    (due_of turn answer own (turn.asked ∙ ap (λ (cs : List Claim). turn.claim ∷ cs) alone) due);
+                room = λ alone.
+                    let u : CoreState = (way_again turn.before s turn.waiter).1 in
+                    let bytes = bytes_with (name_waiting u turn.waiter) u.stable in
+                    let told_last = last_answer (may_record n u (to_record (name_waiting u turn.waiter) turn.waiter.asked)) turn.claim in
+                    each_room turn.before left turn.waiter.rows bytes (length u.names) told_last turn.claim claim u (due_of turn bytes told_last answer own (turn.asked ∙ ap (λ (cs : List Claim). turn.claim ∷ cs) alone) due);
               })
         ]
       ]
     ]
   where
-    due_of : (turn : IsTurn left s told t) (answer : Answer) → answer ≡ answers.Granted claim → turn.waiter.asked ≡ turn.claim ∷ [] → IsEachBehind turn.before left turn.waiter.rows (length (way_again turn.before s turn.waiter).1.names) turn.claim turn.waiter.asked (way_again turn.before s turn.waiter).1 answer
-        → IsEachBehind turn.before left turn.waiter.rows (length (way_again turn.before s turn.waiter).1.names) turn.claim (turn.claim ∷ []) (way_again turn.before s turn.waiter).1 (answers.Granted claim)
-    due_of turn answer own alone due =
+    due_of : (turn : IsTurn n left s told t) (bytes : ℕ) (last answer : Answer) → answer ≡ answers.Granted claim → turn.waiter.asked ≡ turn.claim ∷ []
+        → IsEachBehind turn.before left turn.waiter.rows bytes (length (way_again turn.before s turn.waiter).1.names) last turn.waiter.asked (way_again turn.before s turn.waiter).1 answer
+        → IsEachBehind turn.before left turn.waiter.rows bytes (length (way_again turn.before s turn.waiter).1.names) last (turn.claim ∷ []) (way_again turn.before s turn.waiter).1 (answers.Granted claim)
+    due_of turn bytes last answer own alone due =
         let u : CoreState = (way_again turn.before s turn.waiter).1 in
-        subst (λ (cs : List Claim). IsEachBehind turn.before left turn.waiter.rows (length u.names) turn.claim cs u (answers.Granted claim)) alone
-        (subst (λ (a : Answer). IsEachBehind turn.before left turn.waiter.rows (length u.names) turn.claim turn.waiter.asked u a) own due)
+        subst (λ (cs : List Claim). IsEachBehind turn.before left turn.waiter.rows bytes (length u.names) last cs u (answers.Granted claim)) alone
+        (subst (λ (a : Answer). IsEachBehind turn.before left turn.waiter.rows bytes (length u.names) last turn.waiter.asked u a) own due)
 
 -- ---- so the open may stand
 
@@ -202,10 +210,10 @@ pub record MakesStand (l : Lists) (row : Waiting) (made : Open) (claim : Claim) 
 all_three : (a b c : Bool) → a ≡ true → b ≡ false → c ≡ true → (a && (not b && c)) ≡ true
 all_three a b c first second third = rw (first, second, third) refl
 
-pub grant_stands : (left : Rooms) (s t : CoreState) (l : Lists) (told : List Effect) (party : Party) (id : ℕ) (claim : Claim) (row : Waiting) (made : Open) → IsGood s → AreAwaited s l → IsTurn left s told t → IsIn (effects.Served party id (answers.Granted claim)) told
+pub grant_stands : (n : ℕ) (left : Rooms) (s t : CoreState) (l : Lists) (told : List Effect) (party : Party) (id : ℕ) (claim : Claim) (row : Waiting) (made : Open) → IsGood s → AreAwaited s l → IsTurn n left s told t → IsIn (effects.Served party id (answers.Granted claim)) told
     → left.opens ≤ most_opens - length l.opens → waiting_of id l ≡ Some row → row.request ≡ request.Create made → MakesStand l row made claim
-grant_stands left s t l told party id claim row made good all turn here room at makes =
-    let grant = served_grant left s t told party id claim turn here in
+grant_stands n left s t l told party id claim row made good all turn here room at makes =
+    let grant = served_grant n left s t told party id claim turn here in
     let is = all_in (IsAwaited s l) (id, row) l.waiting all (row_in id l.waiting row at) in
     let one : is.waiter ≡ grant.waiter = one_waiter s.waiters is.waiter grant.waiter good.apart is.waits grant.waits (is.number ∙ sym grant.number) in
     let asks : AsksToOpen is.waiter row.opened made = subst (λ (r : Request). IsAskerOf is.waiter row.opened r) makes is.asker in
@@ -222,14 +230,14 @@ grant_stands left s t l told party id claim row made good all turn here room at 
       on = λ key own. lease_on key made.file l (under.keyed key own).leases;
     }
 
-pub turn_of : (n : ℕ) (left : Rooms) (s t : CoreState) (told : List Effect) → IsGood s → settle n left s ≡ Some (told, t) → IsTurn left s told t
-turn_of n left s t told good e = subst (λ (o : Option (List Effect × CoreState)). IfSome o (λ x. IsTurn left s x.0 x.1)) e (turn_is n left s good)
+pub turn_of : (n : ℕ) (left : Rooms) (s t : CoreState) (told : List Effect) → IsGood s → settle n left s ≡ Some (told, t) → IsTurn n left s told t
+turn_of n left s t told good e = subst (λ (o : Option (List Effect × CoreState)). IfSome o (λ x. IsTurn n left s x.0 x.1)) e (turn_is n left s good)
 
 -- ---- as the laws say it
 
 module _ (n : ℕ) (left : Rooms) (s t u : CoreState) (f : FrontSmb) (party : Party) (id : ℕ) (row : Waiting) (made : Open) (claim : Claim) where
   stands : IsGood s → AreAwaited s f.state → IsGranted n left s t f.state party id row made claim → MakesStand f.state row made claim
-  stands good all is = grant_stands left s t f.state is.told party id claim row made good all (turn_of n left s t is.told good is.turn) is.served is.room is.waits is.makes
+  stands good all is = grant_stands n left s t f.state is.told party id claim row made good all (turn_of n left s t is.told good is.turn) is.served is.room is.waits is.makes
 
   pub granted_share : IsGood s → AreAwaited s f.state → IsGranted n left s t f.state party id row made claim → (claim.owner ≡ owners.Open row.opened) × (claim.file ≡ made.file)
   granted_share good all is = let made_so = stands good all is in (made_so.owner, made_so.file)

@@ -30,7 +30,7 @@ use Rattle.xl_core.proofs.DeedLists.{deeds_good}
 use Rattle.xl_core.proofs.FrameLaws.{ask_quiet, way_leaves}
 use Rattle.xl_core.specs.Askers.{asked_claims, asked_whats, is_client, is_named}
 use Rattle.xl_core.specs.Decide.{ask, plea_of}
-use Rattle.xl_core.specs.Deeds.{Deed, Asks, GivesBack, Weakens, Acks, Cancels, Ends, Closes, Serves, Draws, Advances, Lapses, Renews, Expires, AreFit, IsFitDeed, all_done, all_told_of, done, given}
+use Rattle.xl_core.specs.Deeds.{Deed, Asks, GivesBack, Weakens, Acks, Cancels, Ends, Closes, Serves, Draws, Advances, Lapses, Renews, Expires, FailsStore, EndsGrace, AreFit, IsFitDeed, all_done, all_told_of, done, given}
 use Rattle.xl_core.specs.Frames.{come_by, who_left}
 use Rattle.xl_core.specs.Good.{IsGood}
 use Rattle.xl_core.specs.Settle.{cancel, waits_as}
@@ -105,6 +105,8 @@ come_kept n s l (Advances now) w other here = absurd here
 come_kept n s l (Lapses cache) w other here = absurd here
 come_kept n s l (Renews client) w other here = absurd here
 come_kept n s l (Expires client) w other here = absurd here
+come_kept n s l (FailsStore stable) w other here = absurd here
+come_kept n s l EndsGrace w other here = absurd here
 
 deed_keeps : (n : ℕ) (s : CoreState) (l : Lists) (d : Deed) → IsGood s → IsFitDeed s d → is_open_ask d ≡ false → AreKept s l → AreKept (done n s d) l
 deed_keeps n s l d good fit other kept =

@@ -31,3 +31,4 @@ pub mod OnceAnsweredLaws
 pub mod RowEndLaws
 pub mod BeginningLaws
 pub mod GivenNumberLaws
+mod GraceLaws

@@ -2,7 +2,6 @@
 use Rattle.std.proofs.Common.{◌≡◌, ◌↔◌, ℕ, ◌+◌, ◌-◌, ◌^◌, ◌<◌, ◌≤◌, ◌&&◌, ◌||◌, Bool, true, false, not, if◌then◌else◌, List, [], ◌∷◌, length, map, Option, Some, None, refl, sym, ap, subst, ◌∙◌, arith}
 use Rattle.std.specs.Prelude.{◌==◌, nat_lt}
 use Rattle.std.specs.List.{list_any}
-use Rattle.std.proofs.lemmas.Bool.{false≢true, true≢false}
 use Rattle.std.proofs.lemmas.Bool.Decides.{nat_tests}
 use Rattle.xl_matrix.specs.declared.claim.Claim.{Claim}
 use Rattle.xl_smb.specs.Calls.{Lock}
@@ -30,6 +29,8 @@ use Rattle.xl_smb_locks.specs.Locks.{lock_ask, lock_told, range_of}
 use Rattle.xl_smb_locks.specs.declared.status.SmbStatus.{SmbStatus}
 use Rattle.xl_smb_locks.specs.declared.status.SmbStatus.TheVariants as status
 use Rattle.xl_smb_locks.proofs.FitLaws.{lock_fits}
+use Rattle.xl_smb_locks.proofs.PlainLaws.{no_other}
+use Rattle.xl_smb_locks.specs.Short.{IsOpenAsk}
 use Rattle.xl_front_smb.specs.Checks.{in_session, on_open, on_tree, open_named, session_named, tree_named}
 use Rattle.xl_front_smb.specs.Laws.{IsInSession, IsOnTree, outcome_of}
 use Rattle.xl_front_smb.specs.Locks.{lock, lock_by, lock_found, place_of, waiting_row}
@@ -66,86 +67,87 @@ past_is e low few = reaches e.offset e.length low few
 
 -- ---- one lock
 
-one_forth : (s : CoreState) (a : Ask) (claim : Claim) (answer : Answer) → a.reclaim ≡ false → a.awaits ≡ true → IsClaimDue no_rows s a claim answer → IsOneDue s a claim (told_as (lock_told answer))
-one_forth s a claim (answers.Granted c) timely rests due = (refl, due.1, due.2, due.3)
-one_forth s a claim (answers.Conflict c) timely rests due = (c, due)
-one_forth s a claim (answers.Full limit) timely rests due = (limit, due)
-one_forth s a claim (answers.Queued id) timely rests due = due
-one_forth s a claim (answers.NoGrace clock) timely rests due = absurd (false≢true (sym timely ∙ due.1))
-one_forth s a claim (answers.Recall c) timely rests due = absurd (true≢false (sym rests ∙ due.1))
-one_forth s a claim (answers.Grace until) timely rests due = absurd due
-one_forth s a claim answers.NotRecorded timely rests due = absurd due
-one_forth s a claim answers.NotHeld timely rests due = absurd due
-one_forth s a claim answers.StoreFailed timely rests due = absurd due
+one_forth : (n : ℕ) (s : CoreState) (a : Ask) (claim : Claim) (answer : Answer) → IsOpenAsk a → a.awaits ≡ true → IsClaimDue n no_rows s a claim answer → IsOneDue n s a claim (told_as (lock_told answer))
+one_forth n s a claim (answers.Granted c) is rests due = (refl, due.1, due.2, due.3, due.4)
+one_forth n s a claim (answers.Conflict c) is rests due = (c, due)
+one_forth n s a claim (answers.Full limit) is rests due = (limit, due)
+one_forth n s a claim (answers.Queued id) is rests due = due
+one_forth n s a claim (answers.NoGrace clock) is rests due = absurd (no_other n no_rows s a claim (answers.NoGrace clock) is rests refl due)
+one_forth n s a claim (answers.Recall c) is rests due = absurd (no_other n no_rows s a claim (answers.Recall c) is rests refl due)
+one_forth n s a claim (answers.Grace until) is rests due = absurd (no_other n no_rows s a claim (answers.Grace until) is rests refl due)
+one_forth n s a claim answers.NotRecorded is rests due = absurd (no_other n no_rows s a claim answers.NotRecorded is rests refl due)
+one_forth n s a claim answers.NotHeld is rests due = absurd due
+one_forth n s a claim answers.StoreFailed is rests due = absurd (no_other n no_rows s a claim answers.StoreFailed is rests refl due)
 
-status_back : (s : CoreState) (a : Ask) (claim : Claim) (r : Answer) → ((answer : Answer) → IsClaimDue no_rows s a claim answer → r ≡ answer) → (refused : SmbStatus) → IsOneDue s a claim (told.Failed refused) → told_as (lock_told r) ≡ told.Failed refused
-status_back s a claim r exact status.LockNotGranted due = ap (λ (x : Answer). told_as (lock_told x)) (exact (answers.Conflict due.0) due.1)
-status_back s a claim r exact status.InsufficientResources due = ap (λ (x : Answer). told_as (lock_told x)) (exact (answers.Full due.0) due.1)
-status_back s a claim r exact status.SharingViolation due = absurd due
-status_back s a claim r exact status.InvalidParameter due = absurd due
-status_back s a claim r exact status.ObjectNameNotFound due = absurd due
-status_back s a claim r exact status.ObjectNameCollision due = absurd due
-status_back s a claim r exact status.NotSupported due = absurd due
-status_back s a claim r exact status.NetworkNameDeleted due = absurd due
-status_back s a claim r exact status.BadNetworkName due = absurd due
-status_back s a claim r exact status.InvalidOplockProtocol due = absurd due
-status_back s a claim r exact status.FileClosed due = absurd due
-status_back s a claim r exact status.InvalidDeviceState due = absurd due
-status_back s a claim r exact status.UserSessionDeleted due = absurd due
-status_back s a claim r exact status.RangeNotLocked due = absurd due
-status_back s a claim r exact status.InvalidLockRange due = absurd due
-status_back s a claim r exact status.Cancelled due = absurd due
-status_back s a claim r exact status.Unsuccessful due = absurd due
-status_back s a claim r exact status.RequestNotAccepted due = absurd due
+status_back : (n : ℕ) (s : CoreState) (a : Ask) (claim : Claim) (r : Answer) → ((answer : Answer) → IsClaimDue n no_rows s a claim answer → r ≡ answer) → (refused : SmbStatus) → IsOneDue n s a claim (told.Failed refused) → told_as (lock_told r) ≡ told.Failed refused
+status_back n s a claim r exact status.LockNotGranted due = ap (λ (x : Answer). told_as (lock_told x)) (exact (answers.Conflict due.0) due.1)
+status_back n s a claim r exact status.InsufficientResources due = ap (λ (x : Answer). told_as (lock_told x)) (exact (answers.Full due.0) due.1)
+status_back n s a claim r exact status.SharingViolation due = absurd due
+status_back n s a claim r exact status.InvalidParameter due = absurd due
+status_back n s a claim r exact status.ObjectNameNotFound due = absurd due
+status_back n s a claim r exact status.ObjectNameCollision due = absurd due
+status_back n s a claim r exact status.NotSupported due = absurd due
+status_back n s a claim r exact status.NetworkNameDeleted due = absurd due
+status_back n s a claim r exact status.BadNetworkName due = absurd due
+status_back n s a claim r exact status.InvalidOplockProtocol due = absurd due
+status_back n s a claim r exact status.FileClosed due = absurd due
+status_back n s a claim r exact status.InvalidDeviceState due = absurd due
+status_back n s a claim r exact status.UserSessionDeleted due = absurd due
+status_back n s a claim r exact status.RangeNotLocked due = absurd due
+status_back n s a claim r exact status.InvalidLockRange due = absurd due
+status_back n s a claim r exact status.Cancelled due = absurd due
+status_back n s a claim r exact status.Unsuccessful due = absurd due
+status_back n s a claim r exact status.RequestNotAccepted due = absurd due
 
-one_back : (s : CoreState) (a : Ask) (claim : Claim) (r : Answer) → ((answer : Answer) → IsClaimDue no_rows s a claim answer → r ≡ answer) → (t : Told) → IsOneDue s a claim t → told_as (lock_told r) ≡ t
-one_back s a claim r exact told.Locked due = ap (λ (x : Answer). told_as (lock_told x)) (exact (answers.Granted claim) due)
-one_back s a claim r exact (told.Pending id) due = ap (λ (x : Answer). told_as (lock_told x)) (exact (answers.Queued id) due)
-one_back s a claim r exact (told.Failed refused) due = status_back s a claim r exact refused due
-one_back s a claim r exact told.Nothing due = absurd due
-one_back s a claim r exact told.Negotiated due = absurd due
-one_back s a claim r exact (told.SetUp session) due = absurd due
-one_back s a claim r exact told.LoggedOff due = absurd due
-one_back s a claim r exact (told.Connected tree) due = absurd due
-one_back s a claim r exact told.Disconnected due = absurd due
-one_back s a claim r exact (told.Opened id cache) due = absurd due
-one_back s a claim r exact (told.Acknowledged id level) due = absurd due
-one_back s a claim r exact (told.Answered lease) due = absurd due
-one_back s a claim r exact told.Closed due = absurd due
-one_back s a claim r exact told.Echoed due = absurd due
+one_back : (n : ℕ) (s : CoreState) (a : Ask) (claim : Claim) (r : Answer) → ((answer : Answer) → IsClaimDue n no_rows s a claim answer → r ≡ answer) → (t : Told) → IsOneDue n s a claim t → told_as (lock_told r) ≡ t
+one_back n s a claim r exact told.Locked due = ap (λ (x : Answer). told_as (lock_told x)) (exact (answers.Granted claim) due)
+one_back n s a claim r exact (told.Pending id) due = ap (λ (x : Answer). told_as (lock_told x)) (exact (answers.Queued id) due)
+one_back n s a claim r exact (told.Failed refused) due = status_back n s a claim r exact refused due
+one_back n s a claim r exact told.Nothing due = absurd due
+one_back n s a claim r exact told.Negotiated due = absurd due
+one_back n s a claim r exact (told.SetUp session) due = absurd due
+one_back n s a claim r exact told.LoggedOff due = absurd due
+one_back n s a claim r exact (told.Connected tree) due = absurd due
+one_back n s a claim r exact told.Disconnected due = absurd due
+one_back n s a claim r exact (told.Opened id cache) due = absurd due
+one_back n s a claim r exact (told.Acknowledged id level) due = absurd due
+one_back n s a claim r exact (told.Answered lease) due = absurd due
+one_back n s a claim r exact told.Closed due = absurd due
+one_back n s a claim r exact told.Echoed due = absurd due
 
-one_exactly : (n : ℕ) (s : CoreState) (conn number : ℕ) (row : Open) (e : LockElement) (t : Told)
-    → (told_as (lock_told (ask n no_rows s (lock_ask conn number row (e ∷ []))).0) ≡ t) ↔ IsOneDue (once_asked s conn number row (e ∷ [])) (lock_ask conn number row (e ∷ [])) (range_claim s.names number row e) t
+one_exactly : (n : ℕ) (s : CoreState) (conn number : ℕ) (row : Open) (e : LockElement) (t : Told) → lock_fault (e ∷ []) ≡ None
+    → (told_as (lock_told (ask n no_rows s (lock_ask conn number row (e ∷ []))).0) ≡ t) ↔ IsOneDue n (once_asked s conn number row (e ∷ [])) (lock_ask conn number row (e ∷ [])) (range_claim s.names number row e) t
 unfolding lock_ask
-one_exactly n s conn number row e t =
+one_exactly n s conn number row e t fault =
+    let is = lock_fits conn number row (e ∷ []) fault (omega arith) in
     let a = lock_ask conn number row (e ∷ []) in
     let claim = range_claim s.names number row e in
     let r = (ask n no_rows s a).0 in
     let begun = (way no_rows s a).1 in (
-      λ h. subst (IsOneDue begun a claim) h (one_forth begun a claim r refl refl ((ask_due n no_rows s a (held_as e) r refl).0 refl)),
-      λ due. one_back begun a claim r (λ answer k. (ask_due n no_rows s a (held_as e) answer refl).1 k) t due,
+      λ h. subst (IsOneDue n begun a claim) h (one_forth n begun a claim r is refl ((ask_due n no_rows s a (held_as e) r refl).0 refl)),
+      λ due. one_back n begun a claim r (λ answer k. (ask_due n no_rows s a (held_as e) answer refl).1 k) t due,
     )
 
 -- ---- several
 
-several_due : (s : CoreState) (a : Ask) (es : List LockElement) (answer : Answer) → IsRangesDue no_rows s a (map range_of es) answer → AreDue s a es (told_as (lock_told answer))
-several_due s a es (answers.Granted c) due = (c, due)
-several_due s a es (answers.Conflict c) due = (c, due)
-several_due s a es (answers.Queued id) due = due
-several_due s a es (answers.Full limit) due = (answers.Full limit, refl, due)
-several_due s a es (answers.Recall c) due = (answers.Recall c, refl, due)
-several_due s a es (answers.NoGrace clock) due = (answers.NoGrace clock, refl, due)
-several_due s a es (answers.Grace until) due = (answers.Grace until, refl, due)
-several_due s a es answers.NotRecorded due = (answers.NotRecorded, refl, due)
-several_due s a es answers.NotHeld due = (answers.NotHeld, refl, due)
-several_due s a es answers.StoreFailed due = (answers.StoreFailed, refl, due)
+several_due : (n : ℕ) (s : CoreState) (a : Ask) (es : List LockElement) (answer : Answer) → IsRangesDue n no_rows s a (map range_of es) answer → AreDue n s a es (told_as (lock_told answer))
+several_due n s a es (answers.Granted c) due = (c, due)
+several_due n s a es (answers.Conflict c) due = (c, due)
+several_due n s a es (answers.Queued id) due = due
+several_due n s a es (answers.Full limit) due = (answers.Full limit, refl, due)
+several_due n s a es (answers.Recall c) due = (answers.Recall c, refl, due)
+several_due n s a es (answers.NoGrace clock) due = (answers.NoGrace clock, refl, due)
+several_due n s a es (answers.Grace until) due = (answers.Grace until, refl, due)
+several_due n s a es answers.NotRecorded due = (answers.NotRecorded, refl, due)
+several_due n s a es answers.NotHeld due = (answers.NotHeld, refl, due)
+several_due n s a es answers.StoreFailed due = (answers.StoreFailed, refl, due)
 
 asked_due : (n : ℕ) (s : CoreState) (conn number : ℕ) (row : Open) (es : List LockElement) → IsGood s → lock_fault es ≡ None → 1 ≤ length es
-    → AreDue (once_asked s conn number row es) (lock_ask conn number row es) es (told_as (lock_told (ask n no_rows s (lock_ask conn number row es)).0))
+    → AreDue n (once_asked s conn number row es) (lock_ask conn number row es) es (told_as (lock_told (ask n no_rows s (lock_ask conn number row es)).0))
 unfolding lock_ask
 asked_due n s conn number row es good fault some =
     let a = lock_ask conn number row es in
-    several_due (way no_rows s a).1 a es (ask n no_rows s a).0 (deed_due n s (Asks no_rows a) good (lock_fits conn number row es fault some).fit)
+    several_due n (way no_rows s a).1 a es (ask n no_rows s a).0 (deed_due n s (Asks no_rows a) good (lock_fits conn number row es fault some).fit)
 
 -- ---- the checks
 
@@ -216,12 +218,12 @@ module _ (n : ℕ) (s : CoreState) (files : List (List ℕ)) (others : ℕ) (l :
     lock_past first count locks alone past = counted_by (Some status.InvalidLockRange) first count (fault_past es locks alone past)
 
     pub lock_one : (e : LockElement) (t : Told) → es ≡ e ∷ [] → is_unlock e ≡ false → lock_fault (e ∷ []) ≡ None
-        → ((outcome_of n s files others l conn h (Lock c)).0 ≡ t) ↔ IsOneDue (once_asked s conn number row (e ∷ [])) (lock_ask conn number row (e ∷ [])) (range_claim s.names number row e) t
+        → ((outcome_of n s files others l conn h (Lock c)).0 ≡ t) ↔ IsOneDue n (once_asked s conn number row (e ∷ [])) (lock_ask conn number row (e ∷ [])) (range_claim s.names number row e) t
     lock_one e t one locks fault =
         let row_kept = waiting_row h (place_of row.holder place) number request.Lock in
         let comes = counted_by None (ap unlocks_first one ∙ locks) (ap (λ (xs : List LockElement). is_count (length xs)) one) (ap lock_fault one ∙ fault) ∙ ap (λ (xs : List LockElement). carried n s l (lock_by conn row_kept number row xs None)) one in
-        subst (λ (r : Outcome). (r.0 ≡ t) ↔ IsOneDue (once_asked s conn number row (e ∷ [])) (lock_ask conn number row (e ∷ [])) (range_claim s.names number row e) t) (sym comes) (one_exactly n s conn number row e t)
+        subst (λ (r : Outcome). (r.0 ≡ t) ↔ IsOneDue n (once_asked s conn number row (e ∷ [])) (lock_ask conn number row (e ∷ [])) (range_claim s.names number row e) t) (sym comes) (one_exactly n s conn number row e t fault)
 
-    pub lock_several : unlocks_first es ≡ false → is_count (length es) ≡ true → lock_fault es ≡ None → IsGood s → AreDue (once_asked s conn number row es) (lock_ask conn number row es) es (outcome_of n s files others l conn h (Lock c)).0
+    pub lock_several : unlocks_first es ≡ false → is_count (length es) ≡ true → lock_fault es ≡ None → IsGood s → AreDue n (once_asked s conn number row es) (lock_ask conn number row es) es (outcome_of n s files others l conn h (Lock c)).0
     lock_several first count fault good =
-        subst (λ (r : Outcome). AreDue (once_asked s conn number row es) (lock_ask conn number row es) es r.0) (sym (counted_by None first count fault)) (asked_due n s conn number row es good fault (counted (length es) count))
+        subst (λ (r : Outcome). AreDue n (once_asked s conn number row es) (lock_ask conn number row es) es r.0) (sym (counted_by None first count fault)) (asked_due n s conn number row es good fault (counted (length es) count))

@@ -48,6 +48,7 @@ use Rattle.xl_smb_locks.specs.declared.locking.Locking.{Locking}
 use Rattle.xl_smb_locks.specs.declared.locking.Locking.TheVariants as locking
 use Rattle.xl_smb_locks.specs.declared.status.SmbStatus.{SmbStatus}
 use Rattle.xl_smb_locks.proofs.FitLaws.{unlock_fits, lock_fits}
+use Rattle.xl_smb_locks.proofs.PlainLaws.{plain_noted}
 use Rattle.xl_smb_locks.proofs.UnlockLaws.{any_stores}
 use Rattle.xl_front_smb.specs.Checks.{tree_named, open_named, negotiated_by, in_session, on_tree, on_open}
 use Rattle.xl_front_smb.specs.Laws.{OnlyBreaks, outcome_of}
@@ -139,8 +140,9 @@ asked_stays : (n : ℕ) (s : CoreState) (l : Lists) (conn number : ℕ) (held : 
 asked_stays n s l conn number held es row good fault some status is =
     let a = lock_ask conn number held es in
     let none = refused_by (ask n no_rows s a).0 status is in
-    let fit = (lock_fits conn number held es fault some).fit in
-    (kept_by row l (ask n no_rows s a).0 none.1, subst (λ (t : CoreState). OnlyBreaks s t) (sym ((ask_own n no_rows s a good fit.party).refused none.0 none.1)) (way_breaks no_rows s a))
+    let fits = lock_fits conn number held es fault some in
+    let same = (ask_own n no_rows s a good fits.fit.party).refused none.0 none.1 ∙ plain_noted (way no_rows s a).1 a (ask n no_rows s a).0 fits in
+    (kept_by row l (ask n no_rows s a).0 none.1, subst (λ (t : CoreState). OnlyBreaks s t) (sym same) (way_breaks no_rows s a))
 
 by_holds : (n : ℕ) (s : CoreState) (l : Lists) (conn : ℕ) (row : Waiting) (number : ℕ) (held : Open) (es : List LockElement) (o : Option SmbStatus) → IsGood s → lock_fault es ≡ o → 1 ≤ length es → Holds held.file number es s l (carried n s l (lock_by conn row number held es o)) × Stays s l (carried n s l (lock_by conn row number held es o))
 by_holds n s l conn row number held es (Some status) good fault some = (λ h. absurd (not_locked h), λ other h. (refl, unbroken s))

@@ -39,7 +39,7 @@ use Rattle.xl_wait.specs.Waiting.{is_waiting}
 use Rattle.xl_smb_locks.specs.Elements.{lock_fault}
 use Rattle.xl_smb_locks.specs.Levels.{party_for, party_of, lease_party}
 use Rattle.xl_smb_locks.specs.Locks.{unlock_ask, lock_ask, unlocks}
-use Rattle.xl_smb_locks.proofs.FitLaws.{lock_fits, lock_owns, unlock_owns}
+use Rattle.xl_smb_locks.proofs.FitLaws.{lock_fits, lock_owns, unlock_fits, unlock_owns}
 use Rattle.xl_smb_locks.proofs.UnlockLaws.{unlocks_fit, unlocks_are}
 use Rattle.xl_core.specs.State.{CoreState}
 use Rattle.xl_core.specs.Settle.{close_open as close_core}
@@ -209,7 +209,8 @@ module _ (n : ℕ) (s : CoreState) (others : ℕ) (l : Lists) (conn : ℕ) (h : 
       let row = open_row file client place c in
       let owns = open_owns place.connection (s.counter + 1) row c in
       let a = open_ask place.connection (s.counter + 1) row c in
-      ((tt, (open_fits place.connection (s.counter + 1) row c refl, tt)), (tt, (asked_own conn l s.counter (s.counter + 1) row a.owner a.party owns.0 owns.1 (inl refl) (inr known), tt)))
+      let fits = open_fits place.connection (s.counter + 1) row c refl in
+      ((tt, (fits.fit, tt)), (tt, ((asked_own conn l s.counter (s.counter + 1) row a.owner a.party owns.0 owns.1 (inl refl) (inr known), fits.reclaim, fits.monitored), tt)))
 
   create_theirs : (files : List (List ℕ)) (c : CreateCallItem) → IsTheirs n s l conn (create s files others l conn client h c)
   create_theirs files c = walk_create (IsTheirs n s l conn) (λ refusal. (tt, tt)) s files others l conn client h c (λ place file on there unused room. opens_theirs place c file)
@@ -238,7 +239,10 @@ unlock_theirs : (n : ℕ) (s : CoreState) (l : Lists) (conn number : ℕ) (row :
 unlock_theirs n s l conn number row es at there = (
   unlocks_fit n s number row es,
   unlocks_are (IsOwn s.names conn l s.counter) s number row es
-      (λ e. let owns = unlock_owns number row e in asked_own conn l s.counter number row (unlock_ask number row e).owner (unlock_ask number row e).party owns.0 owns.1 (inr there) (inl (row_in l.opens number row at))),
+      (λ e.
+      let owns = unlock_owns number row e in
+      let fits = unlock_fits number row e in
+      (asked_own conn l s.counter number row (unlock_ask number row e).owner (unlock_ask number row e).party owns.0 owns.1 (inr there) (inl (row_in l.opens number row at)), fits.reclaim, fits.monitored)),
 )
 
 locks_theirs : (n : ℕ) (s : CoreState) (l : Lists) (conn : ℕ) (row : Waiting) (number : ℕ) (held : Open) (es : List LockElement) → lock_fault es ≡ None → 1 ≤ length es → open_of number l ≡ Some held → IsIn number (opens_under (scope.Connection conn) l)
@@ -246,7 +250,8 @@ locks_theirs : (n : ℕ) (s : CoreState) (l : Lists) (conn : ℕ) (row : Waiting
 locks_theirs n s l conn row number held es fault some at there =
     let a = lock_ask conn number held es in
     let owns = lock_owns conn number held es in
-    (((lock_fits conn number held es fault some).fit, tt), (asked_own conn l s.counter number held a.owner a.party owns.0 owns.1 (inr there) (inl (row_in l.opens number held at)), tt))
+    let fits = lock_fits conn number held es fault some in
+    ((fits.fit, tt), ((asked_own conn l s.counter number held a.owner a.party owns.0 owns.1 (inr there) (inl (row_in l.opens number held at)), fits.reclaim, fits.monitored), tt))
 
 lock_theirs : (n : ℕ) (s : CoreState) (l : Lists) (conn : ℕ) (client : List ℕ) (h : SmbHead) (c : LockItem) → IsTheirs n s l conn (lock s l conn client h c)
 lock_theirs n s l conn client h c =

@@ -22,18 +22,20 @@ use Rattle.xl_smb_state.specs.State.{Lists}
 use Rattle.xl_smb_state.specs.declared.row.Waiting.{Waiting}
 use Rattle.xl_wait.specs.declared.waiter.Rooms.{Rooms}
 use Rattle.xl_wait.specs.declared.waiter.Waiter.{Waiter}
+use Rattle.xl_core.proofs.AsideLaws.{failed_aside, grace_aside, of_expire, with_aside}
 use Rattle.xl_core.proofs.DeedLaws.{deed_good}
 use Rattle.xl_core.proofs.FrameLaws.{turn_frame, way_leaves}
 use Rattle.xl_core.proofs.SettleLaws.{party_waiters}
 use Rattle.xl_core.specs.BreakAnswers.{ack, client_of}
 use Rattle.xl_core.specs.Causes.{IsTurn, Answered, WaitsOn}
 use Rattle.xl_core.specs.Decide.{ask}
-use Rattle.xl_core.specs.Deeds.{Deed, Asks, GivesBack, Weakens, Acks, Cancels, Ends, Closes, Serves, Draws, Advances, Lapses, Renews, Expires, AreFit, IsFitDeed, all_done, done}
+use Rattle.xl_core.specs.Deeds.{Deed, Asks, GivesBack, Weakens, Acks, Cancels, Ends, Closes, Serves, Draws, Advances, Lapses, Renews, Expires, FailsStore, EndsGrace, AreFit, IsFitDeed, all_done, done}
 use Rattle.xl_core.specs.Frames.{IsFrame, calls_in, come_by, who_left}
 use Rattle.xl_core.specs.Good.{IsGood}
 use Rattle.xl_core.specs.Settle.{all_cancelled, cancel, give_back, plea_again, settle, waits_as, waits_for, way_again, weaken}
 use Rattle.xl_core.specs.State.{CoreState, drawn}
-use Rattle.xl_core.specs.Ticks.{advanced, end_some, expire, lapse, lapsed_by, renew}
+use Rattle.xl_core.specs.Stores.{store_failed}
+use Rattle.xl_core.specs.Ticks.{advanced, end_grace, end_some, expire, lapse, lapsed_by, renew}
 use Rattle.xl_core.specs.Told.{party_protocol}
 use Rattle.xl_core.specs.declared.ask.Answer.{Answer}
 use Rattle.xl_core.specs.declared.ask.Effect.{Effect}
@@ -44,7 +46,7 @@ use Rattle.xl_smb_laws.proofs.AwaitedRequestLaws.{any_right, asked_waits, cancel
 use Rattle.xl_smb_laws.proofs.GrantedCreateLaws.{one_waiter, turn_of}
 use Rattle.xl_smb_laws.proofs.PlaceLaws.{keeps_self}
 use Rattle.xl_smb_laws.proofs.StillUntoldLaws.{over_left}
-use Rattle.xl_smb_laws.proofs.StillWaitingLaws.{left_stays, over}
+use Rattle.xl_smb_laws.proofs.StillWaitingLaws.{aside_stays, left_stays, over}
 
 -- ---- a waiter of SMB
 
@@ -91,8 +93,7 @@ some_spared s None w smb here = here
 some_spared s (Some k) w smb here = (party_waiters s (parties.Name Nfs k) w).1 (here, other_party w (parties.Name Nfs k) smb nfs_apart)
 
 expire_spared : (s : CoreState) (client : List ℕ) (w : Waiter) → IsOfSmb w → IsIn w s.waiters → IsIn w (expire s client).1.waiters
-unfolding expire
-expire_spared s client w smb here = some_spared s (number_of (NfsParty client) s.names) w smb here
+expire_spared s client w smb here = of_expire (λ (r : List Effect × CoreState). IsIn w r.1.waiters) s client (λ x. some_spared (with_aside x s) (number_of (NfsParty client) s.names) w smb here)
 
 lapsed_spared : (s : CoreState) (cache : Claim) (client : Option (List ℕ)) (w : Waiter) → IsOfSmb w → IsIn w s.waiters → IsIn w (lapsed_by s cache client).1.waiters
 lapsed_spared s cache None w smb here = here
@@ -123,6 +124,8 @@ deed_spared n s (Advances now) w k good fit spares own smb here = here
 deed_spared n s (Lapses cache) w k good fit spares own smb here = lapse_spared s cache w smb here
 deed_spared n s (Renews client) w k good fit spares own smb here = here
 deed_spared n s (Expires client) w k good fit spares own smb here = expire_spared s client w smb here
+deed_spared n s (FailsStore stable) w k good fit spares own smb here = aside_stays s (store_failed stable s) w (failed_aside stable s) here
+deed_spared n s EndsGrace w k good fit spares own smb here = aside_stays s (end_grace s) w (grace_aside s) here
 
 deeds_spared : (n : ℕ) (s : CoreState) (ds : List Deed) (w : Waiter) (k : ℕ) → IsGood s → AreFit n s ds → AllAt SparesSmb n s ds → waits_as k w ≡ true → IsOfSmb w → IsIn w s.waiters → IsIn w (all_done n s ds).waiters
 deeds_spared n s [] w k good fit spare own smb here = here
@@ -151,8 +154,8 @@ same_number : (v w : Waiter) (party : Party) (answer : Answer) → over w.id (ef
 same_number v w party answer is = elim (cases_Bool (eqb v.id w.id)) [ inl same ↦ sym (equal_from v.id w.id same) | inr other ↦ absurd (false≢true (rw other at is)) ]
 
 -- if it tells that a waiter of SMB waits no more it serves it, and says whose it is
-turn_serves : (left : Rooms) (s t : CoreState) (told : List Effect) (w : Waiter) → IsGood s → IsTurn left s told t → IsIn w s.waiters → IsOfSmb w → over w.id told ≡ true → list_any (serves_request w.id) told ≡ true
-turn_serves left s t told w good turn here smb ended =
+turn_serves : (n : ℕ) (left : Rooms) (s t : CoreState) (told : List Effect) (w : Waiter) → IsGood s → IsTurn n left s told t → IsIn w s.waiters → IsOfSmb w → over w.id told ≡ true → list_any (serves_request w.id) told ≡ true
+turn_serves n left s t told w good turn here smb ended =
     let way : List Effect = (way_again turn.before s turn.waiter).0 in
     let quiet : who_left way ≡ [] = way_leaves turn.before (plea_again s turn.waiter) turn.waiter.asked s in
     let last : over w.id turn.told ≡ true = last_over w.id way turn.told quiet (subst (λ (es : List Effect). over w.id es ≡ true) turn.effects_are ended) in
@@ -183,6 +186,6 @@ turn_awaited n left s t l told e good turned all here quiet =
     elim (turn_leaves n left s t told is.waiter good turned is.waits) [
       | inl stays ↦ moved s t l l e is stays (keeps_self l e e.1.request)
       | inr ended ↦ (
-          let serves : list_any (serves_request is.waiter.id) told ≡ true = turn_serves left s t told is.waiter good (turn_of n left s t told good turned) is.waits is.smb ended in
+          let serves : list_any (serves_request is.waiter.id) told ≡ true = turn_serves n left s t told is.waiter good (turn_of n left s t told good turned) is.waits is.smb ended in
           absurd (true≢false (sym (subst (λ (k : ℕ). list_any (serves_request k) told ≡ true) is.number serves) ∙ quiet)))
     ]

@@ -12,16 +12,17 @@ use Rattle.xl_smb_state.proofs.RowLaws.{equal_from, equal_self, unequal_both}
 use Rattle.xl_wait.specs.Waiting.{cancelled, is_waiting}
 use Rattle.xl_wait.specs.declared.waiter.Waiter.{Waiter}
 use Rattle.xl_core.proofs.DeedLaws.{deed_good}
-use Rattle.xl_core.proofs.FrameLaws.{ack_frame, advanced_ticked, ask_frame, cancel_frame, close_open_frame, drawn_frame, end_party_frame, expire_left, give_back_frame, lapse_left, turn_frame, weaken_frame}
+use Rattle.xl_core.proofs.FrameLaws.{ack_frame, advanced_ticked, ask_frame, cancel_frame, close_open_frame, drawn_frame, end_grace_left, end_party_frame, expire_left, failed_left, give_back_frame, lapse_left, turn_frame, weaken_frame}
 use Rattle.xl_core.proofs.GoodLaws.{cancelled_all}
 use Rattle.xl_core.specs.Askers.{is_client}
 use Rattle.xl_core.specs.Decide.{ask}
-use Rattle.xl_core.specs.Deeds.{Deed, Asks, GivesBack, Weakens, Acks, Cancels, Ends, Closes, Serves, Draws, Advances, Lapses, Renews, Expires, AreFit, IsFitDeed, all_done, all_told_of, done, given, turned}
+use Rattle.xl_core.specs.Deeds.{Deed, Asks, GivesBack, Weakens, Acks, Cancels, Ends, Closes, Serves, Draws, Advances, Lapses, Renews, Expires, FailsStore, EndsGrace, AreFit, IsFitDeed, all_done, all_told_of, done, given, turned}
 use Rattle.xl_core.specs.Frames.{AllLeave, IsFrame, IsTicked, calls_in, come_by, drawn_by, names_after, who_left}
 use Rattle.xl_core.specs.Good.{IsGood, IsWaiter, are_apart}
 use Rattle.xl_core.specs.Settle.{all_cancelled, settle}
 use Rattle.xl_core.specs.State.{CoreState}
-use Rattle.xl_core.specs.Ticks.{advanced, expire, lapse, renew}
+use Rattle.xl_core.specs.Stores.{store_failed}
+use Rattle.xl_core.specs.Ticks.{advanced, end_grace, expire, lapse, renew}
 use Rattle.xl_core.specs.declared.ask.Answer.{Answer}
 use Rattle.xl_core.specs.declared.ask.Answer.TheVariants as answers
 use Rattle.xl_core.specs.declared.ask.Ask.{Ask}
@@ -148,6 +149,8 @@ deed_moves n s (Advances now) good fit = ticked_moves s (advanced s now) [] now 
 deed_moves n s (Lapses cache) good fit = ticked_moves s (lapse s cache).1 (lapse s cache).0 s.clock ((lapse_left s cache).0 good)
 deed_moves n s (Renews client) good fit = record { waiters = sym (append-nil s.waiters); leave = tt; counter = omega arith; later = λ w none. absurd none }
 deed_moves n s (Expires client) good fit = ticked_moves s (expire s client).1 (expire s client).0 s.clock ((expire_left s client).0 good)
+deed_moves n s (FailsStore stable) good fit = ticked_moves s (store_failed stable s) [] s.clock ((failed_left s stable).0 good)
+deed_moves n s EndsGrace good fit = ticked_moves s (end_grace s) [] s.clock ((end_grace_left s).0 good)
 
 -- ---- so it is by one call
 

@@ -12,6 +12,7 @@ use Rattle.xl_smb_state.specs.declared.row.Waiting.{Waiting}
 use Rattle.xl_smb_state.proofs.RowLaws.{equal_from, unequal_both}
 use Rattle.xl_wait.specs.Waiting.{cancelled}
 use Rattle.xl_wait.specs.declared.waiter.Waiter.{Waiter}
+use Rattle.xl_core.proofs.AsideLaws.{IsAside, failed_aside, grace_aside, of_expire, with_aside}
 use Rattle.xl_core.proofs.DeedLaws.{deed_good}
 use Rattle.xl_core.proofs.FrameLaws.{turn_frame}
 use Rattle.xl_core.proofs.SettleLaws.{open_waiters, party_waiters}
@@ -19,12 +20,13 @@ use Rattle.xl_names.specs.declared.name.Name.TheVariants.{NfsParty}
 use Rattle.xl_core.specs.Askers.{party_named}
 use Rattle.xl_core.specs.BreakAnswers.{ack}
 use Rattle.xl_core.specs.Decide.{ask}
-use Rattle.xl_core.specs.Deeds.{Deed, Asks, GivesBack, Weakens, Acks, Cancels, Ends, Closes, Serves, Draws, Advances, Lapses, Renews, Expires, AreFit, IsFitDeed, all_done, all_told_of, done, given, turned}
+use Rattle.xl_core.specs.Deeds.{Deed, Asks, GivesBack, Weakens, Acks, Cancels, Ends, Closes, Serves, Draws, Advances, Lapses, Renews, Expires, FailsStore, EndsGrace, AreFit, IsFitDeed, all_done, all_told_of, done, given, turned}
 use Rattle.xl_core.specs.Frames.{IsFrame, calls_in, come_by, who_left}
 use Rattle.xl_core.specs.Good.{IsGood}
 use Rattle.xl_core.specs.Settle.{all_cancelled, cancel, close_open, end_party, give_back, settle, told_of_one, waits_as, waits_for, weaken}
 use Rattle.xl_core.specs.State.{CoreState, drawn}
-use Rattle.xl_core.specs.Ticks.{advanced, end_some, expire, lapse, lapsed_by, renew}
+use Rattle.xl_core.specs.Stores.{store_failed}
+use Rattle.xl_core.specs.Ticks.{advanced, end_grace, end_some, expire, lapse, lapsed_by, renew}
 use Rattle.xl_core.specs.declared.ask.Effect.{Effect}
 use Rattle.xl_core.specs.declared.ask.Effect.TheVariants as effects
 use Rattle.xl_smb_locks.specs.Finals.{cancels, is_cancelled}
@@ -67,14 +69,17 @@ some_stays : (s : CoreState) (party : Option Party) (w : Waiter) → IsIn w s.wa
 some_stays s None w here = inl here
 some_stays s (Some party) w here = party_stays s party w here
 
+-- where the record, the grace and the stores change alone
+pub aside_stays : (s t : CoreState) (w : Waiter) → IsAside s t → IsIn w s.waiters → IsIn w t.waiters
+aside_stays s t w is here = subst (λ (u : CoreState). IsIn w u.waiters) (sym is) here
+
 expire_stays : (s : CoreState) (client : List ℕ) (w : Waiter) → IsIn w s.waiters → Stays w (expire s client).0 (expire s client).1
-unfolding expire
 expire_stays s client w here =
     let party : Option Party = party_named s.names (NfsParty client) in
-    elim (some_stays s party w here) [
+    of_expire (λ (r : List Effect × CoreState). Stays w r.0 r.1) s client (λ x. elim (some_stays (with_aside x s) party w here) [
       | inl stays ↦ inl stays
-      | inr told ↦ inr (any_left (ends_wait w.id) (end_some s party).0 (effects.Expired client ∷ []) told)
-    ]
+      | inr told ↦ inr (any_left (ends_wait w.id) (end_some (with_aside x s) party).0 (effects.Expired client ∷ []) told)
+    ])
 
 lapse_by : (s : CoreState) (cache : Claim) (client : Option (List ℕ)) (w : Waiter) → IsIn w s.waiters → Stays w (lapsed_by s cache client).0 (lapsed_by s cache client).1
 lapse_by s cache None w here = inl here
@@ -131,6 +136,8 @@ deed_stays n s (Advances now) w good fit here = inl here
 deed_stays n s (Lapses cache) w good fit here = lapse_stays s cache w here
 deed_stays n s (Renews client) w good fit here = inl here
 deed_stays n s (Expires client) w good fit here = expire_stays s client w here
+deed_stays n s (FailsStore stable) w good fit here = inl (aside_stays s (store_failed stable s) w (failed_aside stable s) here)
+deed_stays n s EndsGrace w good fit here = inl (aside_stays s (end_grace s) w (grace_aside s) here)
 
 -- ---- by several
 

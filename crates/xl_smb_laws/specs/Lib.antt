@@ -7,4 +7,5 @@ pub mod AsTold
 pub mod OpenRights
 pub mod ReplyHeads
 pub mod Heard
+pub mod InGrace
 pub mod WaitingRequests

@@ -34,13 +34,14 @@ abbrev pub range_claim : List Name → ℕ → Open → LockElement → Claim
 range_claim names number row e = record { file = row.file; owner = owners.Open number; party = party_in (party_for number row) names; what = held_as e }
 
 -- why one lock is answered so, by what is held once its breaks began: locked if the core is due to grant it; pending if it is
--- due to let it wait; LOCK_NOT_GRANTED if something held stands against it for good, INSUFFICIENT_RESOURCES if it passes a limit
-abbrev pub IsOneDue : CoreState → Ask → Claim → Told → Type 0
-IsOneDue s a claim told.Locked = IsClaimDue no_rows s a claim (answers.Granted claim)
-IsOneDue s a claim (told.Pending id) = IsClaimDue no_rows s a claim (answers.Queued id)
-IsOneDue s a claim (told.Failed status.LockNotGranted) = (c : Claim) × IsClaimDue no_rows s a claim (answers.Conflict c)
-IsOneDue s a claim (told.Failed status.InsufficientResources) = (limit : ℕ) × IsClaimDue no_rows s a claim (answers.Full limit)
-IsOneDue s a claim other = ⊥
+-- due to let it wait, as it does while grace runs; LOCK_NOT_GRANTED if something held stands against it for good,
+-- INSUFFICIENT_RESOURCES if it passes a limit
+abbrev pub IsOneDue : ℕ → CoreState → Ask → Claim → Told → Type 0
+IsOneDue n s a claim told.Locked = IsClaimDue n no_rows s a claim (answers.Granted claim)
+IsOneDue n s a claim (told.Pending id) = IsClaimDue n no_rows s a claim (answers.Queued id)
+IsOneDue n s a claim (told.Failed status.LockNotGranted) = (c : Claim) × IsClaimDue n no_rows s a claim (answers.Conflict c)
+IsOneDue n s a claim (told.Failed status.InsufficientResources) = (limit : ℕ) × IsClaimDue n no_rows s a claim (answers.Full limit)
+IsOneDue n s a claim other = ⊥
 
 -- neither granted, nor waiting, nor kept off by something held
 abbrev pub is_short : Answer → Bool
@@ -49,13 +50,13 @@ is_short (answers.Queued id) = false
 is_short (answers.Conflict c) = false
 is_short answer = true
 
--- why several are answered so, each judged once those before it are held
-abbrev pub AreDue : CoreState → Ask → List LockElement → Told → Type 0
-AreDue s a es told.Locked = (c : Claim) × IsRangesDue no_rows s a (map range_of es) (answers.Granted c)
-AreDue s a es (told.Pending id) = IsRangesDue no_rows s a (map range_of es) (answers.Queued id)
-AreDue s a es (told.Failed status.LockNotGranted) = (c : Claim) × IsRangesDue no_rows s a (map range_of es) (answers.Conflict c)
-AreDue s a es (told.Failed status.InsufficientResources) = (answer : Answer) × (is_short answer ≡ true) × IsRangesDue no_rows s a (map range_of es) answer
-AreDue s a es other = ⊥
+-- why several are answered so, each judged once those before it are held; while grace runs all of them wait
+abbrev pub AreDue : ℕ → CoreState → Ask → List LockElement → Told → Type 0
+AreDue n s a es told.Locked = (c : Claim) × IsRangesDue n no_rows s a (map range_of es) (answers.Granted c)
+AreDue n s a es (told.Pending id) = IsRangesDue n no_rows s a (map range_of es) (answers.Queued id)
+AreDue n s a es (told.Failed status.LockNotGranted) = (c : Claim) × IsRangesDue n no_rows s a (map range_of es) (answers.Conflict c)
+AreDue n s a es (told.Failed status.InsufficientResources) = (answer : Answer) × (is_short answer ≡ true) × IsRangesDue n no_rows s a (map range_of es) answer
+AreDue n s a es other = ⊥
 
 -- the ask for these locks, and the state once its breaks began
 abbrev pub once_asked : CoreState → ℕ → ℕ → Open → List LockElement → CoreState

@@ -6,6 +6,7 @@ pub mod awaiting;
 pub mod beginnings;
 pub mod cancelling;
 pub mod ending;
+pub mod in_grace;
 pub mod locking;
 pub mod opens;
 pub mod replying;

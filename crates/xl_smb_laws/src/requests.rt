@@ -164,10 +164,10 @@ pub fn a_close_leaves_nothing()
 /// CREATE is answered with its status exactly if that has its cause, in the order of its checks (MS-SMB2 3.3.5.9):
 /// INVALID_PARAMETER if the key of the lease that it asks for is in use on another file (3.3.5.9.8); once its breaks
 /// began it is open if the core is due to grant the share, and is given the oplock or the lease that it has then; it is
-/// pending if the core is due to let it wait, for answers to breaks; SHARING_VIOLATION if something held stands against
-/// it for good, INSUFFICIENT_RESOURCES if it passes a limit.
+/// pending if the core is due to let it wait, for the end of grace or for answers to breaks; SHARING_VIOLATION if something
+/// held stands against it for good, INSUFFICIENT_RESOURCES if it passes a limit.
 pub fn creates_have_causes()
-    ensures { (n : ℕ) (s : CoreState) (files : List (List ℕ)) (others : ℕ) (l : Lists) (conn : ℕ) (h : SmbHead) (c : CreateCallItem) (told : Told) → ((outcome_of n s files others l conn h (CallItem.Create c)).0 ≡ told) ↔ IsCreateDue s (outcome_of n s files others l conn h (CallItem.Create c)).3 files others l conn h c told }
+    ensures { (n : ℕ) (s : CoreState) (files : List (List ℕ)) (others : ℕ) (l : Lists) (conn : ℕ) (h : SmbHead) (c : CreateCallItem) (told : Told) → ((outcome_of n s files others l conn h (CallItem.Create c)).0 ≡ told) ↔ IsCreateDue n s (outcome_of n s files others l conn h (CallItem.Create c)).3 files others l conn h c told }
 {}
 
 /// What CREATE answers as open is held (MS-SMB2 3.3.5.9): it has the next number, and is given the oplock or the lease

@@ -51,7 +51,7 @@ may_be_held number e within = held number e.offset e.length _ (e.length == 0) re
 
 pub unlock_fits : (number : ℕ) (row : Open) (e : LockElement) → IsOpenAsk (unlock_ask number row e)
 unfolding unlock_ask
-unlock_fits number row e = record { fit = record { act = in_order e; own = refl; party = party_fits number row; wish = refl }; unnamed = refl }
+unlock_fits number row e = record { fit = record { act = in_order e; own = refl; party = party_fits number row; wish = refl }; unnamed = refl; reclaim = refl; monitored = refl }
 
 pub unlock_is : (a : Ask) (number : ℕ) (row : Open) (e : LockElement) → a ≡ unlock_ask number row e → IsOpenAsk a
 unlock_is a number row e is = subst (λ (x : Ask). IsOpenAsk x) (sym is) (unlock_fits number row e)
@@ -111,6 +111,8 @@ lock_fits conn number row (e ∷ es) h some =
     record {
       fit = record { act = (in_order e, alone number e es h); own = all_held number (e ∷ es) (none_wraps (e ∷ es) h); party = party_fits number row; wish = refl };
       unnamed = refl;
+      reclaim = refl;
+      monitored = refl;
     }
 
 pub lock_is : (a : Ask) (conn number : ℕ) (row : Open) (es : List LockElement) → a ≡ lock_ask conn number row es → lock_fault es ≡ None → 1 ≤ length es → IsOpenAsk a

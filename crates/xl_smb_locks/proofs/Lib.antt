@@ -1,5 +1,6 @@
 pub mod LeaveLaws
 pub mod FitLaws
+pub mod PlainLaws
 pub mod UnlockLaws
 pub mod FinalLaws
 pub mod OnLaws

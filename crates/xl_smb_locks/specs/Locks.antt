@@ -47,8 +47,9 @@ unlock_ask number row e = range_ask None number row (acts.Unlock (extent_of e)) 
 abbrev pub range_of : LockElement → Extent × Bool
 range_of e = (extent_of e, is_exclusive e)
 
--- all ranges are locked in order, or none; if a cache keeps the first off they wait for the answer to its break, one
--- that may wait does if something stands against it for good, and who waits is answered by this connection (SMB-24)
+-- all ranges are locked in order, or none; while grace runs they wait for its end, if a cache keeps the first off they wait for
+-- the answer to its break, one that may wait does if something stands against it for good, and who waits is answered by this
+-- connection (SMB-24)
 unfoldable pub lock_ask : ℕ → ℕ → Open → List LockElement → Ask
 lock_ask conn number row es = range_ask (Some conn) number row (acts.Ranges (map range_of es)) (any_waits es)
 

@@ -15,7 +15,9 @@ IsLease name = is_lease name ≡ true
 abbrev pub Leaves : ℕ → CoreState → CoreState → Type 0
 Leaves most old new = budgets.Leaves IsLease most old new
 
--- the ask is an open's, and the core takes it
+-- the ask is an open's, and the core takes it: it reclaims nothing, and no record names its client
 pub record IsOpenAsk (a : Ask) : Type 0 where
   pub fit : IsFit a
   pub unnamed : is_named a.owner ≡ false
+  pub reclaim : a.reclaim ≡ false
+  pub monitored : a.monitored ≡ false

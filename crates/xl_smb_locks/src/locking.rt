@@ -1,6 +1,6 @@
 //! Locks.
 ghost use Rattle.std.specs.Prelude.{◌≡◌, ℕ, ◌≤◌, None, length, IfOk, OnOk};
-ghost use Rattle.xl_base.specs.Outside.{HandedOn};
+ghost use Rattle.xl_plan.specs.Keepers.{HandsTo};
 ghost use Rattle.xl_core.specs.Decide.{ask};
 ghost use Rattle.xl_core.specs.State.{MayBe};
 ghost use Rattle.xl_smb_locks.specs.Elements.{lock_fault};
@@ -48,8 +48,8 @@ pub fn comes_to(conflict: SmbStatus, answer: &Answer) -> Locking
     }
 }
 
-/// Asks the core for an open, if so much room is left in the tables of the fronts. At least 65,536 numbers must be left
-/// to give out.
+/// Asks the core for an open, if so much room is left in the tables of the fronts: it waits while grace runs. At least
+/// 65,536 numbers must be left to give out.
 pub fn asked<K: Keeper>(
     alloc: Global,
     core: &mut Core,
@@ -61,7 +61,7 @@ pub fn asked<K: Keeper>(
     requires unnamed { IsOpenAsk request }
     ensures state { (n : ℕ) → IfOk result (λ r. MayBe n core.new → ask n left.now core.old request ≡ (r.0, r.1, core.new)) }
     ensures leaves { OnOk result (Leaves 2 core.old core.new) }
-    ensures keeper { HandedOn keeper.old keeper.new }
+    ensures keeper { OnOk result (HandsTo K.held K.given K.faults K.left core.old core.new keeper.old keeper.new) }
 {
     let (answer, effects) = core.ask(alloc, keeper, &request, left)?;
     Ok((answer, effects))
@@ -69,9 +69,9 @@ pub fn asked<K: Keeper>(
 
 /// Locks all of these ranges of an open of a file, or none (MS-SMB2 3.3.5.14.2, MS-FSA 2.1.5.8). If something held
 /// stands against one for good, it waits if it may, and is answered by this connection; else it is LOCK_NOT_GRANTED. If
-/// a cache keeps the first off all of them wait for the answer to its break. If a limit is passed it is
-/// INSUFFICIENT_RESOURCES. The breaks that begin for it come first, and are told of. One that waits does so under a
-/// number that is given out to it behind those of their calls.
+/// a cache keeps the first off all of them wait for the answer to its break. While grace runs all of them wait for its end,
+/// and no break begins for them. If a limit is passed it is INSUFFICIENT_RESOURCES. The breaks that begin for it come first,
+/// and are told of. One that waits does so under a number that is given out to it behind those of their calls.
 pub fn lock<K: Keeper>(
     alloc: Global,
     core: &mut Core,
@@ -86,7 +86,7 @@ pub fn lock<K: Keeper>(
     requires some { 1 ≤ length elements.now }
     ensures state { (n : ℕ) → IfOk result (λ r. MayBe n core.new → lock_done (ask n no_rows core.old (lock_ask conn number row.now elements.now)) ≡ (r.0, r.1, core.new)) }
     ensures leaves { OnOk result (Leaves 2 core.old core.new) }
-    ensures keeper { HandedOn keeper.old keeper.new }
+    ensures keeper { OnOk result (HandsTo K.held K.given K.faults K.left core.old core.new keeper.old keeper.new) }
 {
     let request = lock_ask(alloc, conn, number, row, elements)?;
     let (answer, effects) = asked(alloc, core, keeper, &NO_ROWS, request)?;

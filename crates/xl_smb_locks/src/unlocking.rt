@@ -1,6 +1,6 @@
 //! Unlocks.
 ghost use Rattle.std.specs.Prelude.{◌≡◌, ℕ, false, [], IfOk, OnOk};
-ghost use Rattle.xl_base.specs.Outside.{HandedOn};
+ghost use Rattle.xl_plan.specs.Keepers.{HandsTo};
 ghost use Rattle.xl_core.specs.Decide.{ask};
 ghost use Rattle.xl_core.specs.Deeds.{all_done};
 ghost use Rattle.xl_core.specs.State.{MayBe};
@@ -33,7 +33,7 @@ fn unlock_one<K: Keeper>(
     requires sound { wraps element.now ≡ false }
     ensures state { IfOk result (λ answer. ask 0 no_rows core.old (unlock_ask number row.now element.now) ≡ (answer, [], core.new)) }
     ensures leaves { OnOk result (Leaves 0 core.old core.new) }
-    ensures keeper { HandedOn keeper.old keeper.new }
+    ensures keeper { OnOk result (HandsTo K.held K.given K.faults K.left core.old core.new keeper.old keeper.new) }
 {
     let request = unlock_ask(alloc, number, row, element);
     let (answer, _effects) = core.ask(alloc, keeper, &request, &NO_ROWS)?;
@@ -63,7 +63,7 @@ pub fn unlock<K: Keeper>(
     ensures told { IfOk result (λ told. told ≡ (unlocks core.old number row.now elements.now).1) }
     ensures state { (n : ℕ) → OnOk result (core.new ≡ all_done n core.old (unlocks core.old number row.now elements.now).0) }
     ensures leaves { OnOk result (Leaves 0 core.old core.new) }
-    ensures keeper { HandedOn keeper.old keeper.new }
+    ensures keeper { OnOk result (HandsTo K.held K.given K.faults K.left core.old core.new keeper.old keeper.new) }
 {
     'elements: for element in elements {
         if let Some(status) = unlock_fault(element) {

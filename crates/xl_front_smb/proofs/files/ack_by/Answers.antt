@@ -1,6 +1,7 @@
 use Rattle.std.proofs.Common.{rules, None}
 use Rattle.xl_matrix.specs.declared.claim.What.TheVariants.{Cache}
 use Rattle.xl_plan.proofs.BudgetLaws.{leaves_self}
+use Rattle.xl_plan.proofs.KeeperLaws.{quiet_self}
 use Rattle.xl_front_smb.proofs.AckLaws.{by_what, rests}
 use Rattle.xl_front_smb.proofs.files.ack_by.Goals as goal
 
@@ -11,4 +12,4 @@ pub returns-in-Cache-default-None-clause-leaves : goal.returns-in-Cache-default-
 returns-in-Cache-default-None-clause-leaves c = leaves_self c.args.core.now 0 0 c.requires.ready
 
 pub returns-in-Share : goal.returns-in-Share
-returns-in-Share c = record { done = search rules; leaves = leaves_self _ _ _ c.requires.ready; answer = search rules }
+returns-in-Share c = record { done = search rules; leaves = leaves_self _ _ _ c.requires.ready; quiet = quiet_self c.args.core.now; answer = search rules }
