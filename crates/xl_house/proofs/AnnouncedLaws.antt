@@ -189,8 +189,8 @@ ask_announces n left s a good fit =
 abbrev Announces : CoreState → Turned → Type 0
 Announces s turn = AreAnnounced s turn.1 turn.0
 
-first_announces : (left : Rooms) (s : CoreState) (turn : Turned) → IsGood s → IsFirst left s [] s.waiters turn → Announces s turn
-first_announces left s turn good first = by first.moved
+first_announces : (n : ℕ) (left : Rooms) (s : CoreState) (turn : Turned) → IsGood s → IsFirst n left s [] s.waiters turn → Announces s turn
+first_announces n left s turn good first = by first.moved
   where
     w : Waiter
     w = first.waiter
@@ -207,12 +207,12 @@ first_announces left s turn good first = by first.moved
     numbered_so : AreNumbered way.0
     numbered_so = way_numbered w.asked s way (turn_way first.before s w)
 
-    by : IsMoved left first.before s w first.claim first.claims turn → Announces s turn
+    by : IsMoved n left first.before s w first.claim first.claims turn → Announces s turn
     by (Answers answer tells new due pass clear) =
         let u = once_answered way.1 w all answer in
         let same : caches_of u.claims ≡ caches_of way.1.claims = once_cases (λ cs. caches_of cs ≡ caches_of way.1.claims) all way.1.claims answer refl (all_granted_caches all way.1.claims) in
         let effects = way.0 ++ Served w.party w.id answer ∷ [] in
-        let each : AreTold s (wish_for w.wish answer u) effects = for_told w.wish answer s u effects (served_good left s turn first good answer pass).0 (more_told s u way.0 (Served w.party w.id answer ∷ []) (same_told s way.1 u way.0 same told_so)) in
+        let each : AreTold s (wish_for w.wish answer u) effects = for_told w.wish answer s u effects (served_good n left s turn first good answer pass).0 (more_told s u way.0 (Served w.party w.id answer ∷ []) (same_told s way.1 u way.0 same told_so)) in
         record {
           told = subst (λ (t : CoreState). AreTold s t turn.0) (sym new) (subst (λ (es : List Effect). AreTold s (wish_for w.wish answer u) es) (sym tells) each);
           numbered = λ cache to call here. numbered_so cache to call (begun_before way.0 w.party w.id answer cache to call (subst (λ (es : List Effect). IsIn (Begun cache to call) es) tells here));
@@ -227,7 +227,7 @@ turned_announces s (Some r) each = each
 
 pub deed_announces : (n : ℕ) (s : CoreState) (d : Deed) → IsGood s → IsFitDeed s d → IsAnnouncing n s d
 deed_announces n s (Asks left a) good fit = ask_announces n left s a good fit
-deed_announces n s (Serves left) good fit = turned_announces s (settle n left s) (each_turn n left s (Announces s) good (λ turn first. first_announces left s turn good first))
+deed_announces n s (Serves left) good fit = turned_announces s (settle n left s) (each_turn n left s (Announces s) good (λ turn first. first_announces n left s turn good first))
 deed_announces n s d good fit = tt
 
 -- ---- a machine that doesn't

@@ -33,8 +33,8 @@ use Rattle.xl_core.specs.Blockers.{all_run, is_stopped}
 use Rattle.xl_core.specs.BreakAnswers.{ack, client_of}
 use Rattle.xl_core.specs.BreaksBegun.{breaks_begun, breaks_told, is_break_on, left_held, told_before, with_break}
 use Rattle.xl_core.specs.Decide.{plea_of, way, ask}
-use Rattle.xl_core.specs.Deeds.{Deed, Asks, GivesBack, Weakens, Acks, Cancels, Ends, Closes, Serves, Draws, Advances, Lapses, Renews, Expires, given, turned, IsFitDeed}
-use Rattle.xl_core.specs.Good.{is_single, holds_up, IsGood}
+use Rattle.xl_core.specs.Deeds.{Deed, Asks, GivesBack, Weakens, Acks, Cancels, Ends, Closes, Serves, Draws, Advances, Lapses, Renews, Expires, FailsStore, EndsGrace, given, turned, IsFitDeed}
+use Rattle.xl_core.specs.Good.{is_single, IsGood}
 use Rattle.xl_core.specs.Leases.{moment_after}
 use Rattle.xl_core.specs.Places.{CacheOf, else_was, held_at, held_in, is_cache_on}
 use Rattle.xl_core.specs.Settle.{gone, told_of_one, told_with, settle, next_way, plea_again, waits_with, way_again, cancel, give_back, weaken, end_party, close_open}
@@ -48,7 +48,10 @@ use Rattle.xl_core.specs.declared.ask.Effect.{Effect}
 use Rattle.xl_core.specs.declared.ask.Effect.TheVariants.{Begun, Served, Cancelled, Expired}
 use Rattle.xl_core.proofs.BreaksBegunLaws.{begun_breaks, begun_cache}
 use Rattle.xl_core.proofs.FrameLaws.{ask_quiet}
-use Rattle.xl_core.proofs.GoodLaws.{Turned, IsMoved, Answers, Rests, IsFirst, each_turn, ranges_no_cache}
+use Rattle.xl_core.proofs.GoodLaws.{Turned, IsMoved, Answers, Rests, IsFirst, clear_up, each_turn, ranges_no_cache}
+use Rattle.xl_core.proofs.AsideLaws.{with_aside, of_expire}
+use Rattle.xl_core.proofs.StandingLaws.{timely}
+use Rattle.xl_core.specs.Standings.{is_smb, recorded_as, standing, stands}
 use Rattle.xl_core.proofs.WayAsks.{ask_recalls}
 use Rattle.xl_core.proofs.WayDeeds.{next_is}
 use Rattle.xl_core.proofs.WayLaws.{NoWay, Begins, AsksNoCache, known_no_cache, unbroken, way_is, way_runs_at_once}
@@ -211,26 +214,26 @@ none_begins c cache held none here way =
       | inr idle ↦ absurd (subst (λ (bs : List Break). IsIn cache (map broken_claim bs)) none ((names_all c held).begun cache here way idle))
     ]
 
-plea_parts : (left : Rooms) (s : CoreState) (a : Ask) → ((plea_of left s a).reclaim ≡ a.reclaim) × ((plea_of left s a).awaits ≡ a.awaits)
+plea_parts : (left : Rooms) (s : CoreState) (a : Ask) → ((plea_of left s a).standing ≡ stands s a) × ((plea_of left s a).awaits ≡ a.awaits)
 unfolding plea_of
 plea_parts left s a = (refl, refl)
 
 -- what is in the way of the first of the ask's claims
-first_begun : (left : Rooms) (s : CoreState) (a : Ask) (c cache : Claim) → IsFirstOf (asked_claims a (asked_whats a.act) s.names) c → a.reclaim ≡ false → a.awaits ≡ false → is_stopped s.waiters s c ≡ false
+first_begun : (left : Rooms) (s : CoreState) (a : Ask) (c cache : Claim) → IsFirstOf (asked_claims a (asked_whats a.act) s.names) c → s.grace ≡ None → a.reclaim ≡ false → a.awaits ≡ false → is_stopped s.waiters s c ≡ false
     → IsIn cache (way left s a).1.claims → is_obstacle c (way left s a).1.claims cache ≡ true → is_running cache.what ≡ true
-first_begun left s a c cache first fresh hasty clear here way = by (asked_claims a (asked_whats a.act) s.names) refl first where
+first_begun left s a c cache first calm fresh hasty clear here way = by (asked_claims a (asked_whats a.act) s.names) refl first where
   by : (asked : List Claim) → asked_claims a (asked_whats a.act) s.names ≡ asked → slice_get asked 0 ≡ Some c → is_running cache.what ≡ true
   by [] e f = absurd cc
   by (d ∷ ds) e f =
       let p = plea_of left s a in
       let same : d ≡ c = same_found d c f in
       let asks : asked_claims a (asked_whats a.act) s.names ≡ c ∷ ds = e ∙ ap (λ (x : Claim). x ∷ ds) same in
-      let runs = way_runs_at_once s.waiters p c ds s ((plea_parts left s a).0 ∙ fresh) ((plea_parts left s a).1 ∙ hasty) clear in
+      let runs = way_runs_at_once s.waiters p c ds s ((plea_parts left s a).0 ∙ ap (λ (b : Bool). standing s (recorded_as a.party) (is_smb a.party) b) fresh ∙ timely s (recorded_as a.party) (is_smb a.party) calm) ((plea_parts left s a).1 ∙ hasty) clear in
       let runs_there = subst (λ (xs : List Claim). all_run (made_way s.waiters p xs s).1.claims c ≡ true) (sym asks) runs in
       none_begins c cache (made_way s.waiters p (asked_claims a (asked_whats a.act) s.names) s).1.claims (unbroken (made_way s.waiters p (asked_claims a (asked_whats a.act) s.names) s).1.claims c runs_there) here way
 
 has_begun : (left : Rooms) (s : CoreState) (a : Ask) → HasBegun left s a
-has_begun left s a first c cache is fresh hasty clear among here stands = first_begun left s a first cache is fresh hasty clear here (first_in_way a s.names a.act first c is among (way left s a).1.claims cache stands)
+has_begun left s a first c cache is calm fresh hasty clear among here stands = first_begun left s a first cache is calm fresh hasty clear here (first_in_way a s.names a.act first c is among (way left s a).1.claims cache stands)
 
 ask_is_broken : (n : ℕ) (left : Rooms) (s : CoreState) (a : Ask) → IsGood s → IsFit a → AreBroken s (way left s a).1 (IsFirstOf (asked_claims a (asked_whats a.act) s.names)) (ask n left s a).1
 ask_is_broken n left s a good fit cache to call here =
@@ -252,8 +255,8 @@ among_all (v ∷ vs) w behind = inr (among_all vs w behind)
 abbrev TurnBreaks : CoreState → Turned → Type 0
 TurnBreaks s turn = AreBroken s (next_way s).1 (λ c. (w : Waiter) × IsIn w s.waiters × IsFirstOf w.asked c) turn.0
 
-first_is_broken : (left : Rooms) (s : CoreState) (turn : Turned) → IsGood s → IsFirst left s [] s.waiters turn → TurnBreaks s turn
-first_is_broken left s turn good first cache to call here =
+first_is_broken : (n : ℕ) (left : Rooms) (s : CoreState) (turn : Turned) → IsGood s → IsFirst n left s [] s.waiters turn → TurnBreaks s turn
+first_is_broken n left s turn good first cache to call here =
     let broken = way_is_broken w.asked s way good (known_no_cache s.names w.asked first.is.1) (turn_way first.before s w) cache to call (by first.moved) in
     (broken.0, (w, subst (λ (ws : List Waiter). IsIn w ws) (sym first.stood) (among_all first.before w first.behind), broken.1), subst (λ (x : Turned). IsBroken s x.1 broken.0 cache to) (sym next) broken.2)
   where
@@ -264,9 +267,9 @@ first_is_broken left s turn good first cache to call here =
     way = way_again first.before s w
 
     next : next_way s ≡ way
-    next = next_is s first.before w first.behind first.stood first.blocked (ap (holds_up first.before s w) first.asked ∙ first.free)
+    next = next_is s first.before w first.behind first.stood first.blocked (clear_up first.before s w first.claim first.claims first.calm first.asked first.free)
 
-    by : IsMoved left first.before s w first.claim first.claims turn → IsIn (Begun cache to call) way.0
+    by : IsMoved n left first.before s w first.claim first.claims turn → IsIn (Begun cache to call) way.0
     by (Answers answer told new due pass clear) = begun_before way.0 w.party w.id answer cache to call (subst (λ (effects : List Effect). IsIn (Begun cache to call) effects) told here)
     by (Rests e up) = subst (λ (x : Turned). IsIn (Begun cache to call) x.0) e here
 
@@ -305,8 +308,9 @@ ended_quietly s None = refl
 ended_quietly s (Some party) = leavers_told (leavers.Party party) s.waiters
 
 expired_quietly : (s : CoreState) (client : List ℕ) → breaks_told (expire s client).0 ≡ []
-unfolding expire
-expired_quietly s client = let party = party_named s.names (NfsParty client) in one_expires client (end_some s party).0 (ended_quietly s party)
+expired_quietly s client =
+    let party = party_named s.names (NfsParty client) in
+    of_expire (λ (r : Turned). breaks_told r.0 ≡ []) s client (λ x. one_expires client (end_some (with_aside x s) party).0 (ended_quietly (with_aside x s) party))
 
 lapsed_quietly : (s : CoreState) (cache : Claim) (client : Option (List ℕ)) → breaks_told (lapsed_by s cache client).0 ≡ []
 lapsed_quietly s cache None = refl
@@ -327,12 +331,14 @@ tells_none n s (Lapses cache) asks serves = lapsed_quietly s cache (client_of s.
 tells_none n s (Renews client) asks serves = refl
 tells_none n s (Expires client) asks serves = expired_quietly s client
 tells_none n s (Closes number party) asks serves = leavers_told (leavers.Open number party) s.waiters
+tells_none n s (FailsStore stable) asks serves = refl
+tells_none n s EndsGrace asks serves = refl
 
 -- ---- each deed
 
 pub deed_broken : (n : ℕ) (s : CoreState) (d : Deed) → IsGood s → IsFitDeed s d → IsBrokenBy n s d
 deed_broken n s (Asks left a) good fit = (λ cache to call here. ask_is_broken n left s a good fit cache to call here, has_begun left s a, λ what cache one e. ask_recalls n left s a what cache one e)
-deed_broken n s (Serves left) good fit = turned_broken s (settle n left s) (each_turn n left s (TurnBreaks s) good (λ turn first. first_is_broken left s turn good first))
+deed_broken n s (Serves left) good fit = turned_broken s (settle n left s) (each_turn n left s (TurnBreaks s) good (λ turn first. first_is_broken n left s turn good first))
 deed_broken n s d good fit = tells_none n s d (λ left a e. absurd cc) (λ left e. absurd cc)
 
 -- ---- machines that don't
@@ -364,6 +370,6 @@ uncaused_is s t asked cache to alone free broken = by broken.cause where
   ]
 
 -- one turns an ask away for a cache of which no break runs
-pub unbroken_is : (left : Rooms) (s : CoreState) (a : Ask) (first c cache : Claim) → IsFirstOf (asked_claims a (asked_whats a.act) s.names) first → a.reclaim ≡ false → a.awaits ≡ false → is_stopped s.waiters s first ≡ false
+pub unbroken_is : (left : Rooms) (s : CoreState) (a : Ask) (first c cache : Claim) → IsFirstOf (asked_claims a (asked_whats a.act) s.names) first → s.grace ≡ None → a.reclaim ≡ false → a.awaits ≡ false → is_stopped s.waiters s first ≡ false
     → IsIn c (asked_claims a (asked_whats a.act) s.names) → IsIn cache (way left s a).1.claims → is_obstacle c (way left s a).1.claims cache ≡ true → is_running cache.what ≡ false → HasBegun left s a → ⊥
-unbroken_is left s a first c cache is fresh hasty clear among here way idle begun = both_ways (is_running cache.what) idle (begun first c cache is fresh hasty clear among here way)
+unbroken_is left s a first c cache is calm fresh hasty clear among here way idle begun = both_ways (is_running cache.what) idle (begun first c cache is calm fresh hasty clear among here way)

@@ -16,7 +16,7 @@ use Rattle.xl_programs.specs.declared.program.Program.{Program}
 use Rattle.xl_programs.specs.declared.program.Program.TheVariants.{Nlm, Nfs}
 use Rattle.xl_programs.specs.Sent.{refusal_of, sent_to}
 use Rattle.xl_core.specs.State.{CoreState, step_begun}
-use Rattle.xl_core.specs.Deeds.{Deed, Lapses, Expires, turned, done, all_done, all_told_of, deeds_in_turn, expiries, lapses, tick_deeds, AreFit}
+use Rattle.xl_core.specs.Deeds.{Deed, Lapses, Expires, turned, done, all_done, all_told_of, deeds_in_turn, or_fails, lapse_of, expiries, lapses, grace_deeds, tick_deeds, AreFit}
 use Rattle.xl_core.specs.Good.{IsGood}
 use Rattle.xl_core.specs.Settle.{settle}
 use Rattle.xl_core.specs.Told.{told_to}
@@ -24,8 +24,10 @@ use Rattle.xl_core.specs.declared.ask.Effect.{Effect}
 use Rattle.xl_base.specs.declared.event.Moment.{Moment}
 use Rattle.std.proofs.lemmas.Bool.{cases_Bool, eq-eqb}
 use Rattle.xl_core.specs.Leases.{ended}
-use Rattle.xl_core.specs.BreakAnswers.{due}
-use Rattle.xl_core.specs.Ticks.{advanced, is_still_held, is_lease_over}
+use Rattle.xl_core.specs.BreakAnswers.{due, client_of}
+use Rattle.xl_core.specs.Stores.{may_store}
+use Rattle.xl_grace.specs.Grace.{is_over}
+use Rattle.xl_core.specs.Ticks.{advanced, is_still_held, is_lease_over, may_expire}
 use Rattle.xl_core.proofs.TickLaws.{tick_done, tick_fits, tick_tells}
 use Rattle.xl_core.proofs.DeedLists.{done_append, fit_append}
 use Rattle.xl_front_nlm.proofs.AnswerLaws.{answer_does, answer_takes, answer_tells}
@@ -190,19 +192,39 @@ refusal_may : (hosts : List (List ℕ)) (number : ℕ) (bytes : Option (List ℕ
 refusal_may hosts number bytes None = tt
 refusal_may hosts number bytes (Some grant) = (refl, tt)
 
-turns_may : {A : Type 0} (n : ℕ) (now : Moment) (is_left : CoreState → A → Bool) (does : A → Deed) → ((x : A) → may_do (Tick now) (does x) ≡ true) → (xs : List A) (s : CoreState) → AllByRecursion (λ d. may_do (Tick now) d ≡ true) (deeds_in_turn is_left does n xs s)
+turns_may : {A : Type 0} (n : ℕ) (now : Moment) (is_left : CoreState → A → Bool) (does : CoreState → A → Deed) → ((s : CoreState) (x : A) → may_do (Tick now) (does s x) ≡ true) → (xs : List A) (s : CoreState) → AllByRecursion (λ d. may_do (Tick now) d ≡ true) (deeds_in_turn is_left does n xs s)
 turns_may n now is_left does may [] s = tt
 turns_may n now is_left does may (x ∷ xs) s =
     elim (cases_Bool (is_left s x)) [
-      | inl e ↦ rw e (may x, turns_may n now is_left does may xs (done n s (does x)))
+      | inl e ↦ rw e (may s x, turns_may n now is_left does may xs (done n s (does s x)))
       | inr e ↦ rw e (turns_may n now is_left does may xs s)
+    ]
+
+fails_may : (n : ℕ) (now : Moment) (s : CoreState) (client : List ℕ) (d : Deed) → may_do (Tick now) d ≡ true → may_do (Tick now) (or_fails n s client d) ≡ true
+fails_may n now s client d may = elim (cases_Bool (may_expire n s client)) [ inl e ↦ rw e may | inr e ↦ rw e refl ]
+
+lapse_may : (n : ℕ) (now : Moment) (s : CoreState) (cache : Claim) (o : Option (List ℕ)) → may_do (Tick now) (lapse_of n s cache o) ≡ true
+lapse_may n now s cache None = refl
+lapse_may n now s cache (Some client) = fails_may n now s client (Lapses cache) refl
+
+grace_may : (n : ℕ) (now : Moment) (s : CoreState) → AllByRecursion (λ d. may_do (Tick now) d ≡ true) (grace_deeds n s)
+grace_may n now s =
+    elim (cases_Bool (is_over s.grace s.clock)) [
+      | inr runs ↦ rw runs tt
+      | inl over ↦ elim (cases_Bool (may_store n s)) [ inl may ↦ rw (over, may) (refl, tt) | inr none ↦ rw (over, none) (refl, tt) ]
     ]
 
 tick_may : (n : ℕ) (now : Moment) (s : CoreState) → AllByRecursion (λ d. may_do (Tick now) d ≡ true) (tick_deeds n s now)
 tick_may n now s =
     let t = advanced s now in
     let u = all_done n t (lapses n t) in
-    (eq-eqb now.0 now.0 refl, all_append (λ d. may_do (Tick now) d ≡ true) (lapses n t) (expiries n u) (turns_may n now is_still_held Lapses (λ c. refl) (due t) t) (turns_may n now is_lease_over Expires (λ id. refl) (ended u.clock u.leases) u))
+    let ds = lapses n t ++ expiries n u in (
+      eq-eqb now.0 now.0 refl,
+      all_append (λ d. may_do (Tick now) d ≡ true) ds (grace_deeds n (all_done n t ds))
+          (all_append (λ d. may_do (Tick now) d ≡ true) (lapses n t) (expiries n u) (turns_may n now is_still_held _ (λ x c. lapse_may n now x c (client_of x.names c.party)) (due t) t)
+          (turns_may n now is_lease_over _ (λ x id. fails_may n now x id (Expires id) refl) (ended u.clock u.leases) u))
+          (grace_may n now (all_done n t ds)),
+    )
 
 refusal_own : (hosts : List (List ℕ)) (o : Option Grant) → AreRefusals o (refusal_deeds hosts o)
 refusal_own hosts None = refl

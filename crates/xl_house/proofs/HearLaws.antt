@@ -13,9 +13,11 @@ use Rattle.xl_core.specs.Askers.{is_lease}
 use Rattle.xl_core.proofs.FrameLaws.{tick_frame}
 use Rattle.xl_core.proofs.GoodLaws.{begun_good, tick_good}
 use Rattle.xl_core.proofs.NumberLaws.{tick_numbers}
+use Rattle.xl_core.proofs.StoreLaws.{may_be_made}
+use Rattle.xl_core.proofs.TriedLaws.{tick_goes_on}
 use Rattle.xl_core.specs.Ticks.{tick}
 use Rattle.xl_core.specs.Numbers.{numbers_of}
-use Rattle.xl_core.specs.State.{CoreState, step_begun}
+use Rattle.xl_core.specs.State.{CoreState, MayBe, step_begun}
 use Rattle.xl_core.specs.declared.ask.Effect.{Effect}
 use Rattle.xl_plan.proofs.BudgetLaws.{all_come, come_same, leaves_more, leaves_then, leaves_weaker}
 use Rattle.xl_plan.specs.Budgets as budgets
@@ -42,18 +44,16 @@ front_leaves most s t u effects short few none leaves told =
     leaves_more s u (most + grants effects) most_numbers (omega (arith, few, none)) (leaves_then s t u most (grants effects) (leaves_weaker IsShort s t most short leaves) told)
 
 -- a reading of the clock adds nothing
-ticked_leaves : (s : CoreState) (now : Moment) → IsReady most_numbers s → Leaves 0 s (tick s now).1
-ticked_leaves s now ready =
-    let frame = tick_frame s now ready.core.good in
-    record {
-      on = record { made = omega (arith, frame.made); failed = λ f. (frame.failed ∙ f, frame.made) };
-      good = tick_good s now ready.core.good;
-      numbers = omega (arith, tick_numbers s now);
-      names = come_same s.names (tick s now).1.names frame.names;
-    }
+ticked_leaves : (n : ℕ) (s : CoreState) (now : Moment) → IsReady most_numbers s → Leaves 0 s (tick n s now).1
+ticked_leaves n s now ready = record {
+  on = tick_goes_on n s now;
+  good = tick_good n s now ready.core.good;
+  numbers = omega (arith, tick_numbers n s now);
+  names = come_same s.names (tick n s now).1.names (tick_frame n s now ready.core.good).names;
+}
 
-pub tick_leaves : (s t : CoreState) (now : Moment) (effects : List Effect) → IsReady most_numbers s → tick s now ≡ (effects, t) → Leaves 0 s t
-tick_leaves s t now effects ready e = subst (λ (r : List Effect × CoreState). Leaves 0 s r.1) e (ticked_leaves s now ready)
+pub tick_leaves : (s t : CoreState) (now : Moment) (effects : List Effect) → IsReady most_numbers s → ((n : ℕ) → MayBe n t → tick n s now ≡ (effects, t)) → Leaves 0 s t
+tick_leaves s t now effects ready is = subst (λ (r : List Effect × CoreState). Leaves 0 s r.1) (is t.made (may_be_made t)) (ticked_leaves t.made s now ready)
 
 begun_ready : (m : ℕ) (s : CoreState) → IsReady m s → IsReady m (step_begun s)
 unfolding step_begun

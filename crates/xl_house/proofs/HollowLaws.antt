@@ -1,19 +1,21 @@
 -- Machines that keep nothing, drop who waits, let go what is to be kept, stand still at a reading of the clock, or forget requests of
 -- SMB that wait, or their opens, don't meet the laws of an entry.
-use Rattle.std.proofs.Common.{◌≡◌, ℕ, nat_lt, if◌then◌else◌, Bool, true, false, List, [], ◌∷◌, Option, Some, None, refl, sym, ap, subst, ◌∙◌, arith}
+use Rattle.std.proofs.Common.{◌≡◌, ◌⊎◌, inl, inr, ℕ, nat_lt, if◌then◌else◌, Bool, true, false, List, [], ◌∷◌, Option, Some, None, refl, sym, ap, subst, ◌∙◌, arith}
 use Rattle.std.specs.Prelude.{nat_eq}
 use Rattle.std.specs.List.{AllByRecursion}
 use Rattle.std.specs.Map.{lookup}
 use Rattle.std.proofs.lemmas.Bool.{both_ways}
 use Rattle.std.proofs.lemmas.Bool.Decides.{nat_tests}
 use Rattle.xl_base.specs.Lists.{IsIn}
-use Rattle.xl_base.specs.Stable.{Stable}
+use Rattle.xl_base.specs.Stable.{Stable, is_recorded}
 use Rattle.xl_base.specs.declared.event.Event.TheVariants.{Message, Tick}
 use Rattle.xl_base.specs.declared.event.Moment.{Moment}
 use Rattle.xl_base.specs.declared.event.Out.{Out}
 use Rattle.xl_base.specs.declared.journal.Entry.{Entry}
 use Rattle.xl_base.specs.declared.name.Owner.TheVariants as owners
 use Rattle.xl_base.specs.declared.name.Party.{Party}
+use Rattle.xl_base.specs.declared.stable.Recorded.{Recorded}
+use Rattle.xl_grace.specs.Grace.{Running}
 use Rattle.xl_smb_state.proofs.RowLaws.{none_some}
 use Rattle.xl_smb_state.specs.State.{Lists, open_of}
 use Rattle.xl_smb_state.specs.declared.row.Open.{Open}
@@ -28,14 +30,18 @@ use Rattle.xl_wait.specs.declared.waiter.Rooms.{Rooms}
 use Rattle.xl_wait.specs.declared.waiter.Waiter.{Waiter}
 use Rattle.xl_core.proofs.GoodLaws.{begun_good}
 use Rattle.xl_core.proofs.HollowLaws.{nothing_kept, waiter_dropped}
-use Rattle.xl_core.specs.Deeds.{Deed, Asks, queue_after, any_ends_break}
+use Rattle.xl_core.specs.Causes.{asks_claims}
+use Rattle.xl_core.specs.Decide.{ask}
+use Rattle.xl_core.specs.Deeds.{Deed, Asks, Draws, all_done, queue_after, any_ends_break}
+use Rattle.xl_core.specs.Dues.{IsPutOff}
 use Rattle.xl_core.specs.Leases.{Lease, ended}
 use Rattle.xl_core.specs.Places.{stands, IsChangedBy}
-use Rattle.xl_core.specs.Smallest.{all_room, smallest_lock}
-use Rattle.xl_core.specs.State.{CoreState, started}
+use Rattle.xl_core.specs.Smallest.{all_room, smallest_lock, unnamed}
+use Rattle.xl_core.specs.State.{CoreState, started, step_begun}
 use Rattle.xl_core.specs.declared.ask.Act.TheVariants.{Test}
 use Rattle.xl_core.specs.declared.ask.Ask.{Ask}
 use Rattle.xl_core.specs.declared.lease.Times.{Times}
+use Rattle.xl_plan.specs.Plans.{AllAt}
 use Rattle.xl_base.proofs.Members.{all_in}
 use Rattle.xl_core.specs.Settle.{settle, waits_as}
 use Rattle.xl_core.specs.declared.ask.Answer.TheVariants.{Granted}
@@ -48,6 +54,8 @@ use Rattle.xl_house.specs.Done.{Round, deeds}
 use Rattle.xl_house.specs.Free.{IsFree}
 use Rattle.xl_house.specs.Lawful.{found, IsLawful, IsWaiting, IsKept, IsComplete}
 use Rattle.xl_house.specs.Machine.{heard}
+use Rattle.xl_house.specs.Own.{own_of}
+use Rattle.xl_house.specs.Recording.{AnyAt, IsMonitored, IsRecording, IsAdmittedBy, IsAdmitting}
 use Rattle.xl_house.specs.State.{Whole, as_found, rooms_of}
 use Rattle.xl_house.specs.Telling.{TurnTaken}
 use Rattle.xl_house.specs.Timed.{leases_after}
@@ -56,10 +64,10 @@ use Rattle.xl_house.proofs.MachineLaws.{heard_good}
 use Rattle.xl_house.proofs.DoneLaws.{rounds_are}
 use Rattle.xl_house.proofs.SettleLaws.{turns_are}
 
-pub nothing_kept_in : (n stores number : ℕ) (bytes : List ℕ) (outs : List Out) (s t : Whole) (stable : Stable) (clock : Moment) (times : Times) → found s ≡ started stable clock times → deeds n s (Message number bytes) ≡ Asks all_room smallest_lock ∷ []
+pub nothing_kept_in : (n stores number epoch : ℕ) (bytes : List ℕ) (outs : List Out) (s t : Whole) (clock : Moment) (times : Times) → found s ≡ started (unnamed epoch) clock times → deeds n s (Message number bytes) ≡ Asks all_room smallest_lock ∷ []
     → t.core.claims ≡ [] → IsLawful n s (record { event = Message number bytes; stores = stores; outs = outs }) t → ⊥
-nothing_kept_in n stores number bytes outs s t stable clock times begun does none lawful =
-    nothing_kept n stable clock times t.core none
+nothing_kept_in n stores number epoch bytes outs s t clock times begun does none lawful =
+    nothing_kept n epoch clock times t.core none
     (subst (λ (x : CoreState). IsChangedBy n x (Asks all_room smallest_lock ∷ []) t.core) begun (subst (λ (ds : List Deed). IsChangedBy n (found s) ds t.core) does (λ p. lawful.0 p ∙ ap (λ (had : List What). stands n (found s) (deeds n s (Message number bytes)) p had) (sym (begun_held s.core p)))))
 
 pub waiter_dropped_in : (n stores number : ℕ) (bytes : List ℕ) (outs : List Out) (s t : Whole) (left : Rooms) (a : Ask) (w : Waiter) (extent : Extent) (exclusive : Bool) → a.act ≡ Test extent exclusive → deeds n s (Message number bytes) ≡ Asks left a ∷ []
@@ -86,8 +94,11 @@ clock_stands_in n stores outs s t now less stands lawful =
     let shows : s.core.clock ≡ now = sym stands ∙ lawful.2 ∙ ap (λ (b : Bool). if b then now else s.core.clock) less in
     both_ways (nat_lt now.0 now.0) (not_less now.0) (subst (λ (m : Moment). nat_lt m.0 now.0 ≡ true) shows less)
 
-pub lease_runs_on_in : (n stores : ℕ) (outs : List Out) (s t : Whole) (now : Moment) (client : List ℕ) → IsIn client (ended t.core.clock t.core.leases) → IsComplete n s (record { event = Tick now; stores = stores; outs = outs }) t → ⊥
-lease_runs_on_in n stores outs s t now client runs complete = subst (λ (ids : List (List ℕ)). IsIn client ids) complete.1.leases runs
+pub lease_runs_on_in : (n stores : ℕ) (outs : List Out) (s t : Whole) (now : Moment) (client : List ℕ) → IsIn client (ended t.core.clock t.core.leases)
+    → (let left = all_done n (found s) (own_of n (as_found s) (Tick now)).deeds in IsPutOff left.failed left.stable client → ⊥) → IsComplete n s (record { event = Tick now; stores = stores; outs = outs }) t → ⊥
+lease_runs_on_in n stores outs s t now client runs timely complete =
+    let left = all_done n (found s) (own_of n (as_found s) (Tick now)).deeds in
+    timely (all_in (λ id. IsPutOff left.failed left.stable id) client (ended t.core.clock t.core.leases) complete.1.leases runs)
 
 -- ---- requests of SMB that wait, and their opens
 
@@ -112,3 +123,25 @@ open_unmade_in n stores conn bytes outs s t u told party id number claim free e 
     let have = subst (λ (ts : List TurnTaken). AllByRecursion (λ turn. HaveOpens s.exports last turn) ts) (turns_are n s.exports h.1 h.2 u told (heard_good n (as_found s) event (begun_good s.core free.good)) e) first.0 in
     let is = have.0 party id number claim here owner in
     none_stands last is.row claim is.row.request (ap (λ (k : ℕ). open_of k last) is.own ∙ none) is.there
+
+-- ---- the record, and who is let in while grace runs
+
+begun_as : (s : CoreState) → ((step_begun s).stable ≡ s.stable) × ((step_begun s).grace ≡ s.grace)
+unfolding step_begun
+begun_as s = (refl, refl)
+
+neither : ⊥ ⊎ ⊥ → ⊥
+neither (inl x) = x
+neither (inr x) = x
+
+pub record_changed_in : (n stores number : ℕ) (bytes : List ℕ) (outs : List Out) (s t : Whole) (name : Recorded) → deeds n s (Message number bytes) ≡ Draws ∷ []
+    → is_recorded name s.core.stable.names ≡ false → is_recorded name t.core.stable.names ≡ true → IsRecording n s (record { event = Message number bytes; stores = stores; outs = outs }) t → ⊥
+record_changed_in n stores number bytes outs s t name does before now recording =
+    neither
+    (subst (λ (ds : List Deed). AnyAt (λ u d. IsMonitored name n u d) n (found s) ds) does
+    (recording.0.comes name (ap (λ (stable : Stable). is_recorded name stable.names) (begun_as s.core).0 ∙ before) now))
+
+pub let_in_in : (n stores number : ℕ) (bytes : List ℕ) (outs : List Out) (s t : Whole) (left : Rooms) (a : Ask) (g : Running) (c : Claim) → deeds n s (Message number bytes) ≡ Asks left a ∷ [] → s.core.grace ≡ Some g → asks_claims a.act ≡ true
+    → a.reclaim ≡ false → (ask n left (found s) a).0 ≡ Granted c → IsAdmitting n s (record { event = Message number bytes; stores = stores; outs = outs }) t → ⊥
+let_in_in n stores number bytes outs s t left a g c does runs claims fresh granted admitting =
+    both_ways a.reclaim fresh ((subst (λ (ds : List Deed). AllAt (λ u d. IsAdmittedBy n u d) n (found s) ds) does admitting).0 g c ((begun_as s.core).1 ∙ runs) claims granted).0

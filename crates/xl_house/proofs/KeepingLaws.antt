@@ -35,7 +35,7 @@ use Rattle.xl_core.specs.Askers.{party_named, asked_whats, asked_claims, IsFit}
 use Rattle.xl_core.specs.BreakAnswers.{client_of}
 use Rattle.xl_core.specs.BreaksBegun.{breaks_begun, breaks_told, is_break_on, left_held, told_before}
 use Rattle.xl_core.specs.Decide.{way, before_wish, does_wish, ask}
-use Rattle.xl_core.specs.Deeds.{Deed, Asks, GivesBack, Weakens, Acks, Cancels, Ends, Closes, Serves, Draws, Advances, Lapses, Renews, Expires, given, done, all_done, all_told_of, turned, IsFitDeed, AreFit}
+use Rattle.xl_core.specs.Deeds.{Deed, Asks, GivesBack, Weakens, Acks, Cancels, Ends, Closes, Serves, Draws, Advances, Lapses, Renews, Expires, FailsStore, EndsGrace, given, done, all_done, all_told_of, turned, IsFitDeed, AreFit}
 use Rattle.xl_core.specs.Good.{caches_of, IsGood}
 use Rattle.xl_core.specs.Leases.{moment_after}
 use Rattle.xl_core.specs.Places.{CacheOf, acked_at, cleared_at, cleared_by, cleared_if, else_was, ended_at, ended_some, entered_by, held_at, held_in, is_cache_on, lapsed_at, made, part_by}
@@ -203,8 +203,8 @@ ask_keeps_cache n left s a file party kind good fit quiet held = by (does_wish a
   by true = for_keeps_cache a.wish (before_wish n left s a).0 u file party kind (before_good n left s a good fit) decided_so
   by false = decided_so
 
-first_keeps_cache : (left : Rooms) (s : CoreState) (turn : Turned) (file : ℕ) (party : Party) (kind : CacheKind) → IsGood s → IsFirst left s [] s.waiters turn → list_any (tells_gone file party) turn.0 ≡ false → IsHeldOf kind (held_at s (CacheOf file party)) → IsHeldOf kind (held_at turn.1 (CacheOf file party))
-first_keeps_cache left s turn file party kind good first quiet held = by first.moved where
+first_keeps_cache : (n : ℕ) (left : Rooms) (s : CoreState) (turn : Turned) (file : ℕ) (party : Party) (kind : CacheKind) → IsGood s → IsFirst n left s [] s.waiters turn → list_any (tells_gone file party) turn.0 ≡ false → IsHeldOf kind (held_at s (CacheOf file party)) → IsHeldOf kind (held_at turn.1 (CacheOf file party))
+first_keeps_cache n left s turn file party kind good first quiet held = by first.moved where
   w : Waiter
   w = first.waiter
 
@@ -217,13 +217,13 @@ first_keeps_cache left s turn file party kind good first quiet held = by first.m
   made_so : list_any (tells_gone file party) way.0 ≡ false → IsHeldOf kind (held_at way.1 (CacheOf file party))
   made_so none = way_keeps_cache w.asked s way file party kind good (turn_way first.before s w) none held
 
-  by : IsMoved left first.before s w first.claim first.claims turn → IsHeldOf kind (held_at turn.1 (CacheOf file party))
+  by : IsMoved n left first.before s w first.claim first.claims turn → IsHeldOf kind (held_at turn.1 (CacheOf file party))
   by (Answers answer told new due pass clear) =
       let u = once_answered way.1 w all answer in
       let same : caches_of u.claims ≡ caches_of way.1.claims = once_cases (λ cs. caches_of cs ≡ caches_of way.1.claims) all way.1.claims answer refl (all_granted_caches all way.1.claims) in
       let none = (none_of_each (tells_gone file party) way.0 (Served w.party w.id answer ∷ []) (sym (ap (λ (effects : List Effect). list_any (tells_gone file party) effects) told) ∙ quiet)).0 in
       same_held (ap (λ (x : CoreState). held_at x (CacheOf file party)) new)
-      (for_keeps_cache w.wish answer u file party kind (served_good left s turn first good answer pass).0 (same_held (held_of_caches file party way.1.claims u.claims same) (made_so none)))
+      (for_keeps_cache w.wish answer u file party kind (served_good n left s turn first good answer pass).0 (same_held (held_of_caches file party way.1.claims u.claims same) (made_so none)))
   by (Rests e up) =
       same_held (ap (λ (x : Turned). held_at x.1 (CacheOf file party)) e) (made_so (sym (ap (λ (x : Turned). list_any (tells_gone file party) x.0) e) ∙ quiet))
 
@@ -271,7 +271,7 @@ unmade n s d file party kind good fit none held = same_held (deed_makes n s d (C
 deed_keeps_cache : (n : ℕ) (s : CoreState) (d : Deed) (file : ℕ) (party : Party) (kind : CacheKind) → IsGood s → IsFitDeed s d → ends_cache s file party d ≡ false → list_any (tells_gone file party) (given n s d).1 ≡ false → IsHeldOf kind (held_at s (CacheOf file party)) → IsHeldOf kind (held_at (done n s d) (CacheOf file party))
 deed_keeps_cache n s (Asks left a) file party kind good fit lasts quiet held = ask_keeps_cache n left s a file party kind good fit quiet held
 deed_keeps_cache n s (Serves left) file party kind good fit lasts quiet held =
-    turned_keeps s file party kind (settle n left s) (each_turn n left s (TurnKeeps s file party kind) good (λ turn first quiet held. first_keeps_cache left s turn file party kind good first quiet held)) quiet held
+    turned_keeps s file party kind (settle n left s) (each_turn n left s (TurnKeeps s file party kind) good (λ turn first quiet held. first_keeps_cache n left s turn file party kind good first quiet held)) quiet held
 deed_keeps_cache n s (GivesBack claim) file party kind good fit lasts quiet held = unmade n s (GivesBack claim) file party kind good fit (cleared_apart file party claim lasts) held
 deed_keeps_cache n s (Weakens share access deny) file party kind good fit lasts quiet held = unmade n s (Weakens share access deny) file party kind good fit refl held
 deed_keeps_cache n s (Acks cache to) file party kind good fit lasts quiet held = unmade n s (Acks cache to) file party kind good fit (acked_apart file party cache to lasts) held
@@ -283,6 +283,8 @@ deed_keeps_cache n s (Lapses cache) file party kind good fit lasts quiet held = 
 deed_keeps_cache n s (Renews client) file party kind good fit lasts quiet held = unmade n s (Renews client) file party kind good fit refl held
 deed_keeps_cache n s (Expires client) file party kind good fit lasts quiet held = unmade n s (Expires client) file party kind good fit (some_apart file party (party_named s.names (NfsParty client)) s.claims lasts) held
 deed_keeps_cache n s (Closes number other) file party kind good fit lasts quiet held = unmade n s (Closes number other) file party kind good fit (ap cleared_if lasts) held
+deed_keeps_cache n s (FailsStore stable) file party kind good fit lasts quiet held = unmade n s (FailsStore stable) file party kind good fit refl held
+deed_keeps_cache n s EndsGrace file party kind good fit lasts quiet held = unmade n s EndsGrace file party kind good fit refl held
 
 pub deeds_keep_cache : (n : ℕ) (s : CoreState) (ds : List Deed) (file : ℕ) (party : Party) (kind : CacheKind) → IsGood s → AreFit n s ds → any_ends_cache n s file party ds ≡ false → list_any (tells_gone file party) (all_told_of n s ds) ≡ false → IsHeldOf kind (held_at s (CacheOf file party)) → IsHeldOf kind (held_at (all_done n s ds) (CacheOf file party))
 deeds_keep_cache n s [] file party kind good fit lasts quiet held = held

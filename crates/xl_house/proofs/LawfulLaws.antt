@@ -19,21 +19,21 @@ use Rattle.xl_table.specs.Held.{is_cache}
 use Rattle.xl_wait.specs.declared.waiter.Waiter.{Waiter}
 use Rattle.xl_names.specs.declared.name.Name.{Name}
 use Rattle.xl_core.specs.State.{CoreState, step_begun}
-use Rattle.xl_core.specs.BreakAnswers.{due}
-use Rattle.xl_core.specs.Deeds.{all_done, queue_after, any_ends_break, KeepNames}
-use Rattle.xl_core.specs.Dues.{AreDue}
+use Rattle.xl_core.specs.Deeds.{Deed, all_done, queue_after, any_ends_break, KeepNames}
+use Rattle.xl_core.specs.Dues.{AreDue, IsPutOff}
+use Rattle.xl_core.specs.Good.{IsGood}
+use Rattle.xl_core.specs.Ticks.{tick}
 use Rattle.xl_core.specs.Leases.{ended}
 use Rattle.xl_core.specs.Places.{Place, ByteOf, ShareOf, RangesOf, CacheOf, held_at, stands}
 use Rattle.xl_core.proofs.DeedCaches.{deeds_keep_break}
 use Rattle.xl_core.proofs.DeedLists.{deeds_make, deeds_queue, deeds_names, deeds_due}
-use Rattle.xl_core.proofs.DueLaws.{none_due}
 use Rattle.xl_core.proofs.GoodLaws.{begun_good}
-use Rattle.xl_core.proofs.TickLaws.{tick_done, tick_in_turn, none_ended}
+use Rattle.xl_core.proofs.TickLaws.{tick_done, tick_in_turn, tick_late, tick_off, tick_over}
 use Rattle.xl_house.specs.Done.{rounds, deeds, messages}
 use Rattle.xl_house.specs.Own.{own_of}
 use Rattle.xl_house.specs.Free.{IsFree}
 use Rattle.xl_house.specs.Journals.{IsLegal, is_restart}
-use Rattle.xl_house.specs.Lawful.{Always, IsLawful, IsLawfulBy, IsLeftBy, IsWaiting, IsWaitingBy, IsGuarding, IsKept, IsKeptBy, IsOnTime, IsOnTimeBy, IsComplete, IsCaused, IsCausedBy, IsTold}
+use Rattle.xl_house.specs.Lawful.{Always, IsLawful, IsLawfulBy, IsLeftBy, IsWaiting, IsWaitingBy, IsGuarding, IsKept, IsKeptBy, IsOnTime, IsOnTimeWith, IsOnTimeBy, IsComplete, IsCaused, IsCausedBy, IsTold}
 use Rattle.xl_house.specs.Machine.{Turn, step}
 use Rattle.xl_house.specs.State.{Whole, as_found, start_of}
 use Rattle.xl_house.specs.Timed.{leases_after, clock_after}
@@ -183,15 +183,31 @@ nothing_due n s = tt
 due_by : (n : ℕ) (s : Whole) (event : Event) → IsFree s → AreDue n (step_begun s.core) (deeds n s event)
 due_by n s event free = each_event (λ e. AreDue n (step_begun s.core) (deeds n s e)) (λ e other. deeds_given n s e other free) (nothing_due n s) event
 
--- a reading of the clock leaves nothing that is due by then
+-- a reading of the clock leaves nothing that is due by then, but what waits for a store that failed
 on_time : (n : ℕ) (s : Whole) (now : Moment) → IsFree s → IsOnTime n s now (step n s (Tick now)).next
 on_time n s now free =
-    let found = step_begun s.core in
-    record {
-      breaks = subst (λ (t : CoreState). due t ≡ []) (sym (tick_done n found now)) (none_due found now (begun_good s.core free.good));
-      leases = ap (λ (x : Running). ended x.1 x.0) (next_times n s (Tick now) refl free ∙ ap times_in (tick_done n found now)) ∙ none_ended found now;
-      turns = tick_in_turn n found (all_done n found (own_of n (as_found s) (Tick now)).deeds) now (begun_good s.core free.good);
-    }
+    subst (λ (left : CoreState). IsOnTimeWith n s ds left (step n s (Tick now)).next) (sym done)
+    (record {
+      breaks = tick_late n found now good;
+      leases = subst (λ (ids : List (List ℕ)). AllByRecursion (λ client. IsPutOff (tick n found now).1.failed (tick n found now).1.stable client) ids) (sym same) (tick_off n found now);
+      grace = tick_over n found now;
+      turns = tick_in_turn n found now good;
+    })
+  where
+    found : CoreState
+    found = step_begun s.core
+
+    ds : List Deed
+    ds = (own_of n (as_found s) (Tick now)).deeds
+
+    good : IsGood found
+    good = begun_good s.core free.good
+
+    done : all_done n found ds ≡ (tick n found now).1
+    done = tick_done n found now
+
+    same : ended (step n s (Tick now)).next.core.clock (step n s (Tick now)).next.core.leases ≡ ended (tick n found now).1.clock (tick n found now).1.leases
+    same = ap (λ (x : Running). ended x.1 x.0) (next_times n s (Tick now) refl free ∙ ap times_in done)
 
 on_time_by : (n : ℕ) (s : Whole) (event : Event) → IsFree s → IsOnTimeBy n s event (step n s event).next
 on_time_by n s (Tick now) free = on_time n s now free

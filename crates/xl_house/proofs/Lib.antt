@@ -1,5 +1,8 @@
-pub mod StillLaws
-pub mod Stores
+pub mod StartLaws
+pub mod StoringLaws
+pub mod RecordingLaws
+pub mod AdmittingLaws
+pub mod ForgettingLaws
 pub mod MayLaws
 pub mod QuietLaws
 pub mod ShownLaws
@@ -13,6 +16,8 @@ pub mod EachEntry
 pub mod Splits
 pub mod FittingLaws
 pub mod LawfulLaws
+pub mod RecordLaws
+pub mod ActedLaws
 pub mod SteadyLaws
 pub mod OwedLaws
 pub mod AskingLaws

@@ -34,7 +34,7 @@ use Rattle.xl_core.specs.Askers.{asked_whats, asked_claims, party_named, IsFit}
 use Rattle.xl_core.specs.BreakAnswers.{ack, client_of, with_rest}
 use Rattle.xl_core.specs.BreaksBegun.{breaks_begun, once_begun, once_broken, with_break}
 use Rattle.xl_core.specs.Decide.{way, before_wish, decided, does_wish, ask}
-use Rattle.xl_core.specs.Deeds.{Deed, Asks, GivesBack, Weakens, Acks, Cancels, Ends, Closes, Serves, Draws, Advances, Lapses, Renews, Expires, given, done, turned, IsFitDeed}
+use Rattle.xl_core.specs.Deeds.{Deed, Asks, GivesBack, Weakens, Acks, Cancels, Ends, Closes, Serves, Draws, Advances, Lapses, Renews, Expires, FailsStore, EndsGrace, given, done, turned, IsFitDeed}
 use Rattle.xl_core.specs.Good.{IsGood}
 use Rattle.xl_core.specs.Judge.{all_granted, held_with}
 use Rattle.xl_core.specs.Leases.{moment_after}
@@ -48,6 +48,7 @@ use Rattle.xl_core.specs.declared.ask.Effect.{Effect}
 use Rattle.xl_core.specs.declared.ask.Effect.TheVariants.{Served}
 use Rattle.xl_core.proofs.ChangeLaws.{AskWay, Stays, Tests, Holds, Waits, Frees, Gives, decided_way}
 use Rattle.xl_core.proofs.GoodLaws.{Turned, IsMoved, Answers, Rests, IsFirst, asked_way_good, each_turn, once_answered}
+use Rattle.xl_core.proofs.AsideLaws.{with_aside, of_expire, failed_aside, grace_aside}
 use Rattle.xl_core.proofs.SettleLaws.{once_cases}
 use Rattle.xl_core.proofs.WayAsks.{ask_way_names}
 use Rattle.xl_core.proofs.WishLaws.{found_own}
@@ -186,7 +187,7 @@ decided_all P by t a r (Stays answer refused e) granted asked all = subst (λ (x
 decided_all P by t a r (Tests c holds e) granted asked all = subst (λ (x : Answer × List Effect × CoreState). All P x.2.claims) (sym e) all
 decided_all P by t a r (Holds c claims is holds e) granted asked all =
     subst (λ (x : Answer × List Effect × CoreState). All P x.2.claims) (sym e) (each_granted P by claims t.claims (subst (λ (cs : List Claim). All P cs) (sym is) asked) all)
-decided_all P by t a r (Waits c cs may blocked is holds e) granted asked all = subst (λ (x : Answer × List Effect × CoreState). All P x.2.claims) (sym e) all
+decided_all P by t a r (Waits c cs why is holds e) granted asked all = subst (λ (x : Answer × List Effect × CoreState). All P x.2.claims) (sym e) all
 decided_all P by t a r (Frees claim first last holds act file owner e) granted asked all =
     subst (λ (x : Answer × List Effect × CoreState). All P x.2.claims) (sym e) (relocked_all P by claim first last None t.claims (granted claim (ap (λ (x : Answer × List Effect × CoreState). x.0) e)) all)
 decided_all P by t a r (Gives claim d holds act file owner range e) granted asked all = subst (λ (x : Answer × List Effect × CoreState). All P x.2.claims) (sym e) (removed_all P d t.claims all)
@@ -211,8 +212,8 @@ ask_all P by n left s a good fit granted asked all = go (does_wish a.act) where
 abbrev TurnAll : (Claim → Type 0) → CoreState → Turned → Type 0
 TurnAll P s turn = ((w : Waiter) (answer : Answer) (b : Claim) → IsIn w s.waiters → IsIn (Served w.party w.id answer) turn.0 → IsIn b w.asked → P b) → All P turn.1.claims
 
-turn_all : (P : Claim → Type 0) → GoesBy P → (left : Rooms) (s : CoreState) (turn : Turned) → IsFirst left s [] s.waiters turn → All P s.claims → TurnAll P s turn
-turn_all P by left s turn first all waits = go first.moved where
+turn_all : (P : Claim → Type 0) → GoesBy P → (n : ℕ) (left : Rooms) (s : CoreState) (turn : Turned) → IsFirst n left s [] s.waiters turn → All P s.claims → TurnAll P s turn
+turn_all P by n left s turn first all waits = go first.moved where
   w : Waiter
   w = first.waiter
 
@@ -233,7 +234,7 @@ turn_all P by left s turn first all waits = go first.moved where
   made_so : All P way.1.claims
   made_so = way_all P by w.asked s way (turn_way first.before s w) all
 
-  go : IsMoved left first.before s w first.claim first.claims turn → All P turn.1.claims
+  go : IsMoved n left first.before s w first.claim first.claims turn → All P turn.1.claims
   go (Answers answer told new due pass clear) =
       let u = once_answered way.1 w asked answer in
       subst (λ (x : CoreState). All P x.claims) (sym new)
@@ -256,8 +257,7 @@ ended_all P s None all = all
 ended_all P s (Some party) all = stayed_all P _ s.claims all
 
 expired_all : (P : Claim → Type 0) (s : CoreState) (client : List ℕ) → All P s.claims → All P (expire s client).1.claims
-unfolding expire
-expired_all P s client all = ended_all P s (party_named s.names (NfsParty client)) all
+expired_all P s client all = of_expire (λ (r : Turned). All P r.1.claims) s client (λ x. ended_all P (with_aside x s) (party_named s.names (NfsParty client)) all)
 
 lapsed_all : (P : Claim → Type 0) (s : CoreState) (cache : Claim) (client : Option (List ℕ)) → All P s.claims → All P (lapsed_by s cache client).1.claims
 lapsed_all P s cache None all = removed_all P cache s.claims all
@@ -266,7 +266,7 @@ lapsed_all P s cache (Some client) all = expired_all P s client all
 deed_all : (P : Claim → Type 0) → GoesBy P → (n : ℕ) (s : CoreState) (d : Deed) → IsGood s → IsFitDeed s d → ((b : Claim) → IsAskedBy n s d b → P b) → All P s.claims → All P (done n s d).claims
 unfolding give_back weaken ack cancel end_party close_open drawn advanced renew lapse
 deed_all P by n s (Asks left a) good fit asked all = ask_all P by n left s a good fit (λ c e. asked c (inr e)) (all_from P (asked_claims a (asked_whats a.act) s.names) (λ b h. asked b (inl h))) all
-deed_all P by n s (Serves left) good fit asked all = turned_all P s (settle n left s) all (each_turn n left s (TurnAll P s) good (λ turn first. turn_all P by left s turn first all)) (λ w answer b here served h. asked b (w, answer, here, served, h))
+deed_all P by n s (Serves left) good fit asked all = turned_all P s (settle n left s) all (each_turn n left s (TurnAll P s) good (λ turn first. turn_all P by n left s turn first all)) (λ w answer b here served h. asked b (w, answer, here, served, h))
 deed_all P by n s (GivesBack claim) good fit asked all = removed_all P claim s.claims all
 deed_all P by n s (Weakens share access deny) good fit asked all = changed_all P by share (Share access deny) s.claims (all_in P share s.claims all fit.0) all
 deed_all P by n s (Acks cache to) good fit asked all = rest_all P by cache to s.claims (all_in P cache s.claims all fit.0) all
@@ -278,6 +278,8 @@ deed_all P by n s (Lapses cache) good fit asked all = lapsed_all P s cache (clie
 deed_all P by n s (Renews client) good fit asked all = all
 deed_all P by n s (Expires client) good fit asked all = expired_all P s client all
 deed_all P by n s (Closes number party) good fit asked all = stayed_all P _ s.claims all
+deed_all P by n s (FailsStore stable) good fit asked all = subst (λ (x : CoreState). All P x.claims) (sym (failed_aside stable s)) all
+deed_all P by n s EndsGrace good fit asked all = subst (λ (x : CoreState). All P x.claims) (sym (grace_aside s)) all
 
 -- ---- each deed
 

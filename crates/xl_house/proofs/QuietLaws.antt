@@ -40,13 +40,16 @@ use Rattle.xl_smb_laws.proofs.RequestDeedLaws as smb
 use Rattle.xl_smb_laws.proofs.RequestOwn as smb_own
 use Rattle.xl_house.specs.Telling.{is_grant, grants}
 use Rattle.xl_house.proofs.MayLaws.{nlm_may, nfs_may, smb_may, last_may, unserved_quiet, both_quiet, asked_quiet, may_quiet, end_quiet}
-use Rattle.xl_house.proofs.Stores.{may_be_made}
+use Rattle.xl_core.proofs.StoreLaws.{may_be_made}
 
 -- a reading of the clock tells of no grant
-pub tick_quiet : (s : CoreState) (now : Moment) → grants (tick s now).0 ≡ 0
-tick_quiet s now = unserved_quiet (tick s now).0 (tick_unserved s now)
+tick_quiet : (n : ℕ) (s : CoreState) (now : Moment) → grants (tick n s now).0 ≡ 0
+tick_quiet n s now = unserved_quiet (tick n s now).0 (tick_unserved n s now)
 
 -- ---- as the code tells it
+
+pub reading_quiet : (s t : CoreState) (now : Moment) (effects : List Effect) → ((n : ℕ) → MayBe n t → tick n s now ≡ (effects, t)) → grants effects ≡ 0
+reading_quiet s t now effects is = ap (λ (r : List Effect × CoreState). grants r.0) (sym (is t.made (may_be_made t))) ∙ tick_quiet t.made s now
 
 pub step_quiet : (exports : Exports) (f g : FrontState) (s t : CoreState) (conn : ℕ) (r : RequestItem) (outs : List Out) (effects : List Effect) → IsGood s → ((n : ℕ) → MayBe n t → nlm_step n exports f s conn r ≡ (outs, effects, g, t)) → grants effects ≡ 0
 step_quiet exports f g s t conn r outs effects good is =

@@ -85,7 +85,7 @@ module _ (n fuel : ℕ) (exports : Exports) (f : Fronts) (s t : CoreState) (told
   -- the request's waiter is granted it, which is a party of SMB
   of_smb : party_protocol party ≡ protocols.Smb
   of_smb =
-      let grant = served_grant (rooms_of f) s t told party id claim (turn_of n (rooms_of f) s t told good turned) served in
+      let grant = served_grant n (rooms_of f) s t told party id claim (turn_of n (rooms_of f) s t told good turned) served in
       let is = all_in (IsAwaited s f.smb.state) (id, row) f.smb.state.waiting stand.awaits (row_in id f.smb.state.waiting row waited) in
       let one : is.waiter ≡ grant.waiter = one_waiter s.waiters is.waiter grant.waiter good.apart is.waits grant.waits (is.number ∙ sym grant.number) in
       ap (λ (p : Party). party_protocol p) (sym grant.named ∙ ap (λ (w : Waiter). w.party) (sym one)) ∙ is.smb.party
@@ -94,7 +94,7 @@ module _ (n fuel : ℕ) (exports : Exports) (f : Fronts) (s t : CoreState) (told
   ends_as : (u : CoreState) × ((all_shown exports f t told).1.smb.state ≡ (smb_shown f.smb u (effects.Served party id (answers.Granted claim))).1.state)
   ends_as =
       let x : Effect = effects.Served party id (answers.Granted claim) in
-      let grant = served_grant (rooms_of f) s t told party id claim (turn_of n (rooms_of f) s t told good turned) served in
+      let grant = served_grant n (rooms_of f) s t told party id claim (turn_of n (rooms_of f) s t told good turned) served in
       let r = all_shown exports f t grant.before in (
         r.2,
         ap (λ (es : List Effect). (all_shown exports f t es).1.smb.state) grant.last
@@ -132,7 +132,7 @@ module _ (n fuel : ℕ) (exports : Exports) (f : Fronts) (s t : CoreState) (told
   pub is_told : (before : List Effect) × (told ≡ before ++ effects.Served party id (answers.Granted claim) ∷ []) × ((all_shown exports f t told).0 ≡ (all_shown exports f t before).0 ++ map (framed Smb) (final_outs row (success_of t id row row.request)))
   is_told =
       let x : Effect = effects.Served party id (answers.Granted claim) in
-      let grant = served_grant (rooms_of f) s t told party id claim (turn_of n (rooms_of f) s t told good turned) served in
+      let grant = served_grant n (rooms_of f) s t told party id claim (turn_of n (rooms_of f) s t told good turned) served in
       let r = all_shown exports f t grant.before in (
         grant.before,
         grant.last,
@@ -149,7 +149,7 @@ turn_has : (n fuel : ℕ) (exports : Exports) (f : Fronts) (s t : CoreState) (to
     → (let r = all_shown exports f t told in HaveOpens exports (turns_sent exports r.1 r.2 (taken fuel n exports r.1 r.2)).1.smb.state (record { front = f; told = told; left = t }))
 turn_has n fuel exports f s t told good stand e = λ party id number claim served owner.
     let left = rooms_of f in
-    let grant = served_grant left s t told party id claim (turn_of n left s t told good e) served in
+    let grant = served_grant n left s t told party id claim (turn_of n left s t told good e) served in
     let kept = all_in (IsKept f.smb.state) grant.waiter s.waiters stand.keeps grant.waits number (asks_as grant.waiter claim grant.claims number grant.asked owner) in
     has_open n fuel exports f s t told party id number claim good stand e served kept.0 (subst (λ (k : ℕ). waiting_of k f.smb.state ≡ Some kept.0) grant.number kept.1) kept.2
 

@@ -11,8 +11,9 @@ use Rattle.xl_core.specs.Causes.{IsTurn}
 use Rattle.xl_core.proofs.SettleLaws.{none_settled, turn_is, turn_fewer}
 use Rattle.xl_core.proofs.NumberLaws.{counter_numbers}
 use Rattle.xl_house.proofs.QuietLaws.{turn_pays}
-use Rattle.xl_house.proofs.Stores.{may_be_made, may_be_before, goes_further}
-use Rattle.xl_house.proofs.ShownLaws.{all_shown_is, all_shown_good, shown_numbers, shown_names, told_turns}
+use Rattle.xl_core.proofs.StoreLaws.{goes_on_then, may_be_before, may_be_made}
+use Rattle.xl_plan.proofs.AsideLaws.{aside_goes_on}
+use Rattle.xl_house.proofs.ShownLaws.{all_shown_is, all_shown_good, shown_aside, shown_numbers, shown_names, told_turns}
 use Rattle.xl_base.specs.declared.journal.Exports.{Exports}
 use Rattle.xl_house.specs.declared.layers.Fronts.{Fronts}
 use Rattle.xl_names.specs.declared.name.Name.{Name}
@@ -127,8 +128,8 @@ Gives f s t r = (n : ℕ) → MayBe n t → settle n (rooms_of f) s ≡ option_m
 gives_some : (f : Fronts) (s t : CoreState) (r : Option (List Effect)) (effects : List Effect) → Gives f s t r → r ≡ Some effects → Gives f s t (Some effects)
 gives_some f s t r effects gives e = subst (λ (x : Option (List Effect)). Gives f s t x) e gives
 
-a_turn : (f : Fronts) (s t : CoreState) (effects : List Effect) → IsGood s → Gives f s t (Some effects) → IsTurn (rooms_of f) s effects t
-a_turn f s t effects good gives = subst (λ (r : Turned). IfSome r (λ x. IsTurn (rooms_of f) s x.0 x.1)) (gives t.made (may_be_made t)) (turn_is t.made (rooms_of f) s good)
+a_turn : (f : Fronts) (s t : CoreState) (effects : List Effect) → IsGood s → Gives f s t (Some effects) → IsTurn t.made (rooms_of f) s effects t
+a_turn f s t effects good gives = subst (λ (r : Turned). IfSome r (λ x. IsTurn t.made (rooms_of f) s x.0 x.1)) (gives t.made (may_be_made t)) (turn_is t.made (rooms_of f) s good)
 
 -- the calls that tell of a turn have their numbers
 turn_room : (f : Fronts) (s t : CoreState) (effects : List Effect) → IsGood s → Gives f s t (Some effects) → numbers_of t + grants effects ≤ numbers_of s
@@ -159,12 +160,6 @@ turn_smaller exports f g s t u r effects outs new good gives e shown =
     let same : turns_left u ≡ turns_left t = ap (λ (x : Sent). turns_left x.2) (sym shown) ∙ told_turns exports f t effects in
     omega (arith, one, same)
 
-parts_on : (most : ℕ) (t u : CoreState) → IsShown most t u → GoesOn t u
-parts_on most t u is = record {
-  made = omega (arith, ap (λ (x : CoreState). x.made) is.parts);
-  failed = λ f. (ap (λ (x : CoreState). x.failed) is.parts ∙ f, ap (λ (x : CoreState). x.made) is.parts);
-}
-
 pub turn_preserves : (exports : Exports) (before : Fronts) (first : CoreState) (sent : List Out) (f g : Fronts) (s t u : CoreState) (outs new : List Out) (r : Option (List Effect)) (effects : List Effect)
     → IsSettling exports before first sent f s outs → IsGood s → Gives f s t r → r ≡ Some effects → GoesOn s t → behind outs (all_shown exports f t effects) ≡ (new, g, u) → IsSettling exports before first sent g u new
 turn_preserves exports before first sent f g s t u outs new r effects settling good gives e on shown =
@@ -172,16 +167,16 @@ turn_preserves exports before first sent f g s t u outs new r effects settling g
     let done = all_shown exports f t effects in
     let last : done.2 ≡ u = ap (λ (x : Sent). x.2) shown in
     let is : IsShown (grants effects) t u = subst (λ (x : CoreState). IsShown (grants effects) t x) last (all_shown_is exports f t effects) in
-    let further : GoesOn t u = parts_on (grants effects) t u is in
+    let further : GoesOn t u = aside_goes_on t u (shown_aside (grants effects) t u is) in
     record {
-      on = goes_further first s u settling.on (goes_further s t u on further);
+      on = goes_on_then first s u settling.on (goes_on_then s t u on further);
       names = shown_names (grants effects) t u is ∙ turn_names f s t effects good given ∙ settling.names;
       numbers = omega (arith, settling.numbers, turn_room f s t effects good given, shown_numbers (grants effects) t u is);
       told = λ n may.
           ap (λ (x : Sent). and_then (settled n exports) x) (sym shown)
           ∙ behind_on outs done.0 (settled n exports done.1 done.2)
           ∙ ap (λ (x : Sent). behind outs x) (sym (turn_settles n exports f s t effects good (given n (may_be_before n t u further may))))
-          ∙ settling.told n (may_be_before n s u (goes_further s t u on further) may);
+          ∙ settling.told n (may_be_before n s u (goes_on_then s t u on further) may);
     }
 
 gives_none : (f : Fronts) (s t : CoreState) (r : Option (List Effect)) → Gives f s t r → r ≡ None → (n : ℕ) → MayBe n t → settle n (rooms_of f) s ≡ None

@@ -10,7 +10,7 @@ use Rattle.xl_base.specs.declared.name.Protocol.TheVariants.{Nlm, Nfs, Smb}
 use Rattle.xl_matrix.specs.declared.claim.Claim.{Claim}
 use Rattle.xl_core.specs.Numbers.{delegations_left, numbers_of}
 use Rattle.xl_core.specs.Settle.{turns_left}
-use Rattle.xl_core.specs.State.{CoreState, drawn}
+use Rattle.xl_core.specs.State.{CoreState, aside_of, drawn}
 use Rattle.xl_core.specs.Good.{IsGood}
 use Rattle.xl_core.specs.Told.{told_to}
 use Rattle.xl_core.specs.declared.ask.Answer.TheVariants as answers
@@ -22,6 +22,7 @@ use Rattle.xl_front_nlm.specs.State.{FrontState}
 use Rattle.xl_house.specs.declared.layers.Fronts.{Fronts}
 use Rattle.xl_front_nlm.specs.declared.grant.Grant.{Grant}
 use Rattle.xl_house.specs.Telling.{Sent, is_grant, grants, behind, shown_by, showing, all_shown}
+use Rattle.xl_plan.proofs.AsideLaws.{aside_goes_on}
 use Rattle.xl_plan.proofs.BudgetLaws.{come_same}
 use Rattle.xl_front_nlm.specs.Short.{IsReady, Leaves}
 use Rattle.xl_house.specs.Shown.{IsShown}
@@ -116,6 +117,13 @@ all_shown_good exports f s (effect ∷ effects) good = let r = showing exports f
 pub all_is_shown : (exports : Exports) (f g : Fronts) (s t : CoreState) (effects : List Effect) (old outs : List Out) → behind old (all_shown exports f s effects) ≡ (outs, g, t) → IsShown (grants effects) s t
 all_is_shown exports f g s t effects old outs e = subst (λ (x : CoreState). IsShown (grants effects) s x) (ap (λ (r : Sent). r.2) e) (all_shown_is exports f s effects)
 
+-- the record, the grace and the stores of the step stay
+pub shown_aside : (most : ℕ) (s t : CoreState) → IsShown most s t → aside_of t ≡ aside_of s
+shown_aside most s t is = ap aside_of is.parts
+
+pub all_aside : (exports : Exports) (f g : Fronts) (s t : CoreState) (effects : List Effect) (old outs : List Out) → behind old (all_shown exports f s effects) ≡ (outs, g, t) → aside_of t ≡ aside_of s
+all_aside exports f g s t effects old outs e = shown_aside (grants effects) s t (all_is_shown exports f g s t effects old outs e)
+
 -- so far may numbers go then
 pub shown_numbers : (most : ℕ) (s t : CoreState) → IsShown most s t → numbers_of t ≤ numbers_of s + most
 shown_numbers most s t is = omega (arith, is.most, ap (λ (x : CoreState). length x.waiters + delegations_left x.claims) is.parts)
@@ -124,10 +132,7 @@ pub all_leaves : (exports : Exports) (f g : Fronts) (s t : CoreState) (effects :
 all_leaves exports f g s t effects old outs e ready =
     let is = all_is_shown exports f g s t effects old outs e in
     record {
-      on = record {
-        made = omega (arith, ap (λ (x : CoreState). x.made) is.parts);
-        failed = λ h. (ap (λ (x : CoreState). x.failed) is.parts ∙ h, ap (λ (x : CoreState). x.made) is.parts);
-      };
+      on = aside_goes_on s t (shown_aside (grants effects) s t is);
       good = subst (λ (x : CoreState). IsGood x) (ap (λ (r : Sent). r.2) e) (all_shown_good exports f s effects ready.core.good);
       numbers = shown_numbers (grants effects) s t is;
       names = come_same s.names t.names (ap (λ (x : CoreState). x.names) is.parts);

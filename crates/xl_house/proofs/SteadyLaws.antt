@@ -9,15 +9,17 @@ use Rattle.xl_base.specs.declared.journal.Entry.{Entry}
 use Rattle.xl_base.specs.declared.journal.Head.{Head}
 use Rattle.xl_names.specs.declared.name.Name.{Name}
 use Rattle.xl_wait.specs.declared.waiter.Waiter.{Waiter}
-use Rattle.xl_core.specs.State.{CoreState, drawn, step_begun}
+use Rattle.xl_core.specs.State.{CoreState, Aside, drawn, step_begun}
+use Rattle.xl_core.specs.Stores.{stored}
 use Rattle.xl_core.specs.BreakAnswers.{ack}
 use Rattle.xl_core.specs.Decide.{ask}
-use Rattle.xl_core.specs.Deeds.{Deed, Asks, GivesBack, Weakens, Acks, Cancels, Ends, Closes, Serves, Draws, Advances, Lapses, Renews, Expires, turned, done, all_done, IsFitDeed, AreFit}
+use Rattle.xl_core.specs.Deeds.{Deed, Asks, GivesBack, Weakens, Acks, Cancels, Ends, Closes, Serves, Draws, Advances, Lapses, Renews, Expires, FailsStore, EndsGrace, turned, done, all_done, IsFitDeed, AreFit}
 use Rattle.xl_core.specs.Frames.{IsFrame, IsTicked, calls_in, drawn_by, names_after, come_by}
 use Rattle.xl_core.specs.Good.{IsGood}
 use Rattle.xl_core.specs.Settle.{settle, cancel, close_open, give_back, weaken, end_party}
-use Rattle.xl_core.specs.Ticks.{advanced, expire, lapse}
+use Rattle.xl_core.specs.Ticks.{advanced, expire, lapse, end_grace}
 use Rattle.xl_core.specs.declared.ask.Effect.{Effect}
+use Rattle.xl_core.proofs.AsideLaws.{IsAside, failed_aside, failed_epoch, grace_aside}
 use Rattle.xl_core.proofs.DeedLaws.{deed_good}
 use Rattle.xl_core.proofs.FrameLaws.{ask_frame, turn_frame, cancel_frame, give_back_frame, weaken_frame, ack_frame, drawn_frame, close_open_frame, end_party_frame, advanced_ticked, renew_frame, expire_left, lapse_left}
 use Rattle.xl_core.proofs.GoodLaws.{begun_good}
@@ -31,23 +33,32 @@ use Rattle.xl_house.specs.Steady.{numbers_in, all_numbers_in, IsSteadyIn, IsBegu
 use Rattle.xl_house.proofs.DoneLaws.{deeds_taken, each_event}
 use Rattle.xl_house.proofs.EachEntry.{always}
 use Rattle.xl_house.proofs.LawfulLaws.{next_core}
-use Rattle.xl_house.proofs.MachineLaws.{next_place, step_is, step_still}
+use Rattle.xl_house.proofs.MachineLaws.{next_place, step_is}
 
 -- ---- one deed
 
--- the times stay, and so many numbers are given out
+-- the times and the epoch stay, and so many numbers are given out
 record IsCounted (s t : CoreState) (given : ℕ) : Type 0 where
   times : t.times ≡ s.times
+  epoch : t.stable.epoch ≡ s.stable.epoch
   counter : t.counter ≡ s.counter + given
 
 framed_counts : (s : CoreState) (told : List Effect) (t : CoreState) (given : ℕ) (known : List Name) (come : List Waiter) → IsFrame s told t given known come → IsCounted s t given
-framed_counts s told t given known come frame = record { times = frame.times; counter = frame.counter }
+framed_counts s told t given known come frame = record { times = frame.times; epoch = frame.epoch; counter = frame.counter }
 
 ticked_counts : (s : CoreState) (now : Moment) (told : List Effect) (t : CoreState) → IsTicked s now told t → IsCounted s t 0
-ticked_counts s now told t frame = record { times = frame.times; counter = omega (arith, frame.counter) }
+ticked_counts s now told t frame = record { times = frame.times; epoch = frame.epoch; counter = omega (arith, frame.counter) }
+
+-- where only the record, the grace and the stores differ
+aside_counts : (s t : CoreState) → IsAside s t → t.stable.epoch ≡ s.stable.epoch → IsCounted s t 0
+aside_counts s t is epoch = record { times = ap (λ (x : CoreState). x.times) is; epoch = epoch; counter = omega (arith, ap (λ (x : CoreState). x.counter) is) }
+
+end_epoch : (s : CoreState) → (end_grace s).stable.epoch ≡ s.stable.epoch
+unfolding end_grace stored
+end_epoch s = refl
 
 turned_counts : (s : CoreState) (o : Option (List Effect × CoreState)) → IfSome o (λ r. IsFrame s r.0 r.1 (calls_in r.0) s.names []) → IsCounted s (turned s o).2 (calls_in (turned s o).1)
-turned_counts s None frame = record { times = refl; counter = omega arith }
+turned_counts s None frame = record { times = refl; epoch = refl; counter = omega arith }
 turned_counts s (Some r) frame = framed_counts s r.0 r.1 (calls_in r.0) s.names [] frame
 
 deed_counts : (n : ℕ) (s : CoreState) (d : Deed) → IsGood s → IsFitDeed s d → IsCounted s (done n s d) (numbers_in n s d)
@@ -61,26 +72,28 @@ deed_counts n s (Closes opened party) good fit = let r = close_open s opened par
 deed_counts n s (Serves left) good fit = turned_counts s (settle n left s) (turn_frame n left s good)
 deed_counts n s Draws good fit = framed_counts s [] (drawn s) 1 s.names [] (drawn_frame s)
 deed_counts n s (Advances now) good fit = ticked_counts s now [] (advanced s now) (advanced_ticked s now)
-deed_counts n s (Renews client) good fit = let frame = renew_frame s client in record { times = frame.times; counter = omega (arith, frame.counter) }
+deed_counts n s (Renews client) good fit = let frame = renew_frame s client in record { times = frame.times; epoch = ap (λ (x : Aside). x.stable.epoch) frame.aside; counter = omega (arith, frame.counter) }
 deed_counts n s (Lapses cache) good fit = let r = lapse s cache in ticked_counts s s.clock r.0 r.1 ((lapse_left s cache).0 good)
 deed_counts n s (Expires client) good fit = let r = expire s client in ticked_counts s s.clock r.0 r.1 ((expire_left s client).0 good)
+deed_counts n s (FailsStore stable) good fit = aside_counts s (done n s (FailsStore stable)) (failed_aside stable s) (failed_epoch stable s)
+deed_counts n s EndsGrace good fit = aside_counts s (done n s EndsGrace) (grace_aside s) (end_epoch s)
 
 deeds_count : (n : ℕ) (s : CoreState) (ds : List Deed) → IsGood s → AreFit n s ds → IsCounted s (all_done n s ds) (all_numbers_in n s ds)
-deeds_count n s [] good fit = record { times = refl; counter = omega arith }
+deeds_count n s [] good fit = record { times = refl; epoch = refl; counter = omega arith }
 deeds_count n s (d ∷ ds) good fit =
     let first = deed_counts n s d good fit.0 in
     let later = deeds_count n (done n s d) ds (deed_good n s d good fit.0) fit.1 in
-    record { times = later.times ∙ first.times; counter = omega (arith, first.counter, later.counter) }
+    record { times = later.times ∙ first.times; epoch = later.epoch ∙ first.epoch; counter = omega (arith, first.counter, later.counter) }
 
 -- ---- an entry
 
-begun_same : (s : CoreState) → s.made ≡ 0 → s.failed ≡ false → step_begun s ≡ s
+begun_same : (s : CoreState) → s.made ≡ 0 → s.failed ≡ false → s.given ≡ [] → step_begun s ≡ s
 unfolding step_begun
-begun_same s made failed = λ i. record s { made = sym made i; failed = sym failed i }
+begun_same s made failed given = λ i. record s { made = sym made i; failed = sym failed i; given = sym given i }
 
-begun_counts : (s : CoreState) → ((step_begun s).times ≡ s.times) × ((step_begun s).counter ≡ s.counter)
+begun_counts : (s : CoreState) → IsCounted s (step_begun s) 0
 unfolding step_begun
-begun_counts s = (refl, refl)
+begun_counts s = record { times = refl; epoch = refl; counter = omega arith }
 
 next_exports : (n : ℕ) (s : Whole) (e : Event) → (step n s e).next.exports ≡ s.exports
 unfolding step
@@ -94,15 +107,15 @@ steadily n s event other free =
     let counted = deeds_count n found ds good (deeds_taken n s event other good) in
     let last = next_core n s event other in
     record {
-      begins = begun_same s.core free.made free.failed;
-      times = ap (λ (t : CoreState). t.times) last ∙ (begun_counts (all_done n found ds)).0 ∙ counted.times ∙ (begun_counts s.core).0;
-      stable = step_still n s event other free.good;
-      numbers = ap (λ (t : CoreState). t.counter) last ∙ (begun_counts (all_done n found ds)).1 ∙ counted.counter ∙ ap (λ (count : ℕ). count + all_numbers_in n found ds) (begun_counts s.core).1;
+      begins = begun_same s.core free.made free.failed free.given;
+      times = ap (λ (t : CoreState). t.times) last ∙ (begun_counts (all_done n found ds)).times ∙ counted.times ∙ (begun_counts s.core).times;
+      epoch = ap (λ (t : CoreState). t.stable.epoch) last ∙ (begun_counts (all_done n found ds)).epoch ∙ counted.epoch ∙ (begun_counts s.core).epoch;
+      numbers = omega (arith, ap (λ (t : CoreState). t.counter) last, (begun_counts (all_done n found ds)).counter, counted.counter, (begun_counts s.core).counter);
     }
 
 anew : (n : ℕ) (s : Whole) → IsBegunAnew s (step n s Restart).next
 unfolding step
-anew n s = record { times = refl; stable = refl; numbers = refl; names = refl }
+anew n s = record { connections = refl; front = refl; times = refl; stable = refl; numbers = refl; names = refl }
 
 steady_by : (n : ℕ) (s : Whole) (event : Event) → IsFree s → IsSteadyBy n s event (step n s event).next
 steady_by n s Restart free = anew n s

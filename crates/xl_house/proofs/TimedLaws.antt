@@ -14,13 +14,14 @@ use Rattle.xl_core.specs.State.{CoreState, step_begun, drawn}
 use Rattle.xl_core.specs.Askers.{party_named}
 use Rattle.xl_core.specs.BreakAnswers.{ack, client_of}
 use Rattle.xl_core.specs.Decide.{ask}
-use Rattle.xl_core.specs.Deeds.{Deed, Asks, Serves, Draws, Advances, Lapses, Expires, turned, done, all_done, IsFitDeed, AreFit}
+use Rattle.xl_core.specs.Deeds.{Deed, Asks, Serves, Draws, Advances, Lapses, Expires, FailsStore, EndsGrace, turned, done, all_done, IsFitDeed, AreFit}
 use Rattle.xl_core.specs.Frames.{calls_in, drawn_by, names_after, come_by, IsFrame}
 use Rattle.xl_core.specs.Good.{IsGood}
 use Rattle.xl_core.specs.Leases.{Lease, later, without_lease}
 use Rattle.xl_core.specs.Settle.{settle, cancel, give_back, weaken, end_party, close_open}
 use Rattle.xl_core.specs.Ticks.{advanced, renew, end_some, unleased, expire, lapsed_by, lapse}
 use Rattle.xl_core.specs.declared.ask.Effect.{Effect}
+use Rattle.xl_core.proofs.AsideLaws.{failed_aside, grace_aside, of_expire, with_aside}
 use Rattle.xl_core.proofs.DeedLaws.{deed_good}
 use Rattle.xl_core.proofs.DeedLists.{deeds_good, done_append}
 use Rattle.xl_core.proofs.FrameLaws.{ask_frame, turn_frame, tick_frame}
@@ -55,8 +56,8 @@ ended_times s client None = refl
 ended_times s client (Some party) = refl
 
 expire_times : (s : CoreState) (client : List ℕ) → times_in (expire s client).1 ≡ (without_lease client s.leases, s.clock)
-unfolding expire
-expire_times s client = ended_times s client (party_named s.names (NfsParty client))
+expire_times s client =
+    of_expire (λ (r : List Effect × CoreState). let same : Running = (without_lease client s.leases, s.clock) in times_in r.1 ≡ same) s client (λ x. ended_times (with_aside x s) client (party_named s.names (NfsParty client)))
 
 lapsed_times : (s : CoreState) (cache : Claim) (client : Option (List ℕ)) → times_in (lapsed_by s cache client).1 ≡ (without_some client s.leases, s.clock)
 lapsed_times s cache None = refl
@@ -84,6 +85,8 @@ deed_times n s (Asks left a) good fit =
 deed_times n s (Serves left) good fit = turn_times s (settle n left s) (turn_frame n left s good)
 deed_times n s (Lapses cache) good fit = lapse_times s cache
 deed_times n s (Expires client) good fit = expire_times s client
+deed_times n s (FailsStore stable) good fit = ap times_in (failed_aside stable s)
+deed_times n s EndsGrace good fit = ap times_in (grace_aside s)
 deed_times n s d good fit = refl
 
 deeds_times : (n : ℕ) (s : CoreState) (ds : List Deed) → IsGood s → AreFit n s ds → times_in (all_done n s ds) ≡ (leases_after n s ds s.leases, clock_by ds s.clock)
@@ -100,7 +103,7 @@ follow_times n s (Serves left ∷ ds) leases clock follow = follow_times n (done
 follow_times n s (Draws ∷ ds) leases clock follow = follow_times n (done n s Draws) ds leases clock follow.1
 follow_times n s (d ∷ ds) leases clock follow = absurd (both_ways false refl follow.0)
 
-fit_behind : (n : ℕ) (s : CoreState) (ds es : List Deed) → AreFit n s (ds ++ es) → AreFit n (all_done n s ds) es
+pub fit_behind : (n : ℕ) (s : CoreState) (ds es : List Deed) → AreFit n s (ds ++ es) → AreFit n (all_done n s ds) es
 fit_behind n s [] es fit = fit
 fit_behind n s (d ∷ ds) es fit = fit_behind n (done n s d) ds es fit.1
 
@@ -140,7 +143,7 @@ stood n s event other good =
     ap (λ (x : Running). x.1) (deeds_times n found (own_of n s event).deeds good ((own_row n s event).takes good)) ∙ all_stand event (own_of n s event).deeds found.clock other ((own_row n s event).may good)
 
 pub own_clock : (n : ℕ) (s : Whole) (event : Event) → IsGood s.core → (all_done n s.core (own_of n s event).deeds).clock ≡ clock_after event s.core.clock
-own_clock n s (Tick now) good = ap (λ (t : CoreState). t.clock) (tick_done n s.core now) ∙ (tick_frame s.core now good).clock
+own_clock n s (Tick now) good = ap (λ (t : CoreState). t.clock) (tick_done n s.core now) ∙ (tick_frame n s.core now good).clock
 own_clock n s Restart good = refl
 own_clock n s event good = stood n s event refl good
 

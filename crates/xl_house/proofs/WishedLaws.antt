@@ -27,10 +27,10 @@ use Rattle.xl_core.specs.Askers.{IsFit}
 use Rattle.xl_core.specs.Decide.{before_wish, does_wish, ask}
 use Rattle.xl_core.specs.Deeds.{Deed, Asks, Serves, turned, wish_by_number, once_served, asked_by, IsFitDeed}
 use Rattle.xl_core.specs.Frames.{serves_none}
-use Rattle.xl_core.specs.Good.{is_single, are_apart, holds_up, IsGood}
+use Rattle.xl_core.specs.Good.{is_single, are_apart, IsGood}
 use Rattle.xl_core.specs.Places.{CacheOf, held_at, held_in, is_cache_on, else_was}
 use Rattle.xl_core.specs.Settle.{settle, next_way, plea_again, way_again}
-use Rattle.xl_core.specs.Wishes.{has_room, wished_kind, wish_for, wish_granted, wish_of, wished_at}
+use Rattle.xl_core.specs.Wishes.{has_room, is_waited_for, wished_kind, wish_for, wish_granted, wish_of, wished_at}
 use Rattle.xl_core.specs.declared.ask.Answer.{Answer}
 use Rattle.xl_core.specs.declared.ask.Answer.TheVariants.{Granted}
 use Rattle.xl_core.specs.declared.ask.Ask.{Ask}
@@ -38,7 +38,11 @@ use Rattle.xl_core.specs.declared.ask.Effect.{Effect}
 use Rattle.xl_core.specs.declared.ask.Effect.TheVariants.{Begun, Served, Cancelled, Expired}
 use Rattle.xl_core.proofs.BreaksBegunLaws.{no_two}
 use Rattle.xl_core.proofs.DeedLaws.{asked_there, wished_there}
-use Rattle.xl_core.proofs.GoodLaws.{Turned, IsMoved, Answers, Rests, IsFirst, before_good, each_turn, once_answered, served_good}
+use Rattle.xl_core.proofs.GoodLaws.{Turned, IsMoved, Answers, Rests, IsFirst, before_good, clear_up, each_turn, once_answered, served_good}
+use Rattle.xl_core.proofs.AsideLaws.{left_grace}
+use Rattle.xl_core.specs.Causes.{held_once, name_waiting}
+use Rattle.xl_core.specs.Judge.{to_record}
+use Rattle.xl_grace.specs.Grace.{Running}
 use Rattle.xl_core.proofs.WayAsks.{ask_unwished, ask_wishes}
 use Rattle.xl_core.proofs.WayDeeds.{next_is}
 use Rattle.xl_core.proofs.WayLaws.{way_serves, way_waiters}
@@ -113,12 +117,12 @@ granted_chosen wanted held kind single e = by (find (is_its_cache wanted) held) 
       (subst (λ (o : Option CacheKind). IfSome o (λ k. IsIn k wanted.kinds × (may_stand wanted held k ≡ true))) e (best_is_chosen wanted held)).0
   by (Some own) found e = raised own own.what refl (ap (λ (cs : List Claim). map what_of cs) (found_alone wanted.file wanted.party held own single found)) e
 
-pub wished_parts : (wanted : Wish) (s : CoreState) (kind : CacheKind) → wished_kind wanted s ≡ Some kind → (waits_on wanted.file s.waiters ≡ false) × (granted_kind wanted s.claims ≡ Some kind)
+pub wished_parts : (wanted : Wish) (s : CoreState) (kind : CacheKind) → wished_kind wanted s ≡ Some kind → (s.grace ≡ None → waits_on wanted.file s.waiters ≡ false) × (granted_kind wanted s.claims ≡ Some kind)
 unfolding wished_kind
-wished_parts wanted s kind e = by (waits_on wanted.file s.waiters) (has_room (find (is_its_cache wanted) s.claims) s.claims) refl e where
-  by : (waits room : Bool) → waits_on wanted.file s.waiters ≡ waits → (if waits then None else if room then granted_kind wanted s.claims else None) ≡ Some kind → (waits_on wanted.file s.waiters ≡ false) × (granted_kind wanted s.claims ≡ Some kind)
+wished_parts wanted s kind e = by (is_waited_for wanted.file s) (has_room (find (is_its_cache wanted) s.claims) s.claims) refl e where
+  by : (waits room : Bool) → is_waited_for wanted.file s ≡ waits → (if waits then None else if room then granted_kind wanted s.claims else None) ≡ Some kind → (s.grace ≡ None → waits_on wanted.file s.waiters ≡ false) × (granted_kind wanted s.claims ≡ Some kind)
   by true room at e = absurd cc
-  by false true at e = (at, e)
+  by false true at e = (λ calm. rw calm at at, e)
   by false false at e = absurd cc
 
 granted_is_wished : (kinds : List CacheKind) (c : Claim) (s : CoreState) → IsGood s → IsWished kinds c s (wish_granted (wish_of kinds c) s)
@@ -140,6 +144,13 @@ granted_is_wished kinds c s good = by (wished_kind wanted s) refl where
   by (Some kind) e =
       let parts = wished_parts wanted s kind e in
       inr (kind, (parts.0, at (Some kind) e ∙ ap (λ (b : Bool). else_was (if b then Some (Cache kind None ∷ []) else None) had) here, granted_chosen wanted s.claims kind good.single parts.1))
+
+-- what a wish gets goes by what is held, who waits and the grace that runs
+wished_alike : (kinds : List CacheKind) (c : Claim) (x y t : CoreState) → x.claims ≡ y.claims → x.waiters ≡ y.waiters → x.grace ≡ y.grace → IsWished kinds c x t → IsWished kinds c y t
+wished_alike kinds c x y t claims waiters grace is =
+    subst (λ (g : Option Running). IsWished kinds c (record y { grace = g }) t) grace
+    (subst (λ (ws : List Waiter). IsWished kinds c (record y { waiters = ws; grace = x.grace }) t) waiters
+    (subst (λ (cs : List Claim). IsWished kinds c (record y { claims = cs; waiters = x.waiters; grace = x.grace }) t) claims is))
 
 -- ---- an ask
 
@@ -181,8 +192,8 @@ served_none (Served leaver gone told ∷ way) holder number other none here = bo
 abbrev TurnWishes : CoreState → Turned → Type 0
 TurnWishes s turn = (party : Party) (id : ℕ) (c : Claim) → IsIn (Served party id (Granted c)) turn.0 → IsWished (wish_by_number id (next_way s).1.waiters) c (once_served (next_way s).1 id (Granted c)) turn.1
 
-first_wished : (left : Rooms) (s : CoreState) (turn : Turned) → IsGood s → IsFirst left s [] s.waiters turn → TurnWishes s turn
-first_wished left s turn good first party id c here =
+first_wished : (n : ℕ) (left : Rooms) (s : CoreState) (turn : Turned) → IsGood s → IsFirst n left s [] s.waiters turn → TurnWishes s turn
+first_wished n left s turn good first party id c here =
     subst (λ (way : List Effect × CoreState). IsWished (wish_by_number id way.1.waiters) c (once_served way.1 id (Granted c)) turn.1) (sym next) (by first.moved)
   where
     w : Waiter
@@ -198,7 +209,7 @@ first_wished left s turn good first party id c here =
     all = first.claim ∷ first.claims
 
     next : next_way s ≡ way
-    next = next_is s first.before w first.behind first.stood first.blocked (ap (holds_up first.before s w) first.asked ∙ first.free)
+    next = next_is s first.before w first.behind first.stood first.blocked (clear_up first.before s w first.claim first.claims first.calm first.asked first.free)
 
     quiet : serves_none way.0 ≡ true
     quiet = way_serves first.before (plea_again s w) w.asked s
@@ -215,16 +226,15 @@ first_wished left s turn good first party id c here =
     wishes : wish_by_number w.id t.waiters ≡ w.wish
     wishes = ap (wish_by_number w.id) among ∙ wished_there first.before w first.behind stand
 
-    by : IsMoved left first.before s w first.claim first.claims turn → IsWished (wish_by_number id t.waiters) c (once_served t id (Granted c)) turn.1
+    by : IsMoved n left first.before s w first.claim first.claims turn → IsWished (wish_by_number id t.waiters) c (once_served t id (Granted c)) turn.1
     by (Answers answer told new due pass clear) =
         let is = served_last way.0 w.party party w.id id answer (Granted c) quiet (subst (λ (effects : List Effect). IsIn (Served party id (Granted c)) effects) told here) in
         let u = once_answered t w all (Granted c) in
-        let sound : IsGood u = subst (λ (x : Answer). IsGood (once_answered t w all x)) is.1 (served_good left s turn first good answer pass).0 in
-        let once : u ≡ once_served t w.id (Granted c) = ap (λ (cs : List Claim). once_answered t w cs (Granted c)) (sym there) in
+        let sound : IsGood u = subst (λ (x : Answer). IsGood (once_answered t w all x)) is.1 (served_good n left s turn first good answer pass).0 in
         let left_by : wish_granted (wish_of w.wish c) u ≡ turn.1 = ap (λ (x : Answer). wish_for w.wish x (once_answered t w all x)) (sym is.1) ∙ sym new in
         subst (λ (number : ℕ). IsWished (wish_by_number number t.waiters) c (once_served t number (Granted c)) turn.1) is.0
         (subst (λ (kinds : List CacheKind). IsWished kinds c (once_served t w.id (Granted c)) turn.1) (sym wishes)
-        (subst (λ (x : CoreState). IsWished w.wish c x turn.1) once
+        (wished_alike w.wish c u (once_served t w.id (Granted c)) turn.1 (ap (λ (cs : List Claim). held_once cs (Granted c) t.claims) (sym there)) refl (left_grace (to_record (name_waiting t w) all) (Granted c) t)
         (subst (λ (x : CoreState). IsWished w.wish c u x) left_by (granted_is_wished w.wish c u sound))))
     by (Rests e up) = absurd (served_none way.0 party id (Granted c) quiet (subst (λ (x : Turned). IsIn (Served party id (Granted c)) x.0) e here))
 
@@ -236,7 +246,7 @@ turned_wished s (Some r) each = each
 
 pub deed_wished : (n : ℕ) (s : CoreState) (d : Deed) → IsGood s → IsFitDeed s d → IsWishedBy n s d
 deed_wished n s (Asks left a) good fit = λ c e. ask_wished n left s a c good fit e
-deed_wished n s (Serves left) good fit = turned_wished s (settle n left s) (each_turn n left s (TurnWishes s) good (λ turn first. first_wished left s turn good first))
+deed_wished n s (Serves left) good fit = turned_wished s (settle n left s) (each_turn n left s (TurnWishes s) good (λ turn first. first_wished n left s turn good first))
 deed_wished n s d good fit = tt
 
 -- ---- machines that don't
@@ -257,6 +267,6 @@ unchosen_is s t c none has (inr gets) = by gets.0 (same_kept RWH gets.0 (sym has
   by kind e (Joined own choice is among least) = cleared_is (Cache own None) (held_at s (CacheOf c.file c.party)) (held_at s (CacheOf c.file c.party)) is refl none
 
 -- one gives a cache though someone waits on the file
-pub beside_waiter_is : (s t : CoreState) (c : Claim) → waits_on c.file s.waiters ≡ true → held_at s (CacheOf c.file c.party) ≡ [] → held_at t (CacheOf c.file c.party) ≡ Cache R None ∷ [] → IsWished (R ∷ []) c s t → ⊥
-beside_waiter_is s t c waits none has (inl same) = cleared_is (Cache R None) (held_at s (CacheOf c.file c.party)) (held_at t (CacheOf c.file c.party)) has same none
-beside_waiter_is s t c waits none has (inr gets) = both_ways (waits_on c.file s.waiters) gets.1.0 waits
+pub beside_waiter_is : (s t : CoreState) (c : Claim) → s.grace ≡ None → waits_on c.file s.waiters ≡ true → held_at s (CacheOf c.file c.party) ≡ [] → held_at t (CacheOf c.file c.party) ≡ Cache R None ∷ [] → IsWished (R ∷ []) c s t → ⊥
+beside_waiter_is s t c calm waits none has (inl same) = cleared_is (Cache R None) (held_at s (CacheOf c.file c.party)) (held_at t (CacheOf c.file c.party)) has same none
+beside_waiter_is s t c calm waits none has (inr gets) = both_ways (waits_on c.file s.waiters) (gets.1.0 calm) waits

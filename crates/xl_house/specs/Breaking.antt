@@ -71,9 +71,9 @@ abbrev pub IsFirstOf : List Claim → Claim → Type 0
 IsFirstOf asked c = slice_get asked 0 ≡ Some c
 
 -- No cache in the way of any of the ask's claims is left without a break that runs, if nothing stops the first of these for good,
--- the ask is no reclaim, and it doesn't wait for the answers.
+-- no grace runs, the ask is no reclaim, and it doesn't wait for the answers.
 abbrev pub HasBegun : Rooms → CoreState → Ask → Type 0
-HasBegun left s a = (first c cache : Claim) → IsFirstOf (asked_claims a (asked_whats a.act) s.names) first → a.reclaim ≡ false → a.awaits ≡ false → is_stopped s.waiters s first ≡ false
+HasBegun left s a = (first c cache : Claim) → IsFirstOf (asked_claims a (asked_whats a.act) s.names) first → s.grace ≡ None → a.reclaim ≡ false → a.awaits ≡ false → is_stopped s.waiters s first ≡ false
     → IsIn c (asked_claims a (asked_whats a.act) s.names) → IsIn cache (way left s a).1.claims → is_obstacle c (way left s a).1.claims cache ≡ true → is_running cache.what ≡ true
 
 -- an ask for one share or one range that is answered with a cache is so while the break of that runs

@@ -1,12 +1,12 @@
 -- A house as its callers see it.
-use Rattle.std.specs.Prelude.{◌≡◌, ◌*◌, ◌≤◌, Bool, true, false, List, length, Option, Some, option_map}
+use Rattle.std.specs.Prelude.{◌≡◌, ◌*◌, ◌≤◌, Bool, true, false, List, length, Option, Some}
 use Rattle.xl_base.specs.Limits.{most_numbers}
-use Rattle.xl_base.specs.Stable.{Stable}
 use Rattle.xl_base.specs.declared.halt.Halt.{Halt}
 use Rattle.xl_base.specs.declared.halt.Halt.TheVariants.{NoMemory}
 use Rattle.xl_base.specs.declared.journal.Entry.{Entry}
 use Rattle.xl_base.specs.declared.journal.Head.{Head}
 use Rattle.xl_core.specs.Numbers.{numbers_of}
+pub use Rattle.xl_core.specs.Stores.{Holds}
 use Rattle.xl_front_nlm.specs.Short.{AreShort}
 use Rattle.xl_house.specs.Awaited.{IsAwaiting}
 use Rattle.xl_house.specs.State.{Whole}
@@ -24,10 +24,6 @@ pub record Housed (K : Type 0) : Type 0 where
 abbrev pub is_spoiled : Option Halt → Bool
 is_spoiled (Some NoMemory) = true
 is_spoiled _ = false
-
--- the keeper holds this record, if it tells what it holds
-abbrev pub Holds : Option Stable → Stable → Type 0
-Holds held stable = held ≡ option_map (λ _. stable) held
 
 -- The state is the one that the entries lead to, at its place and a free moment, at which each request of SMB that
 -- waits is awaited. Each entry gives out 512 numbers at most, those among them that one who comes to wait, the call

@@ -1,5 +1,5 @@
 -- Journals: what entries a list of events makes, which journals are legal, and the state that a journal leads to.
-use Rattle.std.specs.Prelude.{◌≡◌, ℕ, ◌+◌, not, ◌==◌, nat_lt, if◌then◌else◌, Bool, true, false, List, [], ◌∷◌, ◌++◌, length, filter}
+use Rattle.std.specs.Prelude.{◌≡◌, ℕ, ◌+◌, not, ◌&&◌, ◌==◌, nat_lt, if◌then◌else◌, Bool, true, false, List, [], ◌∷◌, ◌++◌, length, filter}
 use Rattle.std.specs.List.{AllByRecursion}
 use Rattle.xl_base.specs.Lists.{IsIn}
 use Rattle.xl_base.specs.declared.event.Dest.{Dest}
@@ -15,32 +15,43 @@ abbrev pub replay : Whole → List Entry → Whole
 replay s [] = s
 replay s (e ∷ es) = replay (step e.stores s e.event).next es
 
+-- whether an event starts the server again
+abbrev pub is_restart : Event → Bool
+is_restart Restart = true
+is_restart _ = false
+
+-- an event of whose stores n succeed makes an entry: a restart only if its store does (HOUSE-10)
+abbrev pub may_enter : ℕ → Event → Bool
+may_enter n event = not (is_restart event && (n == 0))
+
 -- an entry has the stores and the outs that the machine's step gives
 abbrev pub IsStep : Whole → Entry → Type 0
-IsStep s e = (e.stores ≡ (step e.stores s e.event).made) × (e.outs ≡ (step e.stores s e.event).outs)
+IsStep s e = (e.stores ≡ (step e.stores s e.event).made) × (e.outs ≡ (step e.stores s e.event).outs) × (may_enter e.stores e.event ≡ true)
 
 -- each entry is the machine's step at its place
 abbrev pub IsLegal : Whole → List Entry → Type 0
 IsLegal s [] = Unit {0}
 IsLegal s (e ∷ es) = IsStep s e × IsLegal (step e.stores s e.event).next es
 
--- the entry that an event makes with n stores
+-- the entry that an event makes, of whose stores n succeed
 abbrev pub entry : ℕ → Whole → Event → Entry
-entry n s e = record { event = e; stores = n; outs = (step n s e).outs }
+entry n s e = record { event = e; stores = (step n s e).made; outs = (step n s e).outs }
 
--- the entries that events make in order, no store of which succeeds
-abbrev pub entries_of : Whole → List Event → List Entry
+-- the stores of the last of these entries
+abbrev pub last_stores : List Entry → ℕ
+last_stores [] = 0
+last_stores (e ∷ []) = e.stores
+last_stores (e ∷ f ∷ es) = last_stores (f ∷ es)
+
+-- The entries that events make in order, each with how many stores succeed in it. A restart whose store fails makes none, and none
+-- comes behind it.
+abbrev pub entries_of : Whole → List (Event × ℕ) → List Entry
 entries_of s [] = []
-entries_of s (e ∷ es) = entry 0 s e ∷ entries_of (step 0 s e).next es
+entries_of s ((event, n) ∷ events) = if may_enter n event then entry n s event ∷ entries_of (step n s event).next events else []
 
 -- the most entries of a journal
 abbrev pub most_entries : ℕ
 most_entries = 1048576
-
--- whether an event starts the server again
-abbrev pub is_restart : Event → Bool
-is_restart Restart = true
-is_restart _ = false
 
 -- ---- no out before its connection's opening or after its end
 

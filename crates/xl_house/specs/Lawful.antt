@@ -8,13 +8,14 @@ use Rattle.xl_base.specs.declared.event.Event.TheVariants.{Message, End, Called,
 use Rattle.xl_base.specs.declared.event.Moment.{Moment}
 use Rattle.xl_base.specs.declared.journal.Entry.{Entry}
 use Rattle.xl_cache.specs.BreakPlans.{is_running}
+use Rattle.xl_grace.specs.Grace.{is_over}
 use Rattle.xl_matrix.specs.Matrix.{compat}
 use Rattle.xl_matrix.specs.declared.claim.Claim.{Claim}
 use Rattle.xl_table.specs.Held.{is_cache}
 use Rattle.xl_core.specs.State.{CoreState, step_begun}
-use Rattle.xl_core.specs.BreakAnswers.{due}
-use Rattle.xl_core.specs.Deeds.{Deed, Asks, GivesBack, Weakens, Acks, Cancels, Ends, Closes, Serves, Draws, Advances, Lapses, Renews, Expires, all_done, queue_after, any_ends_break, KeepNames}
-use Rattle.xl_core.specs.Dues.{AreDue, AreInTurn}
+use Rattle.xl_core.specs.BreakAnswers.{due, client_of}
+use Rattle.xl_core.specs.Deeds.{Deed, Asks, GivesBack, Weakens, Acks, Cancels, Ends, Closes, Serves, Draws, Advances, Lapses, Renews, Expires, FailsStore, EndsGrace, all_done, queue_after, any_ends_break, KeepNames}
+use Rattle.xl_core.specs.Dues.{AreDue, AreInTurn, IsPutOff, IsLate}
 use Rattle.xl_core.specs.Leases.{ended}
 use Rattle.xl_core.specs.Places.{Place, held_at, stands}
 use Rattle.xl_core.specs.declared.ask.Act.{Act}
@@ -90,22 +91,28 @@ IsKept n s e t = IsKeptBy n s e.event t
 
 -- ---- complete
 
--- What a reading of the clock owes: its own deeds leave no break whose deadline has come, and at its end no lease runs that has
--- ended (MS-SMB2 3.3.6.1; RFC 7530 9.5, 10.4.6). Breaks are over in the order in which they are due, and clients expire in the
--- order of their id strings: what stands ahead of one and isn't taken before it is left by the last of these deeds.
-pub record IsOnTime (n : ℕ) (s : Whole) (now : Moment) (t : Whole) : Type 0 where
-  pub breaks : due (all_done n (found s) (own_of n (as_found s) (Tick now)).deeds) ≡ []
-  pub leases : ended t.core.clock t.core.leases ≡ []
-  pub turns : AreInTurn n (found s) (own_of n (as_found s) (Tick now)).deeds (all_done n (found s) (own_of n (as_found s) (Tick now)).deeds)
+-- What a reading of the clock owes, whose own deeds leave the core so. A break whose deadline has come is left only if it is that of a
+-- client whose expiry is put off, and at its end a lease that has ended runs only if its client's is: a store of the reading failed,
+-- and the record has the client still. And the grace whose end has come runs on only if a store failed (MS-SMB2 3.3.6.1; RFC 7530
+-- 9.5, 9.6.3, 10.4.6). Breaks are over in the order in which they are due, and clients expire in the order of their id strings: what
+-- stands ahead of one and isn't taken before it is left by the last of these deeds.
+pub record IsOnTimeWith (n : ℕ) (s : Whole) (ds : List Deed) (left : CoreState) (t : Whole) : Type 0 where
+  pub breaks : AllByRecursion (λ c. IsLate left (client_of left.names c.party)) (due left)
+  pub leases : AllByRecursion (λ client. IsPutOff left.failed left.stable client) (ended t.core.clock t.core.leases)
+  pub grace : is_over left.grace left.clock ≡ true → left.failed ≡ true
+  pub turns : AreInTurn n (found s) ds left
+
+abbrev pub IsOnTime : ℕ → Whole → Moment → Whole → Type 0
+IsOnTime n s now t = let ds = (own_of n (as_found s) (Tick now)).deeds in IsOnTimeWith n s ds (all_done n (found s) ds) t
 
 -- what is owed by the event
 abbrev pub IsOnTimeBy : ℕ → Whole → Event → Whole → Type 0
 IsOnTimeBy n s (Tick now) t = IsOnTime n s now t
 IsOnTimeBy n s event t = Unit {0}
 
--- Each deed is given what is due to it, in the state that those before it left: an ask that is no reclaim, that nothing
--- held stands against and for which there is room is granted, each answer has its cause, and each turn is that of the
--- first waiter who isn't held up. And a reading of the clock does what is due by then.
+-- Each deed is given what is due to it, in the state that those before it left: an ask that grace lets in, that nothing held
+-- stands against and for which there is room is granted, if its client is recorded or can be; each answer has its cause, and each
+-- turn is that of the first waiter who isn't held up. And a reading of the clock does what is due by then.
 abbrev pub IsComplete : Law
 IsComplete n s e t = AreDue n (found s) (deeds n s e.event) × IsOnTimeBy n s e.event t
 
@@ -118,7 +125,7 @@ is_unlock act = false
 
 -- which event does what itself: a message asks, gives back, makes a share weaker, answers a break, cancels, ends, renews or
 -- draws a number, the end of a connection closes opens, the end of a call unlocks, and a reading of the clock has it show that moment,
--- ends breaks and lets clients expire
+-- ends breaks, lets clients expire and ends the grace that runs, or fails to store the record first
 abbrev pub may_do : Event → Deed → Bool
 may_do (Message number bytes) (Asks left a) = true
 may_do (Message number bytes) (GivesBack claim) = true
@@ -134,6 +141,8 @@ may_do (Called number bytes) (Asks left a) = is_unlock a.act
 may_do (Tick now) (Advances moment) = moment.0 == now.0
 may_do (Tick now) (Lapses cache) = true
 may_do (Tick now) (Expires client) = true
+may_do (Tick now) (FailsStore stable) = true
+may_do (Tick now) EndsGrace = true
 may_do event deed = false
 
 -- what may stand behind: turns, and the numbers of the calls that tell of them

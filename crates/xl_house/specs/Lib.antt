@@ -16,6 +16,7 @@ pub mod Notified
 pub mod Entries
 pub mod Fitting
 pub mod Steady
+pub mod Recording
 pub mod Wished
 pub mod Breaking
 pub mod Keeping

@@ -121,5 +121,5 @@ own_of n s (Message number bytes) = message_own n s.exports s.front s.core (kind
 own_of n s (End number) = end_own s.front s.core (kind_of s.connections number) number
 own_of n s (Called call reply) =
     unreplied (OfGrant (refused_grant s.core (refuses reply) (find (λ c. c.number == call) s.front.nlm.calls))) (after_call s.front (nlm_called n s.front.nlm s.core call reply)) (called_deeds s.front.nlm s.core call reply)
-own_of n s (Tick now) = unreplied OfClock (after_tick s.front (tick s.core now)) (tick_deeds n s.core now)
+own_of n s (Tick now) = unreplied OfClock (after_tick s.front (tick n s.core now)) (tick_deeds n s.core now)
 own_of n s Restart = idle [] s.front s.core

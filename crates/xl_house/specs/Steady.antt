@@ -9,7 +9,7 @@ use Rattle.xl_core.specs.Frames.{calls_in, drawn_by}
 use Rattle.xl_core.specs.State.{CoreState}
 use Rattle.xl_house.specs.Done.{deeds}
 use Rattle.xl_house.specs.Lawful.{Law, found}
-use Rattle.xl_house.specs.State.{Whole, times_of}
+use Rattle.xl_house.specs.State.{Whole, no_fronts, times_of}
 
 -- ---- numbers
 
@@ -28,16 +28,19 @@ all_numbers_in n s (d ∷ ds) = numbers_in n s d + all_numbers_in n (done n s d)
 
 -- ---- an entry
 
--- The entry's deeds find the core as the entry before left it. They change neither the times nor the stored record, and
--- the last number that was given out goes on by as many as they give out.
+-- The entry's deeds find the core as the entry before left it. They change neither the times nor the epoch of the record, and the
+-- last number that was given out goes on by as many as they give out.
 pub record IsSteadyIn (n : ℕ) (s : Whole) (event : Event) (t : Whole) : Type 0 where
   pub begins : found s ≡ s.core
   pub times : t.core.times ≡ s.core.times
-  pub stable : t.core.stable ≡ s.core.stable
+  pub epoch : t.core.stable.epoch ≡ s.core.stable.epoch
   pub numbers : t.core.counter ≡ s.core.counter + all_numbers_in n (found s) (deeds n s event)
 
--- A restart has the times that were exported, raises the epoch of the record, and begins with the numbers and the names anew.
+-- A restart has the times that were exported, raises the epoch of the record, and begins with the numbers and the names anew. It
+-- leaves no connection, and nothing of the fronts: no host, client, session, open, request that waits or call without an answer.
 pub record IsBegunAnew (s t : Whole) : Type 0 where
+  pub connections : t.connections ≡ []
+  pub front : t.front ≡ no_fronts
   pub times : t.core.times ≡ times_of s.exports
   pub stable : t.core.stable ≡ raised s.core.stable
   pub numbers : t.core.counter ≡ 0

@@ -28,9 +28,10 @@ pub data IsChosen (kinds : List CacheKind) (had : List What) (kind : CacheKind) 
   Chosen : had ≡ [] → IsIn kind kinds → IsChosen kinds had kind
   Joined : (own choice : CacheKind) → had ≡ Cache own None ∷ [] → IsIn choice kinds → IsLeast own choice kind → IsChosen kinds had kind
 
--- The wish gets this kind: nobody waits on the file, and the party has just this cache there then.
+-- The wish gets this kind: nobody waits on the file, unless for the end of the grace that runs, and the party has just this cache there
+-- then.
 abbrev pub Gets : List CacheKind → Claim → CoreState → CoreState → CacheKind → Type 0
-Gets kinds c s t kind = (waits_on c.file s.waiters ≡ false) × (held_at t (CacheOf c.file c.party) ≡ Cache kind None ∷ []) × IsChosen kinds (held_at s (CacheOf c.file c.party)) kind
+Gets kinds c s t kind = (s.grace ≡ None → waits_on c.file s.waiters ≡ false) × (held_at t (CacheOf c.file c.party) ≡ Cache kind None ∷ []) × IsChosen kinds (held_at s (CacheOf c.file c.party)) kind
 
 -- Of who is granted this claim, and wishes for these kinds: its party has on the file what it had, or the wish gets a kind.
 abbrev pub IsWished : List CacheKind → Claim → CoreState → CoreState → Type 0

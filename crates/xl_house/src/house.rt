@@ -1,9 +1,11 @@
 //! The house: the machine with its journal.
-ghost use Rattle.std.specs.Prelude.{◌≡◌, ℕ, ◌+◌, ◌-◌, ◌*◌, ◌<◌, ◌≤◌, ◌^◌, [], ◌∷◌, ◌++◌, length, drop, true, false, Ok, Err, Some, None, OnOk, OnErr, IfOk, IfErr, IfSome, ◌↔◌};
+ghost use Rattle.std.specs.Prelude.{◌≡◌, ℕ, ◌+◌, ◌-◌, ◌*◌, ◌<◌, ◌≤◌, ◌^◌, [], ◌∷◌, ◌++◌, length, drop, vec_capacity, vec_len, true, false, Ok, Err, Some, None, OnOk, OnErr, IfOk, IfErr, IfSome, ◌↔◌};
 ghost use Rattle.xl_base.specs.Limits.{most_numbers};
-ghost use Rattle.xl_base.specs.Outside.{HandedOn};
+ghost use Rattle.xl_base.specs.Outside.{Rose};
 ghost use Rattle.xl_base.specs.Serials.{Extends};
 ghost use Rattle.xl_base.specs.Stable.{raised};
+ghost use Rattle.xl_base.specs.declared.event.Event.TheVariants.{Restart};
+ghost use Rattle.xl_grace.specs.Grace.{begun as grace_begun};
 ghost use Rattle.xl_core.specs.Numbers.{numbers_of};
 ghost use Rattle.xl_front_nlm.specs.Short.{AreShort};
 ghost use Rattle.xl_smb_state.specs.Links.{AreDistinct, IsSound};
@@ -18,18 +20,24 @@ ghost use Rattle.xl_house.specs.Asking.{IsAsking};
 ghost use Rattle.xl_house.specs.Meant.{IsMeant};
 ghost use Rattle.xl_house.specs.Free.{IsFree, AlwaysFree};
 ghost use Rattle.xl_house.specs.Housed.{Housed, is_spoiled, Holds, Stands};
-ghost use Rattle.xl_house.specs.Journals.{replay, IsLegal, IsOrderly, entry, is_restart, most_entries};
+ghost use Rattle.xl_house.specs.Journals.{replay, IsLegal, IsOrderly, entry, is_restart, last_stores, most_entries};
 ghost use Rattle.xl_house.specs.Lawful.{Always, IsLawful, IsWaiting, IsKept, IsComplete, IsCaused, IsTold};
 ghost use Rattle.xl_house.specs.Machine.{step};
-ghost use Rattle.xl_house.specs.State.{times_of, start_of};
+ghost use Rattle.xl_house.specs.Recording.{HasKept, IsRecording, IsAdmitting};
+ghost use Rattle.xl_house.specs.Starts.{IsGiven, IsStored};
+ghost use Rattle.xl_house.specs.State.{no_fronts, times_of, start_of};
+ghost use Rattle.xl_plan.specs.Keepers.{telling};
 ghost use Rattle.xl_house.specs.Serials.{IsHistory, MayHalt};
 ghost use Rattle.xl_house.specs.Whole.{whole_of};
 
 use crate::layers::{Fronts, Layers};
-use crate::machine::{Machine, act};
+use crate::machine::{Acted, Machine, act};
+use crate::start::{Begun, Ended, load, raise};
 use std::alloc::{AllocError, Global};
 use std::marker::Model;
-use xl_base::{Entry, Event, Exports, Halt, Head, Journal, Keeper, Record, Sequence, Serial};
+use xl_base::{
+    Budgeted, Entry, Event, Exports, Halt, Head, Journal, Keeper, Moment, Record, Sequence, Serial,
+};
 use xl_core::{Core, Times};
 use xl_matrix::Claim;
 use xl_names::Names;
@@ -57,7 +65,7 @@ fn times_of(exports: &Exports) -> Times
 #[derive(Drop)]
 pub struct House<K: Keeper> {
     head: Head,
-    entries: Sequence<Entry>,
+    entries: Vec<Entry>,
     machine: Machine,
     keeper: K,
     halt: Option<Halt>,
@@ -75,66 +83,168 @@ impl<K: Keeper> Model for House<K> {
 
     ghost Value = { Housed K };
 
-    ghost view = { λ h. record { head = h.head; entries = h.entries; halt = h.halt; keeper = h.keeper } };
+    ghost view = { λ h. record { head = h.head; entries = h.entries.items; halt = h.halt; keeper = h.keeper } };
 
     ghost invariant = { λ h. record {
-      stands : is_spoiled h.halt ≡ false → Stands (start_of h.head) h.entries (whole_of h.head.exports h.machine);
+      stands : is_spoiled h.halt ≡ false → Stands (start_of h.head) h.entries.items (whole_of h.head.exports h.machine);
       holds : is_spoiled h.halt ≡ false → Holds (K.held h.keeper) h.machine.layers.core.stable;
-      few : length h.entries ≤ most_entries;
-      legal : IsLegal (start_of h.head) h.entries;
-      served : Always IsServed (start_of h.head) h.entries;
-      halts : IfSome h.halt (λ reason. MayHalt h.entries reason);
+      few : length h.entries.items ≤ most_entries;
+      legal : IsLegal (start_of h.head) h.entries.items;
+      served : Always IsServed (start_of h.head) h.entries.items;
+      halts : IfSome h.halt (λ reason. MayHalt h.entries.items reason);
     } };
 }
 
-/// Acts on one event and enters it at the next place. A full journal leaves everything as it was.
+/// Acts on one event and enters it at the next place. A full journal leaves everything as it was. The memory for the entry is taken
+/// before anything is stored.
 fn act_and_enter<K: Keeper>(
     alloc: Global,
     exports: &Exports,
     machine: &mut Machine,
     keeper: &mut K,
-    entries: &mut Sequence<Entry>,
+    entries: &mut Vec<Entry>,
     event: Event,
 ) -> Result<u64, Halt>
-    requires place { machine.old.place ≡ length entries.old }
-    requires few { length entries.old ≤ most_entries }
+    requires place { machine.old.place ≡ length entries.old.items }
+    requires few { length entries.old.items ≤ most_entries }
     requires free { IsFree (whole_of exports.now machine.old) }
-    requires numbers { numbers_of machine.old.layers.core ≤ most_numbers * length entries.old }
+    requires holds { Holds (K.held keeper.old) machine.old.layers.core.stable }
+    requires numbers { numbers_of machine.old.layers.core ≤ most_numbers * length entries.old.items }
     requires short { AreShort machine.old.layers.core.names }
     requires goes_on { is_restart event ≡ false }
-    ensures place { IfOk result (λ place. place ≡ length entries.old) }
+    ensures place { IfOk result (λ place. place ≡ length entries.old.items) }
     ensures below { IfOk result (λ place. place < most_entries) }
-    ensures few { length entries.new ≤ most_entries }
+    ensures few { length entries.new.items ≤ most_entries }
     ensures short { OnOk result (AreShort machine.new.layers.core.names) }
     ensures numbers { OnOk result (numbers_of machine.new.layers.core ≤ numbers_of machine.old.layers.core + most_numbers) }
-    ensures entered { OnOk result (entries.new ≡ entries.old ++ entry 0 (whole_of exports.now machine.old) event ∷ []) }
-    ensures next { OnOk result (whole_of exports.now machine.new ≡ (step 0 (whole_of exports.now machine.old) event).next) }
-    ensures err { OnErr result (entries.new ≡ entries.old) }
-    ensures full { (count : ℕ) → (result ≡ Err (Halt.JournalFull count)) ↔ ((count ≡ length entries.old) × (length entries.old ≡ most_entries)) }
+    ensures entered { OnOk result (entries.new.items ≡ entries.old.items ++ entry (last_stores entries.new.items) (whole_of exports.now machine.old) event ∷ []) }
+    ensures made { OnOk result ((step (last_stores entries.new.items) (whole_of exports.now machine.old) event).made ≡ last_stores entries.new.items) }
+    ensures next { OnOk result (whole_of exports.now machine.new ≡ (step (last_stores entries.new.items) (whole_of exports.now machine.old) event).next) }
+    ensures allowed { (n : ℕ) → K.left keeper.old ≡ Some n → OnOk result ((entry n (whole_of exports.now machine.old) event ≡ entry (last_stores entries.new.items) (whole_of exports.now machine.old) event) × ((step n (whole_of exports.now machine.old) event).next ≡ whole_of exports.now machine.new)) }
+    ensures keeper { OnOk result (HasKept (step (last_stores entries.new.items) (whole_of exports.now machine.old) event) (telling K.held K.given K.faults K.left keeper.old) (telling K.held K.given K.faults K.left keeper.new)) }
+    ensures err { OnErr result (entries.new.items ≡ entries.old.items) }
+    ensures full { (count : ℕ) → (result ≡ Err (Halt.JournalFull count)) ↔ ((count ≡ length entries.old.items) × (length entries.old.items ≡ most_entries)) }
     ensures started { (count : ℕ) → result ≡ Err (Halt.StartStore count) → ⊥ }
-    ensures may { IfErr result (λ reason. MayHalt entries.old reason) }
-    ensures kept { IfErr result (λ halt. is_spoiled (Some halt) ≡ false → machine.new ≡ machine.old) }
+    ensures may { IfErr result (λ reason. MayHalt entries.old.items reason) }
+    ensures kept { IfErr result (λ halt. is_spoiled (Some halt) ≡ false → (machine.new ≡ machine.old) × (keeper.new ≡ keeper.old)) }
     ensures sound { IsSound machine.old.layers.front.smb.state }
     ensures distinct { AreDistinct machine.old.layers.front.smb.state }
-    ensures keeper { HandedOn keeper.old keeper.new }
 {
     machine.layers.front.smb.state().links();
+    make_room(entries)?;
+    let place = machine.place;
+    let Ok(Acted { outs, stores }) = act(alloc, exports, machine, keeper, &event) else {
+        return Err(Halt::NoMemory);
+    };
+    entries.push_reserved(Entry {
+        event,
+        stores,
+        outs,
+    });
+    Ok(place)
+}
+
+/// Begins anew over this core, at the next place: no connection is open, and the fronts keep nothing.
+fn begin_anew(alloc: Global, machine: &mut Machine, core: Core)
+    requires { machine.old.place < 2 ^ 63 }
+    ensures place { machine.new.place ≡ machine.old.place + 1 }
+    ensures connections { machine.new.connections.items ≡ [] }
+    ensures front { machine.new.layers.front ≡ no_fronts }
+    ensures core { machine.new.layers.core ≡ core }
+{
+    machine.place += 1;
+    machine.connections.clear();
+    machine.layers = Layers {
+        front: Fronts::new(alloc),
+        core,
+    };
+}
+
+/// Room for an entry more, unless the journal is full.
+fn make_room(entries: &mut Vec<Entry>) -> Result<(), Halt>
+    ensures items { entries.new.items ≡ entries.old.items }
+    ensures room { OnOk result ((vec_len entries.new < vec_capacity entries.new) × (length entries.old.items ≡ most_entries → ⊥)) }
+    ensures full { (count : ℕ) → (result ≡ Err (Halt.JournalFull count)) ↔ ((count ≡ length entries.old.items) × (length entries.old.items ≡ most_entries)) }
+    ensures started { (count : ℕ) → result ≡ Err (Halt.StartStore count) → ⊥ }
+    ensures may { IfErr result (λ reason. MayHalt entries.old.items reason) }
+{
     if entries.len() == MOST_ENTRIES {
         return Err(Halt::JournalFull(entries.len() as u64));
     }
-    let place = machine.place;
-    let Ok(outs) = act(alloc, exports, machine, keeper, &event) else {
-        return Err(Halt::NoMemory);
-    };
-    let entry = Entry {
-        event,
-        stores: 0,
-        outs,
-    };
-    if entries.push(entry).is_err() {
-        return Err(Halt::NoMemory);
+    match entries.reserve(1) {
+        Ok(()) => Ok(()),
+        Err(_) => Err(Halt::NoMemory),
     }
-    Ok(place)
+}
+
+/// What a restart begins with, once there is room for its entry: the keeper's record is loaded, which is this one, and stored with
+/// its epoch raised.
+fn start_again<K: Keeper>(
+    alloc: Global,
+    entries: &mut Vec<Entry>,
+    keeper: &mut K,
+    stable: &Record,
+    clock: Moment,
+    grace: u64,
+) -> Result<Begun, Halt>
+    requires holds { Holds (K.held keeper.old) stable.now }
+    ensures items { entries.new.items ≡ entries.old.items }
+    ensures room { OnOk result ((vec_len entries.new < vec_capacity entries.new) × (length entries.old.items ≡ most_entries → ⊥)) }
+    ensures raised { IfOk result (λ b. (b.stable ≡ raised stable.now) × (b.grace ≡ grace_begun b.stable clock grace)) }
+    ensures keeper { OnOk result (IsStored (raised stable.now) (telling K.held K.given K.faults K.left keeper.old) (telling K.held K.given K.faults K.left keeper.new)) }
+    ensures kept { OnErr result (K.held keeper.new ≡ K.held keeper.old) }
+    ensures tried { OnErr result (IsGiven (K.held keeper.old) stable.now (K.given keeper.old) (K.given keeper.new)) }
+    ensures full { (count : ℕ) → (result ≡ Err (Halt.JournalFull count)) ↔ ((count ≡ length entries.old.items) × (length entries.old.items ≡ most_entries)) }
+    ensures count { (count : ℕ) → result ≡ Err (Halt.StartStore count) → (count ≡ K.faults keeper.new) × Rose (K.faults keeper.old) count }
+    ensures spent { (n count : ℕ) → K.left keeper.old ≡ Some n → result ≡ Err (Halt.StartStore count) → n ≡ 0 }
+{
+    make_room(entries)?;
+    let (_, fault) = load(alloc, keeper);
+    match fault {
+        Some(halt) => Err(halt),
+        None => raise(alloc, keeper, stable, clock, grace),
+    }
+}
+
+/// The same of a house that may have halted: then nothing is loaded and nothing stored, and that halt is the reason.
+fn again<K: Keeper>(
+    alloc: Global,
+    halt: Option<Halt>,
+    entries: &mut Vec<Entry>,
+    keeper: &mut K,
+    stable: &Record,
+    clock: Moment,
+    grace: u64,
+) -> Result<Begun, Halt>
+    requires holds { is_spoiled halt ≡ false → Holds (K.held keeper.old) stable.now }
+    requires may { IfSome halt (λ reason. MayHalt entries.old.items reason) }
+    ensures runs { OnOk result (halt ≡ None) }
+    ensures items { entries.new.items ≡ entries.old.items }
+    ensures room { OnOk result ((vec_len entries.new < vec_capacity entries.new) × (length entries.old.items ≡ most_entries → ⊥)) }
+    ensures raised { IfOk result (λ b. (b.stable ≡ raised stable.now) × (b.grace ≡ grace_begun b.stable clock grace)) }
+    ensures keeper { OnOk result (IsStored (raised stable.now) (telling K.held K.given K.faults K.left keeper.old) (telling K.held K.given K.faults K.left keeper.new)) }
+    ensures stays { IfSome halt (λ reason. (result ≡ Err reason) × (keeper.new ≡ keeper.old)) }
+    ensures kept { OnErr result (K.held keeper.new ≡ K.held keeper.old) }
+    ensures tried { OnErr result (IsGiven (K.held keeper.old) stable.now (K.given keeper.old) (K.given keeper.new)) }
+    ensures full { (count : ℕ) → halt ≡ None → (result ≡ Err (Halt.JournalFull count)) ↔ ((count ≡ length entries.old.items) × (length entries.old.items ≡ most_entries)) }
+    ensures count { (count : ℕ) → result ≡ Err (Halt.StartStore count) → (count ≡ K.faults keeper.new) × Rose (K.faults keeper.old) count }
+    ensures spent { (n count : ℕ) → K.left keeper.old ≡ Some n → result ≡ Err (Halt.StartStore count) → n ≡ 0 }
+{
+    match halt {
+        Some(halt) => Err(halt),
+        None => start_again(alloc, entries, keeper, stable, clock, grace),
+    }
+}
+
+/// The entry of a restart.
+fn restarted(alloc: Global) -> Entry
+    ensures { result ≡ record { event = Restart; stores = 1; outs = [] } }
+{
+    Entry {
+        event: Event::Restart,
+        stores: 1,
+        outs: Sequence::new(alloc),
+    }
 }
 
 /// Frees a machine that steps no more, part by part.
@@ -154,16 +264,19 @@ fn retire(machine: Machine) {
 }
 
 impl<K: Keeper> House<K> {
-    /// The house that begins from this head, with the record that the keeper holds now. It takes no memory.
-    pub(crate) fn begin(alloc: Global, head: Head, stable: Record, keeper: K) -> House<K>
-        requires raised { stable ≡ raised head.«record» }
-        requires holds { Holds (K.held keeper) stable }
+    /// The house that begins from this head, with the record that the keeper holds now and the grace that runs from then on. It
+    /// takes no memory.
+    pub(crate) fn begin(alloc: Global, head: Head, begun: Begun, keeper: K) -> House<K>
+        requires raised { begun.stable ≡ raised head.«record» }
+        requires grace { begun.grace ≡ grace_begun begun.stable head.start head.exports.grace }
+        requires holds { Holds (K.held keeper) begun.stable }
         ensures { result ≡ record { head = head; entries = []; halt = None; keeper = keeper } }
     {
-        let core = Core::new(alloc, stable, head.start, times_of(&head.exports));
+        let Begun { stable, grace } = begun;
+        let core = Core::new(alloc, stable, grace, head.start, times_of(&head.exports));
         House {
             head,
-            entries: Sequence::new(alloc),
+            entries: Vec::new(alloc),
             machine: Machine {
                 place: 0,
                 connections: Vec::new(alloc),
@@ -180,22 +293,29 @@ impl<K: Keeper> House<K> {
     /// Steps one event, which is not Restart, and returns its place in the journal: the number of entries before it. The new
     /// entry has all that is to be sent for the event, in order (`outs_from`).
     ///
+    /// The entry has as many stores as the step made. They fall short of what was wanted only if the keeper's count of faults
+    /// rose. The keeper was given the records of the step and no others, in order, and holds the machine's record afterwards
+    /// (`keeper`); if it tells how many stores succeed, the entry is the machine's with so many (`allowed`).
+    ///
     /// After an error the journal is as it was, and each later step returns the same error. JournalFull comes exactly if the
-    /// journal has 1,048,576 entries. No step stores the record yet. If the step grants what a CREATE or a LOCK of SMB waited
-    /// for, the open is there afterwards (`served`).
+    /// journal has 1,048,576 entries. After NoMemory the keeper may have been given some of the step's records. If the step
+    /// grants what a CREATE or a LOCK of SMB waited for, the open is there afterwards (`served`).
     ///
     /// As a `Serial` a house takes events only while it is not halted.
     #[tactic(auto, using(crate::proofs::JournalLaws::legal_next, crate::proofs::JournalLaws::stands_next))]
     pub fn step(&mut self, alloc: Global, event: Event) -> Result<u64, Halt>
         requires goes_on { is_restart event ≡ false }
-        ensures ok { IfOk result (λ place. (place ≡ length self.old.entries) × (self.new ≡ record { head = self.old.head; entries = self.old.entries ++ entry 0 (replay (start_of self.old.head) self.old.entries) event ∷ []; halt = None; keeper = self.old.keeper })) }
+        ensures ok { IfOk result (λ place. (place ≡ length self.old.entries) × (self.new ≡ record { head = self.old.head; entries = self.old.entries ++ entry (last_stores self.new.entries) (replay (start_of self.old.head) self.old.entries) event ∷ []; halt = None; keeper = self.new.keeper })) }
         ensures below { IfOk result (λ place. place < most_entries) }
-        ensures err { IfErr result (λ halt. self.new ≡ record { head = self.old.head; entries = self.old.entries; halt = Some halt; keeper = self.old.keeper }) }
-        ensures stays { IfSome self.old.halt (λ halt. result ≡ Err halt) }
+        ensures allowed { (n : ℕ) → K.left self.old.keeper ≡ Some n → OnOk result ((self.new.entries ≡ self.old.entries ++ entry n (replay (start_of self.old.head) self.old.entries) event ∷ []) × (replay (start_of self.old.head) self.new.entries ≡ (step n (replay (start_of self.old.head) self.old.entries) event).next)) }
+        ensures keeper { OnOk result (HasKept (step (last_stores self.new.entries) (replay (start_of self.old.head) self.old.entries) event) (telling K.held K.given K.faults K.left self.old.keeper) (telling K.held K.given K.faults K.left self.new.keeper)) }
+        ensures err { IfErr result (λ halt. self.new ≡ record { head = self.old.head; entries = self.old.entries; halt = Some halt; keeper = self.new.keeper }) }
+        ensures untouched { IfErr result (λ halt. is_spoiled (Some halt) ≡ false → self.new.keeper ≡ self.old.keeper) }
+        ensures stays { IfSome self.old.halt (λ halt. (result ≡ Err halt) × (self.new ≡ self.old)) }
         ensures full { (count : ℕ) → self.old.halt ≡ None → (result ≡ Err (Halt.JournalFull count)) ↔ ((count ≡ length self.old.entries) × (length self.old.entries ≡ most_entries)) }
         ensures started { (count : ℕ) → self.old.halt ≡ None → result ≡ Err (Halt.StartStore count) → ⊥ }
         ensures may { IfErr result (λ reason. MayHalt self.old.entries reason) }
-        ensures served { OnOk result (IsServedBy 0 (replay (start_of self.old.head) self.old.entries) event (replay (start_of self.new.head) self.new.entries)) }
+        ensures served { OnOk result (IsServedBy (last_stores self.new.entries) (replay (start_of self.old.head) self.old.entries) event (replay (start_of self.new.head) self.new.entries)) }
         ensures holds { OnOk result (Holds (K.held self.new.keeper) (replay (start_of self.new.head) self.new.entries).core.stable) }
     {
         match self.halt {
@@ -214,6 +334,75 @@ impl<K: Keeper> House<K> {
             Err(halt) => {
                 self.halt = Some(halt);
                 Err(halt)
+            }
+        }
+    }
+
+    /// Starts the server again: a house whose next entry is a restart. It loads the keeper's record, which is the machine's, and
+    /// stores it with its epoch raised; it stores nothing else, and nothing if the load failed. Nothing is held afterwards: no claim,
+    /// waiter, connection, client or call without an answer, and numbers begin anew. Grace runs if the record has names. The journal
+    /// goes on, and so do the clock and the places.
+    ///
+    /// A house that halted ends with that halt. JournalFull comes exactly if the journal has 1,048,576 entries. StartStore comes only
+    /// if the load or the store failed: its number is the keeper's count of faults, which rose, and the keeper holds what it held
+    /// before. After an error the journal is as it was, without the restart.
+    pub fn restart(self, alloc: Global) -> Result<House<K>, Ended<K>>
+        ensures ok { IfOk result (λ h. (h.head ≡ self.head) × (h.entries ≡ self.entries ++ entry 1 (replay (start_of self.head) self.entries) Restart ∷ []) × (h.halt ≡ None)) }
+        ensures next { IfOk result (λ h. replay (start_of self.head) h.entries ≡ (step 1 (replay (start_of self.head) self.entries) Restart).next) }
+        ensures below { OnOk result (length self.entries < most_entries) }
+        ensures runs { OnOk result (self.halt ≡ None) }
+        ensures keeper { IfOk result (λ h. HasKept (step 1 (replay (start_of self.head) self.entries) Restart) (telling K.held K.given K.faults K.left self.keeper) (telling K.held K.given K.faults K.left h.keeper)) }
+        ensures holds { IfOk result (λ h. Holds (K.held h.keeper) (raised (replay (start_of self.head) self.entries).core.stable)) }
+        ensures ended { IfErr result (λ e. (e.journal.head ≡ self.head) × (e.journal.entries ≡ self.entries)) }
+        ensures legal { IfErr result (λ e. IsLegal (start_of e.journal.head) e.journal.entries) }
+        ensures served { IfErr result (λ e. Always IsServed (start_of e.journal.head) e.journal.entries) }
+        ensures most { IfErr result (λ e. length e.journal.entries ≤ most_entries) }
+        ensures stays { IfSome self.halt (λ halt. IfErr result (λ e. (e.halt ≡ halt) × (e.keeper ≡ self.keeper))) }
+        ensures full { IfErr result (λ e. (count : ℕ) → self.halt ≡ None → (e.halt ≡ Halt.JournalFull count) ↔ ((count ≡ length self.entries) × (length self.entries ≡ most_entries))) }
+        ensures count { IfErr result (λ e. (count : ℕ) → e.halt ≡ Halt.StartStore count → (count ≡ K.faults e.keeper) × Rose (K.faults self.keeper) count) }
+        ensures spent { IfErr result (λ e. (n count : ℕ) → K.left self.keeper ≡ Some n → e.halt ≡ Halt.StartStore count → n ≡ 0) }
+        ensures kept { IfErr result (λ e. K.held e.keeper ≡ K.held self.keeper) }
+        ensures tried { IfErr result (λ e. IsGiven (K.held self.keeper) (replay (start_of self.head) self.entries).core.stable (K.given self.keeper) (K.given e.keeper)) }
+    {
+        let House {
+            head,
+            entries,
+            machine,
+            keeper,
+            halt,
+        } = self;
+        let (mut entries, mut machine, mut keeper) = (entries, machine, keeper);
+        machine.layers.front.smb.state().links();
+        let clock = machine.layers.core.clock();
+        match again(
+            alloc,
+            halt,
+            &mut entries,
+            &mut keeper,
+            machine.layers.core.stable(),
+            clock,
+            head.exports.grace,
+        ) {
+            Ok(Begun { stable, grace }) => {
+                let core = Core::new(alloc, stable, grace, clock, times_of(&head.exports));
+                begin_anew(alloc, &mut machine, core);
+                entries.push_reserved(restarted(alloc));
+                Ok(House {
+                    head,
+                    entries,
+                    machine,
+                    keeper,
+                    halt: None,
+                })
+            }
+            Err(halt) => {
+                retire(machine);
+                let entries = Sequence::from_vec(entries);
+                Err(Ended {
+                    halt,
+                    journal: Journal { head, entries },
+                    keeper,
+                })
             }
         }
     }
@@ -239,8 +428,7 @@ impl<K: Keeper> House<K> {
         requires { place ≤ length self.now.entries }
         ensures { result.now ≡ drop place self.now.entries }
     {
-        let entries = self.entries.as_slice();
-        &entries[place as usize..]
+        &self.entries[place as usize..]
     }
 
     /// A copy of the claims that are held, in the table's order. A house that ran out of memory in a step has none to tell.
@@ -265,14 +453,19 @@ impl<K: Keeper> House<K> {
     /// - free: before the first entry and after each, any two held claims may be held together, and nobody who waits could be
     ///   served;
     /// - lawful: each entry leaves at each place, and of each lease, what its deeds made of it;
-    /// - steady: what is exported, the times and the stored record stay, and numbers are given out one by one;
+    /// - steady: what is exported, the times and the epoch of the record stay, and numbers are given out one by one;
+    /// - recorded: the record is the last that was stored, and no more was stored than the entry tells; a name comes into it by a
+    ///   monitored ask of its client alone, and goes only as its client expires, or at the end of a grace in which it reclaimed
+    ///   nothing; who expired is not in it;
+    /// - admitted: while grace runs a share or a lock is granted only to one who reclaims it and whose client is recorded;
     /// - parties: each claim is held for a party that had something of its owner's there, asked for it, or waited for it;
     /// - waiting: those who waited go on to wait, except those whom the entry served, cancelled or ended;
     /// - kept_until_answered: while the break of a cache runs, the cache is held at its full kind, until its party
     ///   answers, gives it back, ends or expires, or the deadline passes;
     /// - broken: a break begins only of a cache in the way of what was asked, and its answer is awaited;
     /// - caches_kept: each cache stays, at its kind or a greater one, unless a deed ends it or the entry tells that it is gone;
-    /// - complete: what nothing held stands against was granted, and what was due by a reading of the clock was done;
+    /// - complete: what grace let in and nothing held stands against was granted, and what was due by a reading of the clock was
+    ///   done, except what waits for a store that failed;
     /// - fit: each deed is one that may be done where it is done;
     /// - wished: a wish got one of its choices, the least kind with one of them and what its party had, or nothing;
     /// - asking: an ask of a request of NLM is on the file that it names, a reclaim if it says so, and within the room for hosts; those
@@ -296,6 +489,8 @@ impl<K: Keeper> House<K> {
         ensures free { AlwaysFree (start_of result.0.head) result.0.entries }
         ensures lawful { Always IsLawful (start_of result.0.head) result.0.entries }
         ensures steady { Always IsSteady (start_of result.0.head) result.0.entries }
+        ensures recorded { Always IsRecording (start_of result.0.head) result.0.entries }
+        ensures admitted { Always IsAdmitting (start_of result.0.head) result.0.entries }
         ensures parties { Always IsPartied (start_of result.0.head) result.0.entries }
         ensures waiting { Always IsWaiting (start_of result.0.head) result.0.entries }
         ensures kept_until_answered { Always IsKept (start_of result.0.head) result.0.entries }
@@ -324,7 +519,21 @@ impl<K: Keeper> House<K> {
             halt: _,
         } = self;
         retire(machine);
+        let entries = Sequence::from_vec(entries);
         (Journal { head, entries }, keeper)
+    }
+}
+
+impl<K: Budgeted> House<K> {
+    /// From now on so many stores of the keeper succeed, and each one behind them fails. All else stays as it is.
+    pub fn allow(&mut self, stores: u64)
+        ensures same { self.new ≡ record { head = self.old.head; entries = self.old.entries; halt = self.old.halt; keeper = self.new.keeper } }
+        ensures held { K.held self.new.keeper ≡ K.held self.old.keeper }
+        ensures given { K.given self.new.keeper ≡ K.given self.old.keeper }
+        ensures faults { K.faults self.new.keeper ≡ K.faults self.old.keeper }
+        ensures left { K.left self.new.keeper ≡ Some stores }
+    {
+        self.keeper.allow(stores);
     }
 }
 

@@ -1,7 +1,7 @@
 //! Laws of the house. The functions do nothing.
 ghost use Rattle.std.specs.Prelude.{◌≡◌, ℕ, nat_lt, Bool, true, false, List, [], ◌∷◌, Option, Some, None, ◌==◌, find};
 ghost use Rattle.xl_base.specs.Lists.{IsIn};
-ghost use Rattle.xl_base.specs.Stable.{Stable};
+ghost use Rattle.xl_base.specs.Stable.{is_recorded};
 ghost use Rattle.xl_base.specs.declared.event.Event.TheVariants.{Message, Tick, Called};
 ghost use Rattle.xl_base.specs.declared.event.Moment.{Moment};
 ghost use Rattle.xl_base.specs.declared.event.Out.{Out};
@@ -9,7 +9,9 @@ ghost use Rattle.xl_base.specs.declared.journal.Entry.{Entry};
 ghost use Rattle.xl_base.specs.declared.journal.Exports.{Exports};
 ghost use Rattle.xl_base.specs.declared.name.Owner.{Owner};
 ghost use Rattle.xl_base.specs.declared.name.Party.{Party};
+ghost use Rattle.xl_base.specs.declared.stable.Recorded.{Recorded};
 ghost use Rattle.xl_cache.specs.BreakPlans.{is_running, is_obstacle};
+ghost use Rattle.xl_grace.specs.Grace.{Running};
 ghost use Rattle.xl_matrix.specs.declared.claim.Break.{Break};
 ghost use Rattle.xl_matrix.specs.declared.claim.CacheKind.{CacheKind};
 ghost use Rattle.xl_matrix.specs.declared.claim.Claim.{Claim};
@@ -18,10 +20,12 @@ ghost use Rattle.xl_matrix.specs.declared.claim.Rwd.{Rwd};
 ghost use Rattle.xl_wait.specs.declared.waiter.Rooms.{Rooms};
 ghost use Rattle.xl_wait.specs.declared.waiter.Waiter.{Waiter};
 ghost use Rattle.xl_core.specs.BreakAnswers.{may_be_left};
-ghost use Rattle.xl_core.specs.Deeds.{Asks, Weakens, Acks, Serves, Draws, given};
+ghost use Rattle.xl_core.specs.Causes.{asks_claims};
+ghost use Rattle.xl_core.specs.Deeds.{Asks, Weakens, Acks, Serves, Draws, all_done, given};
+ghost use Rattle.xl_core.specs.Dues.{IsPutOff};
 ghost use Rattle.xl_core.specs.Leases.{Lease, ended};
 ghost use Rattle.xl_core.specs.Settle.{settle, share_has, waits_as};
-ghost use Rattle.xl_core.specs.Smallest.{all_room, smallest_lock};
+ghost use Rattle.xl_core.specs.Smallest.{all_room, smallest_lock, unnamed};
 ghost use Rattle.xl_core.specs.State.{CoreState, started};
 ghost use Rattle.xl_core.specs.declared.ask.Act.{Act};
 ghost use Rattle.xl_core.specs.declared.ask.Answer.{Answer};
@@ -53,6 +57,7 @@ ghost use Rattle.xl_front_nlm.specs.declared.call.GrantedCall.{GrantedCall};
 ghost use Rattle.xl_front_nlm.specs.declared.grant.Grant.{Grant};
 ghost use Rattle.xl_smb_laws.specs.OpenRights.{is_held_under};
 ghost use Rattle.xl_house.specs.Owed.{own_deeds, IsOwed, AreGone};
+ghost use Rattle.xl_house.specs.Recording.{IsRecording, IsAdmitting};
 ghost use Rattle.xl_base.specs.declared.event.Dest.TheVariants.{Conn};
 ghost use Rattle.xl_programs.specs.Sent.{sent_to};
 ghost use Rattle.xl_house.specs.Replying.{IsOneReply};
@@ -67,17 +72,17 @@ ghost use Rattle.xl_house.specs.Fitting.{IsFitting};
 ghost use Rattle.xl_house.specs.Free.{IsFree};
 ghost use Rattle.xl_house.specs.Lawful.{found, IsLawful, IsWaiting, IsKept, IsComplete};
 ghost use Rattle.xl_house.specs.Machine.{heard};
+ghost use Rattle.xl_house.specs.Own.{own_of};
 ghost use Rattle.xl_house.specs.State.{Whole, as_found, rooms_of};
 
-/// A machine that answers that a lock is granted and keeps nothing has no lawful entry for a lock of one byte at a
-/// start; if one waits, a machine that drops it at another's test has none in which who waits is right; and if a break
-/// of a cache runs, a machine that lets the cache go at another's ask has none in which it is kept until it is
-/// answered. If a client has a lease, a machine that drops all leases at another's ask has no lawful entry for that; at
-/// a reading of the clock that is later one that leaves the clock as it was has none, and one that leaves a lease that
-/// has ended has none that is complete. A machine that forgets all requests of SMB while an SMB open's waiter is there
-/// has no entry that is served, nor has one whose first turn grants a claim to an SMB open that isn't there afterwards. One that
-/// makes a share weaker so that it has more than before, or leaves more of a cache than its break does, has none of deeds that
-/// are fit.
+/// A machine that answers that a lock is granted and keeps nothing has no lawful entry for a lock of one byte at a start; if one
+/// waits, a machine that drops it at another's test has none in which who waits is right; and if a break of a cache runs, a
+/// machine that lets the cache go at another's ask has none in which it is kept until it is answered. If a client has a lease, a
+/// machine that drops all leases at another's ask has no lawful entry for that; at a reading of the clock that is later one that
+/// leaves the clock as it was has none, and one that leaves a lease that has ended, of a client whose expiry no failed store puts
+/// off, has none that is complete. A machine that forgets all requests of SMB while an SMB open's waiter is there has no entry
+/// that is served, nor has one whose first turn grants a claim to an SMB open that isn't there afterwards. One that makes a share
+/// weaker so that it has more than before, or leaves more of a cache than its break does, has none of deeds that are fit.
 /// One that draws a number and gives out none has none that is steady.
 /// One that gives a greater cache than was chosen, or one though someone waits on the file, grants no wish rightly.
 /// One that lets a cache go at once that is to be given up first, breaks one to more than it is, breaks the only cache though it is
@@ -86,11 +91,13 @@ ghost use Rattle.xl_house.specs.State.{Whole, as_found, rooms_of};
 /// One that does nothing for a grant that its client refuses has no entry that is owed; and one that leaves a share or a range of an
 /// open that went with its connection ends no connection rightly.
 /// One that replies on another connection replies to no call of ONC RPC rightly.
+/// One whose record gains a name as a number is drawn doesn't record rightly; and one that grants a lock while grace runs to who
+/// doesn't reclaim it lets nobody in rightly.
 /// One that comes to hold a claim as it draws a number holds it for nobody, and so does one that does at a turn that serves none.
 /// One that makes a reclaim of an ask of NLM which says that it is none doesn't ask rightly.
-#[tactic(auto, using(crate::proofs::HollowLaws::waiter_dropped_in, crate::proofs::HollowLaws::cache_let_go_in, crate::proofs::HollowLaws::leases_dropped_in, crate::proofs::HollowLaws::clock_stands_in, crate::proofs::HollowLaws::lease_runs_on_in, crate::proofs::FittingLaws::share_widened_in, crate::proofs::FittingLaws::more_left_in, crate::proofs::SteadyLaws::numbers_stand_in, crate::proofs::WishedLaws::unchosen_is, crate::proofs::WishedLaws::beside_waiter_is, crate::proofs::BreakingLaws::gone_at_once_is, crate::proofs::BreakingLaws::raised_is, crate::proofs::BreakingLaws::uncaused_is, crate::proofs::BreakingLaws::unbroken_is, crate::proofs::EntryLaws::cache_dropped_in, crate::proofs::OwedLaws::refusal_dropped_in, crate::proofs::OwedLaws::left_behind_is, crate::proofs::ReplyingLaws::reply_astray_is, crate::proofs::PartiesLaws::for_nobody_is, crate::proofs::PartiesLaws::unserved_is, crate::proofs::AskingLaws::always_reclaims_is))]
+#[tactic(auto, using(crate::proofs::HollowLaws::waiter_dropped_in, crate::proofs::HollowLaws::cache_let_go_in, crate::proofs::HollowLaws::leases_dropped_in, crate::proofs::HollowLaws::clock_stands_in, crate::proofs::FittingLaws::share_widened_in, crate::proofs::FittingLaws::more_left_in, crate::proofs::SteadyLaws::numbers_stand_in, crate::proofs::WishedLaws::unchosen_is, crate::proofs::WishedLaws::beside_waiter_is, crate::proofs::BreakingLaws::gone_at_once_is, crate::proofs::BreakingLaws::raised_is, crate::proofs::BreakingLaws::uncaused_is, crate::proofs::BreakingLaws::unbroken_is, crate::proofs::EntryLaws::cache_dropped_in, crate::proofs::OwedLaws::refusal_dropped_in, crate::proofs::OwedLaws::left_behind_is, crate::proofs::ReplyingLaws::reply_astray_is, crate::proofs::PartiesLaws::for_nobody_is, crate::proofs::PartiesLaws::unserved_is, crate::proofs::AskingLaws::always_reclaims_is))]
 pub fn hollow_machines_are_refused()
-    ensures kept { (n stores number : ℕ) (bytes : List ℕ) (outs : List Out) (s t : Whole) (stable : Stable) (clock : Moment) (times : Times) → found s ≡ started stable clock times → deeds n s (Message number bytes) ≡ Asks all_room smallest_lock ∷ []
+    ensures kept { (n stores number epoch : ℕ) (bytes : List ℕ) (outs : List Out) (s t : Whole) (clock : Moment) (times : Times) → found s ≡ started (unnamed epoch) clock times → deeds n s (Message number bytes) ≡ Asks all_room smallest_lock ∷ []
         → t.core.claims ≡ [] → IsLawful n s (record { event = Message number bytes; stores = stores; outs = outs }) t → ⊥ }
     ensures dropped { (n stores number : ℕ) (bytes : List ℕ) (outs : List Out) (s t : Whole) (left : Rooms) (a : Ask) (w : Waiter) (extent : Extent) (exclusive : Bool) → a.act ≡ Act.Test extent exclusive → deeds n s (Message number bytes) ≡ Asks left a ∷ []
         → s.core.waiters ≡ w ∷ [] → t.core.waiters ≡ [] → IsWaiting n s (record { event = Message number bytes; stores = stores; outs = outs }) t → ⊥ }
@@ -99,7 +106,8 @@ pub fn hollow_machines_are_refused()
     ensures leases { (n stores number : ℕ) (bytes : List ℕ) (outs : List Out) (s t : Whole) (left : Rooms) (a : Ask) (l : Lease) → deeds n s (Message number bytes) ≡ Asks left a ∷ []
         → IsIn l s.core.leases → t.core.leases ≡ [] → IsLawful n s (record { event = Message number bytes; stores = stores; outs = outs }) t → ⊥ }
     ensures clock { (n stores : ℕ) (outs : List Out) (s t : Whole) (now : Moment) → nat_lt s.core.clock.0 now.0 ≡ true → t.core.clock ≡ s.core.clock → IsLawful n s (record { event = Tick now; stores = stores; outs = outs }) t → ⊥ }
-    ensures ended { (n stores : ℕ) (outs : List Out) (s t : Whole) (now : Moment) (client : List ℕ) → IsIn client (ended t.core.clock t.core.leases) → IsComplete n s (record { event = Tick now; stores = stores; outs = outs }) t → ⊥ }
+    ensures ended { (n stores : ℕ) (outs : List Out) (s t : Whole) (now : Moment) (client : List ℕ) → IsIn client (ended t.core.clock t.core.leases)
+        → (IsPutOff (all_done n (found s) (own_of n (as_found s) (Tick now)).deeds).failed (all_done n (found s) (own_of n (as_found s) (Tick now)).deeds).stable client → ⊥) → IsComplete n s (record { event = Tick now; stores = stores; outs = outs }) t → ⊥ }
     ensures forgotten { (n : ℕ) (s t : Whole) (e : Entry) (w : Waiter) (number : ℕ) → IsIn w t.core.waiters → waits_as number w ≡ true → t.front.smb.state.waiting ≡ [] → IsServed n s e t → ⊥ }
     ensures unmade { (n stores conn : ℕ) (bytes : List ℕ) (outs : List Out) (s t : Whole) (u : CoreState) (told : List Effect) (party : Party) (id number : ℕ) (claim : Claim) → IsFree s → settle n (rooms_of (heard n (as_found s) (Message conn bytes)).1) (heard n (as_found s) (Message conn bytes)).2 ≡ Some (told, u)
         → IsIn (Effect.Served party id (Answer.Granted claim)) told → claim.owner ≡ Owner.Open number → open_of number t.front.smb.state ≡ None → IsServed n s (record { event = Message conn bytes; stores = stores; outs = outs }) t → ⊥ }
@@ -109,11 +117,11 @@ pub fn hollow_machines_are_refused()
         → may_be_left cache.what to ≡ false → IsFitting n s (record { event = Message number bytes; stores = stores; outs = outs }) t → ⊥ }
     ensures numbers { (n stores number : ℕ) (bytes : List ℕ) (outs : List Out) (s t : Whole) → deeds n s (Message number bytes) ≡ Draws ∷ [] → t.core.counter ≡ s.core.counter → IsSteady n s (record { event = Message number bytes; stores = stores; outs = outs }) t → ⊥ }
     ensures unchosen { (s t : CoreState) (c : Claim) → held_at s (CacheOf c.file c.party) ≡ [] → held_at t (CacheOf c.file c.party) ≡ What.Cache CacheKind.RWH None ∷ [] → IsWished (CacheKind.R ∷ []) c s t → ⊥ }
-    ensures beside { (s t : CoreState) (c : Claim) → waits_on c.file s.waiters ≡ true → held_at s (CacheOf c.file c.party) ≡ [] → held_at t (CacheOf c.file c.party) ≡ What.Cache CacheKind.R None ∷ [] → IsWished (CacheKind.R ∷ []) c s t → ⊥ }
+    ensures beside { (s t : CoreState) (c : Claim) → s.grace ≡ None → waits_on c.file s.waiters ≡ true → held_at s (CacheOf c.file c.party) ≡ [] → held_at t (CacheOf c.file c.party) ≡ What.Cache CacheKind.R None ∷ [] → IsWished (CacheKind.R ∷ []) c s t → ⊥ }
     ensures gone_at_once { (s t : CoreState) (asked cache : Claim) (to : Option CacheKind) → cache.what ≡ What.Cache CacheKind.RWH None → held_at t (CacheOf cache.file cache.party) ≡ [] → IsBroken s t asked cache to → ⊥ }
     ensures raised { (s t : CoreState) (asked cache : Claim) → cache.what ≡ What.Cache CacheKind.R None → IsBroken s t asked cache (Some CacheKind.RWH) → ⊥ }
     ensures uncaused { (s t : CoreState) (asked cache : Claim) (to : Option CacheKind) → s.claims ≡ cache ∷ [] → blocks asked cache ≡ false → IsBroken s t asked cache to → ⊥ }
-    ensures unbroken { (left : Rooms) (s : CoreState) (a : Ask) (first c cache : Claim) → IsFirstOf (asked_claims a (asked_whats a.act) s.names) first → a.reclaim ≡ false → a.awaits ≡ false → is_stopped s.waiters s first ≡ false
+    ensures unbroken { (left : Rooms) (s : CoreState) (a : Ask) (first c cache : Claim) → IsFirstOf (asked_claims a (asked_whats a.act) s.names) first → s.grace ≡ None → a.reclaim ≡ false → a.awaits ≡ false → is_stopped s.waiters s first ≡ false
         → IsIn c (asked_claims a (asked_whats a.act) s.names) → IsIn cache (way left s a).1.claims → is_obstacle c (way left s a).1.claims cache ≡ true → is_running cache.what ≡ false → HasBegun left s a → ⊥ }
     ensures cache_dropped { (n stores number : ℕ) (bytes : List ℕ) (outs : List Out) (s t : Whole) (left : Rooms) (a : Ask) (file : ℕ) (party : Party) → deeds n s (Message number bytes) ≡ Asks left a ∷ [] → (ask n left (found s) a).1 ≡ []
         → held_at s.core (CacheOf file party) ≡ What.Cache CacheKind.RWH None ∷ [] → t.core.claims ≡ [] → IsKeeping n s (record { event = Message number bytes; stores = stores; outs = outs }) t → ⊥ }
@@ -123,6 +131,10 @@ pub fn hollow_machines_are_refused()
     ensures reply_astray { (conn other xid : ℕ) (bytes : List ℕ) → (Conn other ≡ Conn conn → ⊥) → IsOneReply conn xid (sent_to other bytes) → ⊥ }
     ensures for_nobody { (n : ℕ) (s : CoreState) (c : Claim) → s.claims ≡ [] → IsHeldFor n s Draws c → ⊥ }
     ensures unserved { (n : ℕ) (left : Rooms) (s : CoreState) (c : Claim) → s.claims ≡ [] → (given n s (Serves left)).1 ≡ [] → IsHeldFor n s (Serves left) c → ⊥ }
+    ensures recorded { (n stores number : ℕ) (bytes : List ℕ) (outs : List Out) (s t : Whole) (name : Recorded) → deeds n s (Message number bytes) ≡ Draws ∷ []
+        → is_recorded name s.core.stable.names ≡ false → is_recorded name t.core.stable.names ≡ true → IsRecording n s (record { event = Message number bytes; stores = stores; outs = outs }) t → ⊥ }
+    ensures let_in { (n stores number : ℕ) (bytes : List ℕ) (outs : List Out) (s t : Whole) (left : Rooms) (a : Ask) (g : Running) (c : Claim) → deeds n s (Message number bytes) ≡ Asks left a ∷ [] → s.core.grace ≡ Some g → asks_claims a.act ≡ true
+        → a.reclaim ≡ false → (ask n left (found s) a).0 ≡ Answer.Granted c → IsAdmitting n s (record { event = Message number bytes; stores = stores; outs = outs }) t → ⊥ }
     ensures always_reclaims { (count hosts : ℕ) (call : CallItem) (left : Rooms) (a : Ask) → reclaims call ≡ false → a.reclaim ≡ true → IsAskFor count hosts call (Asks left a) → ⊥ }
 {}
 

@@ -1,21 +1,24 @@
 //! The machine: what one event does, and what it sends.
 ghost use Rattle.std.specs.Prelude.{◌≡◌, ℕ, ◌+◌, ◌<◌, ◌≤◌, ◌^◌, true, false, Some, None, map, option_map, OnOk, IfOk};
 ghost use Rattle.xl_base.specs.Limits.{most_numbers};
-ghost use Rattle.xl_base.specs.Outside.{HandedOn};
 ghost use Rattle.xl_programs.specs.Programs.{serves, shown_request, incoming_at};
 ghost use Rattle.xl_programs.specs.Sent.{sent_to};
 ghost use Rattle.xl_rpc.specs.Replies.{reply};
 ghost use Rattle.xl_core.specs.Numbers.{numbers_of};
 ghost use Rattle.xl_core.specs.State.{MayBe, step_begun};
+ghost use Rattle.xl_core.specs.Stores.{Holds};
 ghost use Rattle.xl_core.specs.Ticks.{tick};
 ghost use Rattle.xl_front_nlm.specs.Answers.{nlm_called};
 ghost use Rattle.xl_front_nlm.specs.FrontNlm.{nlm_step};
 ghost use Rattle.xl_front_nlm.specs.Short.{AreShort, IsReady, Leaves};
+ghost use Rattle.xl_house.specs.Free.{IsFree};
 ghost use Rattle.xl_house.specs.Journals.{is_restart};
 ghost use Rattle.xl_front_nfs.specs.FrontNfs.{nfs_step};
 ghost use Rattle.xl_front_smb.specs.FrontSmb.{smb_step};
-ghost use Rattle.xl_house.specs.Machine.{connected, sent_of, heard, step};
+ghost use Rattle.xl_plan.specs.Keepers.{HandsTo, IsQuiet, telling};
+ghost use Rattle.xl_house.specs.Machine.{connected, sent_of, heard, step, Gives};
 ghost use Rattle.xl_house.specs.Own.{with_nlm, with_nfs, with_smb, after_call, after_tick, begun, record_own, message_own, end_own};
+ghost use Rattle.xl_house.specs.Recording.{HasKept};
 ghost use Rattle.xl_house.specs.State.{smb_opens, nfs_opens, as_found};
 ghost use Rattle.xl_house.specs.Telling.{framed};
 ghost use Rattle.xl_house.specs.Whole.{whole_of};
@@ -69,7 +72,7 @@ fn hear_nlm<K: Keeper>(
     requires ready { IsReady most_numbers layers.old.core }
     ensures heard { (n : ℕ) → IfOk result (λ outs. MayBe n layers.new.core → sent_of exports.now (Some Kind.Rpc) (with_nlm layers.old.front (nlm_step n exports.now layers.old.front.nlm layers.old.core number (shown_request request.now))) ≡ (outs, layers.new.front, layers.new.core)) }
     ensures leaves { OnOk result (Leaves most_numbers layers.old.core layers.new.core) }
-    ensures keeper { HandedOn keeper.old keeper.new }
+    ensures keeper { OnOk result (HandsTo K.held K.given K.faults K.left layers.old.core layers.new.core keeper.old keeper.new) }
 {
     let (reply, effects) = nlm_step(
         alloc,
@@ -99,7 +102,7 @@ fn hear_nfs<K: Keeper>(
     requires ready { IsReady most_numbers layers.old.core }
     ensures heard { (n : ℕ) → IfOk result (λ outs. MayBe n layers.new.core → sent_of exports.now (Some Kind.Rpc) (with_nfs layers.old.front (nfs_step n exports.now (smb_opens layers.old.front) layers.old.front.nfs layers.old.core number (shown_request request.now))) ≡ (outs, layers.new.front, layers.new.core)) }
     ensures leaves { OnOk result (Leaves most_numbers layers.old.core layers.new.core) }
-    ensures keeper { HandedOn keeper.old keeper.new }
+    ensures keeper { OnOk result (HandsTo K.held K.given K.faults K.left layers.old.core layers.new.core keeper.old keeper.new) }
 {
     let others = layers.front.smb.opens_held();
     let arrival = Arrival {
@@ -148,7 +151,7 @@ fn hear_record<K: Keeper>(
     requires ready { IsReady most_numbers layers.old.core }
     ensures heard { (n : ℕ) → IfOk result (λ outs. MayBe n layers.new.core → sent_of exports.now (Some Kind.Rpc) (record_own n exports.now layers.old.front layers.old.core number (incoming_at bytes.now)).given ≡ (outs, layers.new.front, layers.new.core)) }
     ensures leaves { OnOk result (Leaves most_numbers layers.old.core layers.new.core) }
-    ensures keeper { HandedOn keeper.old keeper.new }
+    ensures keeper { OnOk result (HandsTo K.held K.given K.faults K.left layers.old.core layers.new.core keeper.old keeper.new) }
 {
     match read_incoming(bytes) {
         Incoming::Asked(request) => match request.program {
@@ -172,7 +175,7 @@ fn hear_packet<K: Keeper>(
     requires ready { IsReady most_numbers layers.old.core }
     ensures heard { (n : ℕ) → IfOk result (λ outs. MayBe n layers.new.core → sent_of exports.now (Some Kind.Smb) (with_smb layers.old.front (smb_step n exports.now (nfs_opens layers.old.front) layers.old.front.smb layers.old.core number bytes.now)) ≡ (outs, layers.new.front, layers.new.core)) }
     ensures leaves { OnOk result (Leaves most_numbers layers.old.core layers.new.core) }
-    ensures keeper { HandedOn keeper.old keeper.new }
+    ensures keeper { OnOk result (HandsTo K.held K.given K.faults K.left layers.old.core layers.new.core keeper.old keeper.new) }
 {
     let others = layers.front.nfs_opens();
     let (reply, effects) = smb_step(
@@ -205,7 +208,7 @@ fn hear<K: Keeper>(
     requires ready { IsReady most_numbers layers.old.core }
     ensures heard { (n : ℕ) → IfOk result (λ outs. MayBe n layers.new.core → sent_of exports.now kind (message_own n exports.now layers.old.front layers.old.core kind number bytes.now).given ≡ (outs, layers.new.front, layers.new.core)) }
     ensures leaves { OnOk result (Leaves most_numbers layers.old.core layers.new.core) }
-    ensures keeper { HandedOn keeper.old keeper.new }
+    ensures keeper { OnOk result (HandsTo K.held K.given K.faults K.left layers.old.core layers.new.core keeper.old keeper.new) }
 {
     let Some(kind) = kind else {
         return Ok(Sequence::new(alloc));
@@ -244,6 +247,7 @@ fn hear_last(
     requires ready { IsReady most_numbers layers.old.core }
     ensures heard { IfOk result (λ outs. sent_of exports.now None (end_own layers.old.front layers.old.core (Some Kind.Smb) number).given ≡ (outs, layers.new.front, layers.new.core)) }
     ensures leaves { OnOk result (Leaves most_numbers layers.old.core layers.new.core) }
+    ensures quiet { OnOk result (IsQuiet layers.old.core layers.new.core) }
 {
     let effects = smb_end(alloc, &mut layers.front.smb, &mut layers.core, number)?;
     let outs = sent_for(alloc, exports, layers, effects)?;
@@ -262,6 +266,7 @@ fn hear_end(
     requires ready { IsReady most_numbers layers.old.core }
     ensures heard { IfOk result (λ outs. sent_of exports.now None (end_own layers.old.front layers.old.core kind number).given ≡ (outs, layers.new.front, layers.new.core)) }
     ensures leaves { OnOk result (Leaves most_numbers layers.old.core layers.new.core) }
+    ensures quiet { OnOk result (IsQuiet layers.old.core layers.new.core) }
 {
     match kind {
         Some(Kind::Smb) => hear_last(alloc, exports, layers, number),
@@ -292,7 +297,7 @@ fn hear_answer<K: Keeper>(
     requires ready { IsReady most_numbers layers.old.core }
     ensures heard { (n : ℕ) → IfOk result (λ outs. MayBe n layers.new.core → sent_of exports.now None (after_call layers.old.front (nlm_called n layers.old.front.nlm layers.old.core call reply.now)) ≡ (outs, layers.new.front, layers.new.core)) }
     ensures leaves { OnOk result (Leaves most_numbers layers.old.core layers.new.core) }
-    ensures keeper { HandedOn keeper.old keeper.new }
+    ensures keeper { OnOk result (HandsTo K.held K.given K.faults K.left layers.old.core layers.new.core keeper.old keeper.new) }
 {
     let effects = nlm_called(
         alloc,
@@ -317,9 +322,9 @@ fn hear_tick<K: Keeper>(
     now: Moment,
 ) -> Result<Sequence<Out>, AllocError>
     requires ready { IsReady most_numbers layers.old.core }
-    ensures heard { IfOk result (λ outs. sent_of exports.now None (after_tick layers.old.front (tick layers.old.core now)) ≡ (outs, layers.new.front, layers.new.core)) }
+    ensures heard { (n : ℕ) → IfOk result (λ outs. MayBe n layers.new.core → sent_of exports.now None (after_tick layers.old.front (tick n layers.old.core now)) ≡ (outs, layers.new.front, layers.new.core)) }
     ensures leaves { OnOk result (Leaves most_numbers layers.old.core layers.new.core) }
-    ensures keeper { HandedOn keeper.old keeper.new }
+    ensures keeper { OnOk result (HandsTo K.held K.given K.faults K.left layers.old.core layers.new.core keeper.old keeper.new) }
 {
     let effects = layers.core.tick(alloc, keeper, now)?;
     nfs_tick(&mut layers.front.nfs, layers.core.clock());
@@ -341,7 +346,7 @@ fn hear_event<K: Keeper>(
     ensures leaves { OnOk result (Leaves most_numbers (step_begun machine.old.layers.core) machine.new.layers.core) }
     ensures place { machine.new.place ≡ machine.old.place }
     ensures connections { machine.new.connections.items ≡ machine.old.connections.items }
-    ensures keeper { HandedOn keeper.old keeper.new }
+    ensures keeper { OnOk result (HandsTo K.held K.given K.faults K.left (step_begun machine.old.layers.core) machine.new.layers.core keeper.old keeper.new) }
 {
     machine.layers.core.begin_step();
     match event {
@@ -378,26 +383,37 @@ fn hear_event<K: Keeper>(
     }
 }
 
-/// One event: changes the machine, and gives what it sends. It ends settled.
+/// What a step sends, and how many stores of the record it made.
+#[derive(Drop)]
+pub(crate) struct Acted {
+    pub outs: Sequence<Out>,
+    pub stores: u64,
+}
+
+/// One event: changes the machine, and gives what it sends and how many stores it made. It ends settled.
 pub(crate) fn act<K: Keeper>(
     alloc: Global,
     exports: &Exports,
     machine: &mut Machine,
     keeper: &mut K,
     event: &Event,
-) -> Result<Sequence<Out>, AllocError>
+) -> Result<Acted, AllocError>
     requires place { machine.old.place < 2 ^ 63 }
     requires ready { IsReady most_numbers machine.old.layers.core }
     requires goes_on { is_restart event.now ≡ false }
-    ensures step { IfOk result (λ outs. step 0 (whole_of exports.now machine.old) event.now ≡ record { next = whole_of exports.now machine.new; made = 0; outs = outs }) }
+    requires free { IsFree (whole_of exports.now machine.old) }
+    requires holds { Holds (K.held keeper.old) machine.old.layers.core.stable }
+    ensures step { IfOk result (λ a. Gives (step a.stores (whole_of exports.now machine.old) event.now) (whole_of exports.now machine.new) a.stores a.outs) }
+    ensures allowed { (n : ℕ) → K.left keeper.old ≡ Some n → IfOk result (λ a. Gives (step n (whole_of exports.now machine.old) event.now) (whole_of exports.now machine.new) a.stores a.outs) }
+    ensures keeper { IfOk result (λ a. HasKept (step a.stores (whole_of exports.now machine.old) event.now) (telling K.held K.given K.faults K.left keeper.old) (telling K.held K.given K.faults K.left keeper.new)) }
     ensures short { OnOk result (AreShort machine.new.layers.core.names) }
     ensures numbers { OnOk result (numbers_of machine.new.layers.core ≤ numbers_of machine.old.layers.core + most_numbers) }
-    ensures keeper { HandedOn keeper.old keeper.new }
 {
     let mut outs = hear_event(alloc, exports, machine, keeper, event)?;
     settle(alloc, exports, &mut machine.layers, keeper, &mut outs)?;
     connect(&mut machine.connections, machine.place, event)?;
+    let stores = machine.layers.core.made();
     machine.layers.core.begin_step();
     machine.place += 1;
-    Ok(outs)
+    Ok(Acted { outs, stores })
 }

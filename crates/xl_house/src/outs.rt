@@ -1,6 +1,7 @@
 //! What is sent, in its frames.
 ghost use Rattle.std.specs.Prelude.{◌≡◌, ◌≤◌, ◌++◌, [], Some, None, map, vec_capacity, OnOk, IfOk};
 ghost use Rattle.std.specs.List.{AllByRecursion};
+ghost use Rattle.xl_core.specs.State.{aside_of};
 ghost use Rattle.xl_front_nlm.specs.Short.{IsReady, Leaves};
 ghost use Rattle.xl_programs.specs.Sent.{FitsFrame};
 ghost use Rattle.xl_house.specs.Machine.{sent_of};
@@ -182,6 +183,7 @@ pub(crate) fn show_all(
     requires ready { IsReady (grants effects.now) layers.old.core }
     ensures sent { OnOk result (behind outs.old (all_shown exports.now layers.old.front layers.old.core effects.now) ≡ (outs.new, layers.new.front, layers.new.core)) }
     ensures leaves { OnOk result (Leaves (grants effects.now) layers.old.core layers.new.core) }
+    ensures aside { OnOk result (aside_of layers.new.core ≡ aside_of layers.old.core) }
 {
     show_each(alloc, exports, layers, effects, outs)?;
     Ok(())
@@ -197,6 +199,7 @@ pub(crate) fn sent_for(
     requires ready { IsReady (grants effects) layers.old.core }
     ensures sent { IfOk result (λ outs. sent_of exports.now None ([], effects, layers.old.front, layers.old.core) ≡ (outs, layers.new.front, layers.new.core)) }
     ensures leaves { OnOk result (Leaves (grants effects) layers.old.core layers.new.core) }
+    ensures aside { OnOk result (aside_of layers.new.core ≡ aside_of layers.old.core) }
 {
     let none = Sequence::new(alloc);
     sent_with(alloc, exports, Kind::Rpc, layers, none, effects)
@@ -215,6 +218,7 @@ pub(crate) fn sent_with(
     requires ready { IsReady (grants effects) layers.old.core }
     ensures sent { IfOk result (λ outs. sent_of exports.now (Some kind) (reply, effects, layers.old.front, layers.old.core) ≡ (outs, layers.new.front, layers.new.core)) }
     ensures leaves { OnOk result (Leaves (grants effects) layers.old.core layers.new.core) }
+    ensures aside { OnOk result (aside_of layers.new.core ≡ aside_of layers.old.core) }
 {
     let mut outs = Sequence::from_vec(room_for(alloc, reply.len())?);
     show_all(alloc, exports, layers, effects.as_slice(), &mut outs)?;

@@ -1,10 +1,10 @@
 //! Whoever waits is served when it isn't held up any more.
 ghost use Rattle.std.specs.Prelude.{◌≡◌, ℕ, OnOk};
-ghost use Rattle.xl_base.specs.Outside.{HandedOn};
 ghost use Rattle.xl_core.specs.Good.{IsSettled};
 ghost use Rattle.xl_core.specs.State.{MayBe};
 ghost use Rattle.xl_house.specs.Telling.{behind, settled};
 ghost use Rattle.xl_front_nlm.specs.Short.{IsReady, Leaves};
+ghost use Rattle.xl_plan.specs.Keepers.{HandsTo};
 
 use crate::layers::Layers;
 use crate::outs::show_all;
@@ -23,7 +23,7 @@ pub(crate) fn settle<K: Keeper>(
     ensures state { (n : ℕ) → OnOk result (MayBe n layers.new.core → behind outs.old (settled n exports.now layers.old.front layers.old.core) ≡ (outs.new, layers.new.front, layers.new.core)) }
     ensures leaves { OnOk result (Leaves 0 layers.old.core layers.new.core) }
     ensures settled { OnOk result (IsSettled layers.new.core) }
-    ensures keeper { HandedOn keeper.old keeper.new }
+    ensures keeper { OnOk result (HandsTo K.held K.given K.faults K.left layers.old.core layers.new.core keeper.old keeper.new) }
 {
     'turns: while let Some(effects) = layers.core.settle(alloc, keeper, &layers.front.rooms())? {
         show_all(alloc, exports, layers, effects.as_slice(), outs)?;

@@ -1,4 +1,4 @@
-use Rattle.xl_house.proofs.HollowLaws.{nothing_kept_in, open_unmade_in, request_forgotten_in}
+use Rattle.xl_house.proofs.HollowLaws.{lease_runs_on_in, nothing_kept_in, open_unmade_in, request_forgotten_in, record_changed_in, let_in_in}
 use Rattle.xl_house.proofs.law.hollow_machines_are_refused.Goals as goal
 
 pub returns-clause-kept : goal.returns-clause-kept
@@ -9,3 +9,12 @@ returns-clause-forgotten c = request_forgotten_in
 
 pub returns-clause-unmade : goal.returns-clause-unmade
 returns-clause-unmade c = open_unmade_in
+
+pub returns-clause-recorded : goal.returns-clause-recorded
+returns-clause-recorded c = record_changed_in
+
+pub returns-clause-let_in : goal.returns-clause-let_in
+returns-clause-let_in c = let_in_in
+
+pub returns-clause-ended : goal.returns-clause-ended
+returns-clause-ended c = lease_runs_on_in

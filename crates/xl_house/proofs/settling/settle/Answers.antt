@@ -1,5 +1,5 @@
 use Rattle.std.proofs.Common.{List, Option, Ok, ap}
-use Rattle.xl_base.proofs.KeeperLaws.{handed_twice}
+use Rattle.xl_plan.proofs.KeeperLaws.{hands_by, hands_quiet, hands_then, quiet_same}
 use Rattle.xl_core.specs.declared.ask.Effect.{Effect}
 use Rattle.xl_house.proofs.SettleLaws.{settling_numbers, turn_ready, turn_smaller, turn_preserves, ended_state, ended_settled, ended_leaves}
 use Rattle.xl_house.proofs.settling.settle.Goals as goal
@@ -24,7 +24,13 @@ turns-smaller g c =
 pub turns-preserved : goal.turns-preserved
 turns-preserved g c = (
   turn_preserves c.args.exports.now c.args.layers.now.front c.args.layers.now.core c.args.outs.now c.turns.layers.front c.show_all.new.layers.front c.turns.layers.core c.settle.new.self c.show_all.new.layers.core c.turns.outs c.show_all.new.outs c.in_ok-effects.field-0 c.in-Some.effects c.turns.invariant.0 c.turns.invariant.1.0 (λ n may. rw (← c.rooms.ensures) (c.in_ok-effects.ensures.state n may)) c.in-Some.is c.in_ok-effects.ensures.on (rw (← c.as_slice.ensures) c.in_ok-show_all.ensures.sent),
-  (c.in_ok-show_all.ensures.leaves.good, handed_twice c.turns.invariant.1.1 c.settle.ensures.keeper),
+  (
+    c.in_ok-show_all.ensures.leaves.good,
+    hands_then g.K.Keeper.held g.K.Keeper.given g.K.Keeper.faults g.K.Keeper.left _ _ _ _ _ _ c.turns.invariant.1.1
+        (hands_then g.K.Keeper.held g.K.Keeper.given g.K.Keeper.faults g.K.Keeper.left _ c.settle.new.self _ _ _ _
+        (hands_by g.K.Keeper.held g.K.Keeper.given g.K.Keeper.faults g.K.Keeper.left _ _ _ _ c.in_ok-effects.ensures.keeper c.in_ok-effects.ensures.on)
+        (hands_quiet g.K.Keeper.held g.K.Keeper.given g.K.Keeper.faults g.K.Keeper.left _ _ _ (quiet_same _ _ c.in_ok-show_all.ensures.aside))),
+  ),
 )
 
 pub returns-clause-state : goal.returns-clause-state
@@ -36,3 +42,8 @@ returns-clause-settled g c = ended_settled c.turns.layers.front c.turns.layers.c
 
 pub returns-clause-leaves : goal.returns-clause-leaves
 returns-clause-leaves g c = ended_leaves c.args.exports.now c.args.layers.now.front c.args.layers.now.core c.args.outs.now c.turns.layers.front c.turns.layers.core c.settle.new.self c.turns.outs c.turns.invariant.0 c.turns.invariant.1.0 (c.in_ok-effects.ensures.none (ap (λ (t : Option (List Effect)). Ok t) c.in_default.is))
+
+pub returns-clause-keeper : goal.returns-clause-keeper
+returns-clause-keeper g c =
+    hands_then g.K.Keeper.held g.K.Keeper.given g.K.Keeper.faults g.K.Keeper.left _ c.turns.layers.core _ _ _ _ c.turns.invariant.1.1
+    (hands_by g.K.Keeper.held g.K.Keeper.given g.K.Keeper.faults g.K.Keeper.left _ _ _ _ c.in_ok-effects.ensures.keeper c.in_ok-effects.ensures.on)

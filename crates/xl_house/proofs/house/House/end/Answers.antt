@@ -12,6 +12,7 @@ use Rattle.xl_house.proofs.MachineLaws.{begun_free}
 use Rattle.xl_house.proofs.MeantLaws.{always_meant}
 use Rattle.xl_house.proofs.NotifiedLaws.{always_notified}
 use Rattle.xl_house.proofs.OrderLaws.{legal_orderly}
+use Rattle.xl_house.proofs.RecordLaws.{always_admitting, always_recording}
 use Rattle.xl_house.proofs.house.House.end.Goals as goal
 
 pub returns-clause-free : goal.returns-clause-free
@@ -22,6 +23,12 @@ returns-clause-lawful g c = always_lawful _ _
 
 pub returns-clause-steady : goal.returns-clause-steady
 returns-clause-steady g c = always_steady _ _
+
+pub returns-clause-recorded : goal.returns-clause-recorded
+returns-clause-recorded g c = rw c.from_vec-entries.ensures (always_recording _ _ c.self.invariant.legal)
+
+pub returns-clause-admitted : goal.returns-clause-admitted
+returns-clause-admitted g c = always_admitting _ _
 
 pub returns-clause-parties : goal.returns-clause-parties
 returns-clause-parties g c = always_partied _ _
@@ -63,15 +70,15 @@ pub returns-clause-replied : goal.returns-clause-replied
 returns-clause-replied g c = always_replied _ _
 
 pub returns-clause-told : goal.returns-clause-told
-returns-clause-told g c = always_told _ _ c.self.invariant.legal
+returns-clause-told g c = rw c.from_vec-entries.ensures (always_told _ _ c.self.invariant.legal)
 
 pub returns-clause-notified : goal.returns-clause-notified
-returns-clause-notified g c = always_notified _ _ c.self.invariant.legal
+returns-clause-notified g c = rw c.from_vec-entries.ensures (always_notified _ _ c.self.invariant.legal)
 
 pub returns-clause-orderly : goal.returns-clause-orderly
-returns-clause-orderly g c = legal_orderly _ _ c.self.invariant.legal
+returns-clause-orderly g c = rw c.from_vec-entries.ensures (legal_orderly _ _ c.self.invariant.legal)
 
 pub returns-clause-holds : goal.returns-clause-holds
 returns-clause-holds g c = λ unspoiled.
     let sound = ap (λ (h : Housed _). is_spoiled h.halt) c.self.view_is ∙ unspoiled in
-    holds_stands _ _ _ _ (c.self.invariant.stands sound) (c.self.invariant.holds sound)
+    rw c.from_vec-entries.ensures (holds_stands _ _ _ _ (c.self.invariant.stands sound) (c.self.invariant.holds sound))

@@ -1,20 +1,15 @@
-use Rattle.std.proofs.Common.{◌≡◌, Result, Ok, Err, IfOk, sym, ap, subst, ◌∙◌}
-use Rattle.xl_base.specs.Stable.{Stable}
-use Rattle.xl_base.specs.declared.halt.Halt.{Halt}
-use Rattle.xl_house.specs.Starts.{given_at_start}
-use Rattle.xl_house.proofs.house.House.start.Goals.{in-Some, in-None}
+use Rattle.std.proofs.Common.{◌∙◌, sym}
+use Rattle.xl_plan.specs.Keepers.{telling}
+use Rattle.xl_house.proofs.StartLaws.{of_ok, stored_from}
 use Rattle.xl_house.proofs.house.House.start.Goals as goal
+use Rattle.xl_house.proofs.house.House.start.Goals.{in-Some, in-None}
 
-not_both : (r : Result Stable Halt) (stable : Stable) (halt : Halt) → r ≡ Ok stable → r ≡ Err halt → ⊥
-not_both r stable halt ok err = let no : Ok stable ≡ Err halt = sym ok ∙ err in cc
-
-pub returns-in-Ok-clause-given : goal.returns-in-Ok-clause-given
-returns-in-Ok-clause-given g c =
-    rw c.begin.ensures
-    (elim c.match-fault.branch [
-      | in-Some w ↦ absurd (not_both _ _ _ c.in-Ok.is w.raised-is)
+pub returns-in-Ok-clause-stored : goal.returns-in-Ok-clause-stored
+returns-in-Ok-clause-stored g c =
+    rw c.begin.ensures (elim c.match-fault.branch [
+      | in-Some w ↦ (let clash = sym w.raised-is ∙ c.in-Ok.is in absurd cc)
       | in-None w ↦
-          ap (λ k. g.K.Keeper.given k) w.keeper-is
-          ∙ subst (λ (r : Result Stable Halt). IfOk r (λ stable. g.K.Keeper.given w.raise-raised.new.keeper ≡ given_at_start c.load-record.result.0 (g.K.Keeper.given c.load-record.new.keeper))) (sym w.raised-is ∙ c.in-Ok.is) w.raise-raised.ensures.given
-          ∙ ap (λ given. given_at_start c.load-record.result.0 given) c.load-record.ensures.given
+          rw w.keeper-is
+          (stored_from _ _ (telling g.K.Keeper.held g.K.Keeper.given g.K.Keeper.faults g.K.Keeper.left c.load-record.new.keeper) _ c.load-record.ensures.held c.load-record.ensures.given (c.load-record.ensures.still w.in-None.is) c.load-record.ensures.left
+          (of_ok _ w.raise-raised.result c.in-Ok.begun (sym w.raised-is ∙ c.in-Ok.is) w.raise-raised.ensures.stored))
     ])
