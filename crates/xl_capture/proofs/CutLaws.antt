@@ -9,9 +9,10 @@ use Rattle.xl_frame.specs.Cutting.{then_piece}
 use Rattle.xl_frame.specs.Frames.{Framed, frames}
 use Rattle.xl_frame.specs.declared.fault.FrameBad.{FrameBad}
 use Rattle.xl_frame.proofs.StreamLaws.{cut_anywhere}
-use Rattle.xl_capture.specs.Capture.{with_events, with_frames, with_stream, with_piece}
+use Rattle.xl_capture.specs.Capture.{steps_of, with_events, with_frames, with_stream, with_piece}
 use Rattle.xl_capture.specs.Links.{Link, link_of, without, framed, end_of, events_of, still_open}
 use Rattle.xl_capture.specs.declared.capture.Reading.{Reading}
+use Rattle.xl_capture.specs.declared.step.Step.{Step}
 
 some_link : (a b : Link) → Some a ≡ Some b → a ≡ b
 some_link a b e = cc
@@ -26,7 +27,7 @@ none_without conn (l ∷ ls) e =
     ]
 
 -- behind others without it stands a connection of the number
-link_behind : (conn : ℕ) (others : List Link) (l : Link) → link_of conn others ≡ None → l.conn ≡ conn → link_of conn (others ++ l ∷ []) ≡ Some l
+pub link_behind : (conn : ℕ) (others : List Link) (l : Link) → link_of conn others ≡ None → l.conn ≡ conn → link_of conn (others ++ l ∷ []) ≡ Some l
 link_behind conn [] l none is = rw (eq-eqb l.conn conn is) refl
 link_behind conn (o ∷ os) l none is =
     elim (cases_Bool (eqb o.conn conn)) [
@@ -54,13 +55,13 @@ found_conn conn (m ∷ ms) l e =
 abbrev cut_as : List (List ℕ) → List ℕ → Option FrameBad → Framed
 cut_as messages rest bad = record { frames = messages; rest = rest; bad = bad }
 
-abbrev reading_with : Reading → List Link → List Event → Reading
-reading_with r links events = record r { capture = record r.capture { events = events }; links = links; begun = true }
+abbrev reading_with : Reading → List Link → List Step → Reading
+reading_with r links steps = record r { capture = record r.capture { steps = steps }; links = links; begun = true }
 
 -- two event lines
-events_twice : (r : Reading) (events more : List Event) (links last : List Link) → with_events (with_events r events links) more last ≡ with_events r (events ++ more) last
-events_twice r events more links last =
-    ap (reading_with r last) (append_assoc r.capture.events events more)
+events_twice : (r : Reading) (n : ℕ) (events more : List Event) (links last : List Link) → with_events (with_events r n events links) n more last ≡ with_events r n (events ++ more) last
+events_twice r n events more links last =
+    ap (reading_with r last) (append_assoc r.capture.steps (steps_of n events) (steps_of n more) ∙ ap (λ (ss : List Step). r.capture.steps ++ ss) (sym (map-append (λ event. record { event = event; stores = n }) events more)))
 
 -- what messages and what stands behind them come to
 events_join : (conn : ℕ) (messages others : List (List ℕ)) (ends : List Event) → (map (Message conn) messages ++ []) ++ (map (Message conn) others ++ ends) ≡ map (Message conn) (messages ++ others) ++ ends
@@ -69,48 +70,48 @@ events_join conn messages others ends =
     ∙ sym (append_assoc (map (Message conn) messages) (map (Message conn) others) ends)
     ∙ ap (λ (es : List Event). es ++ ends) (sym (map-append (Message conn) messages others))
 
-more_frames : (r : Reading) (others : List Link) (l : Link) (messages : List (List ℕ)) (rest : List ℕ) (bad : Option FrameBad) (more : List ℕ) → link_of l.conn others ≡ None
-    → with_piece (with_frames r others l (cut_as messages rest bad)) l.conn more ≡ with_frames r others l (then_piece l.kind (cut_as messages rest bad) more)
+more_frames : (r : Reading) (n : ℕ) (others : List Link) (l : Link) (messages : List (List ℕ)) (rest : List ℕ) (bad : Option FrameBad) (more : List ℕ) → link_of l.conn others ≡ None
+    → with_piece (with_frames r n others l (cut_as messages rest bad)) n l.conn more ≡ with_frames r n others l (then_piece l.kind (cut_as messages rest bad) more)
 unfolding with_piece then_piece
-more_frames r others l messages rest None more none =
+more_frames r n others l messages rest None more none =
     let conn = l.conn in
     let cut : Link = record l { rest = rest } in
-    let r1 = with_frames r others l (cut_as messages rest None) in
+    let r1 = with_frames r n others l (cut_as messages rest None) in
     let f = frames l.kind (rest ++ more) in
-    ap (λ (o : Option Link). with_stream r1 (without conn (others ++ cut ∷ [])) o more) (link_behind conn others cut none refl)
-    ∙ ap (λ (ls : List Link). with_frames r1 ls cut f) (without_behind conn others cut none refl)
-    ∙ events_twice r (map (Message conn) messages ++ []) (events_of conn f) (others ++ cut ∷ []) (others ++ option_to_list (still_open l f))
-    ∙ ap (λ (es : List Event). with_events r es (others ++ option_to_list (still_open l f))) (events_join conn messages f.frames (end_of conn f.bad))
-more_frames r others l messages rest (Some fault) more none =
+    ap (λ (o : Option Link). with_stream r1 n (without conn (others ++ cut ∷ [])) o more) (link_behind conn others cut none refl)
+    ∙ ap (λ (ls : List Link). with_frames r1 n ls cut f) (without_behind conn others cut none refl)
+    ∙ events_twice r n (map (Message conn) messages ++ []) (events_of conn f) (others ++ cut ∷ []) (others ++ option_to_list (still_open l f))
+    ∙ ap (λ (es : List Event). with_events r n es (others ++ option_to_list (still_open l f))) (events_join conn messages f.frames (end_of conn f.bad))
+more_frames r n others l messages rest (Some fault) more none =
     let conn = l.conn in
-    let r1 = with_frames r others l (cut_as messages rest (Some fault)) in
+    let r1 = with_frames r n others l (cut_as messages rest (Some fault)) in
     let all : List Event = map (Message conn) messages ++ End conn ∷ [] in
-    ap (λ (ls : List Link). with_stream r1 (without conn ls) (link_of conn ls) more) (append-nil others)
-    ∙ ap (λ (o : Option Link). with_stream r1 (without conn others) o more) none
-    ∙ ap (λ (ls : List Link). with_events r1 [] ls) (none_without conn others none ∙ sym (append-nil others))
-    ∙ events_twice r all [] (others ++ []) (others ++ [])
-    ∙ ap (λ (es : List Event). with_events r es (others ++ [])) (append-nil all)
+    ap (λ (ls : List Link). with_stream r1 n (without conn ls) (link_of conn ls) more) (append-nil others)
+    ∙ ap (λ (o : Option Link). with_stream r1 n (without conn others) o more) none
+    ∙ ap (λ (ls : List Link). with_events r1 n [] ls) (none_without conn others none ∙ sym (append-nil others))
+    ∙ events_twice r n all [] (others ++ []) (others ++ [])
+    ∙ ap (λ (es : List Event). with_events r n es (others ++ [])) (append-nil all)
 
-stream_joins : (r : Reading) (others : List Link) (o : Option Link) (conn : ℕ) (bytes more : List ℕ) → link_of conn others ≡ None → IfSome o (λ l. l.conn ≡ conn)
-    → with_piece (with_stream r others o bytes) conn more ≡ with_stream r others o (bytes ++ more)
+stream_joins : (r : Reading) (n : ℕ) (others : List Link) (o : Option Link) (conn : ℕ) (bytes more : List ℕ) → link_of conn others ≡ None → IfSome o (λ l. l.conn ≡ conn)
+    → with_piece (with_stream r n others o bytes) n conn more ≡ with_stream r n others o (bytes ++ more)
 unfolding with_piece
-stream_joins r others None conn bytes more none is =
-    ap (λ (o : Option Link). with_stream (with_events r [] others) (without conn others) o more) none
-    ∙ events_twice r [] [] others (without conn others)
-    ∙ ap (λ (ls : List Link). with_events r [] ls) (none_without conn others none)
-stream_joins r others (Some l) conn bytes more none is =
+stream_joins r n others None conn bytes more none is =
+    ap (λ (o : Option Link). with_stream (with_events r n [] others) n (without conn others) o more) none
+    ∙ events_twice r n [] [] others (without conn others)
+    ∙ ap (λ (ls : List Link). with_events r n [] ls) (none_without conn others none)
+stream_joins r n others (Some l) conn bytes more none is =
     let f = framed l bytes in
     let here : link_of l.conn others ≡ None = ap (λ (n : ℕ). link_of n others) is ∙ none in
     let joined : then_piece l.kind f more ≡ framed l (bytes ++ more) = sym (cut_anywhere l.kind (l.rest ++ bytes) more) ∙ ap (frames l.kind) (append_assoc l.rest bytes more) in
-    ap (λ (n : ℕ). with_piece (with_frames r others l f) n more) (sym is)
-    ∙ more_frames r others l f.frames f.rest f.bad more here
-    ∙ ap (with_frames r others l) joined
+    ap (λ (c : ℕ). with_piece (with_frames r n others l f) n c more) (sym is)
+    ∙ more_frames r n others l f.frames f.rest f.bad more here
+    ∙ ap (with_frames r n others l) joined
 
 found : (conn : ℕ) (ls : List Link) (o : Option Link) → link_of conn ls ≡ o → IfSome o (λ l. l.conn ≡ conn)
 found conn ls None e = tt
 found conn ls (Some l) e = found_conn conn ls l e
 
 -- two pieces of a connection's stream come to the same as both at once
-pub pieces_join : (r : Reading) (conn : ℕ) (bytes more : List ℕ) → link_of conn (without conn r.links) ≡ None → with_piece (with_piece r conn bytes) conn more ≡ with_piece r conn (bytes ++ more)
+pub pieces_join : (r : Reading) (n conn : ℕ) (bytes more : List ℕ) → link_of conn (without conn r.links) ≡ None → with_piece (with_piece r n conn bytes) n conn more ≡ with_piece r n conn (bytes ++ more)
 unfolding with_piece
-pieces_join r conn bytes more none = stream_joins r (without conn r.links) (link_of conn r.links) conn bytes more none (found conn r.links (link_of conn r.links) refl)
+pieces_join r n conn bytes more none = stream_joins r n (without conn r.links) (link_of conn r.links) conn bytes more none (found conn r.links (link_of conn r.links) refl)

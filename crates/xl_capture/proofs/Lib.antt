@@ -1,8 +1,11 @@
 pub mod AddressLaws
 pub mod CutLaws
 pub mod EndLaws
+pub mod EntryLaws
+pub mod HeadLaws
 pub mod LineLaws
 pub mod NumberLaws
-pub mod PlainLaws
 pub mod ShowLaws
 pub mod SortLaws
+pub mod WordLaws
+pub mod WrittenLaws

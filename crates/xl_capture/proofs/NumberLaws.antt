@@ -6,10 +6,12 @@ use Rattle.std.proofs.lemmas.Bool.{cases_Bool, eqb-true, eqb-false, ne_eqb}
 use Rattle.std.proofs.lemmas.List.{append-nil, length-append}
 use Rattle.xl_base.proofs.Members.{all_append, all_weaker}
 use Rattle.xl_base.specs.declared.event.Event.{Event}
-use Rattle.xl_base.specs.declared.event.Event.TheVariants.{Open, End, Called, Tick}
+use Rattle.xl_base.specs.declared.event.Event.TheVariants.{Open, End, Called, Tick, Restart}
 use Rattle.xl_base.specs.declared.event.Kind.{Kind}
+use Rattle.xl_base.specs.declared.name.Protocol.{Protocol}
+use Rattle.xl_base.specs.declared.stable.Recorded.{Recorded}
 use Rattle.xl_frame.specs.Frames.{Framed}
-use Rattle.xl_capture.specs.Capture.{IsNumbered, words_of, bytes_of, takes_file, with_name, with_file, takes_address, with_caller, with_address, with_host, with_events, kind_of, most_connections, with_link, with_opened, with_open, with_stream, with_piece, with_bytes, with_last, with_ended, with_end, with_called, with_reply, with_no_reply, time_of, with_times, with_lasting, with_tick, with_words, is_passed_over, with_line, is_last, with_lines}
+use Rattle.xl_capture.specs.Capture.{IsNumbered, words_of, bytes_of, takes_file, with_name, with_file, takes_address, with_caller, with_address, with_host, time_of, with_times, with_lasting, epoch_of, with_count, with_epoch, protocol_of, takes_client, with_recorded, with_client, with_named, all_stores, steps_of, with_events, kind_of, most_connections, with_link, with_opened, with_open, with_stream, with_piece, with_bytes, with_last, with_ended, with_end, with_called, with_reply, with_no_reply, with_tick, with_restart, with_event, said_stores, all_but_last, with_entries, with_words, is_passed_over, with_line, is_last, with_lines}
 use Rattle.xl_capture.specs.Links.{Link, opened, link_of, without, framed, events_of, still_open, AreDistinct, AreBelow}
 use Rattle.xl_capture.specs.Numbers.{number_of}
 use Rattle.xl_capture.specs.declared.capture.Reading.{Reading}
@@ -40,7 +42,7 @@ below_found n conn (m ∷ ms) l all e =
     ]
 
 -- the place of the next event is no connection's number
-next_is_new : (n : ℕ) (ls : List Link) → AreBelow n ls → link_of n ls ≡ None
+pub next_is_new : (n : ℕ) (ls : List Link) → AreBelow n ls → link_of n ls ≡ None
 next_is_new n [] all = refl
 next_is_new n (l ∷ ls) all =
     let other : eqb l.conn n ≡ false = ne_eqb l.conn n (λ e. absurd (omega (arith, e, all.0))) in
@@ -97,9 +99,9 @@ distinct_append (m ∷ ms) l all e =
 
 -- ---- lines
 
-events_numbered : (r : Reading) (events : List Event) (links : List Link) → AreBelow (length r.capture.events) links → AreDistinct links → IsNumbered (with_events r events links)
-events_numbered r events links below distinct = record {
-  places = all_weaker (λ l. l.conn < length r.capture.events) (λ l. l.conn < length (r.capture.events ++ events)) links (λ l less. omega (arith, less, length-append r.capture.events events)) below;
+pub events_numbered : (r : Reading) (stores : ℕ) (events : List Event) (links : List Link) → AreBelow (length r.capture.steps) links → AreDistinct links → IsNumbered (with_events r stores events links)
+events_numbered r stores events links below distinct = record {
+  places = all_weaker (λ l. l.conn < length r.capture.steps) (λ l. l.conn < length (r.capture.steps ++ steps_of stores events)) links (λ l less. omega (arith, less, length-append r.capture.steps (steps_of stores events))) below;
   distinct = distinct;
 }
 
@@ -111,12 +113,12 @@ link_distinct : (test : Bool) (n : ℕ) (kind : Kind) (ls : List Link) → AreBe
 link_distinct true n kind ls all distinct = distinct_append ls (opened n kind) distinct (next_is_new n ls all)
 link_distinct false n kind ls all distinct = distinct
 
-opened_numbered : (r : Reading) (kind : Kind) → IsNumbered r → IsNumbered (with_opened r kind)
+pub opened_numbered : (r : Reading) (stores : ℕ) (kind : Kind) → IsNumbered r → IsNumbered (with_opened r stores kind)
 unfolding with_opened
-opened_numbered r kind is =
-    let n = length r.capture.events in
+opened_numbered r stores kind is =
+    let n = length r.capture.steps in
     record {
-      places = subst (λ (m : ℕ). AreBelow m (with_link r.links n kind)) (sym (length-append r.capture.events (Open kind ∷ []))) (link_below (ltb (length r.links) most_connections) n kind r.links is.places);
+      places = subst (λ (m : ℕ). AreBelow m (with_link r.links n kind)) (sym (length-append r.capture.steps (steps_of stores (Open kind ∷ [])))) (link_below (ltb (length r.links) most_connections) n kind r.links is.places);
       distinct = link_distinct (ltb (length r.links) most_connections) n kind r.links is.places is.distinct;
     }
 
@@ -128,29 +130,29 @@ kept_distinct : (l : Link) (f : Framed) (test : Bool) (others : List Link) → A
 kept_distinct l f true others all none = distinct_append others (record l { rest = f.rest }) all none
 kept_distinct l f false others all none = subst AreDistinct (sym (append-nil others)) all
 
-stream_numbered : (r : Reading) (others : List Link) (o : Option Link) (bytes : List ℕ) → AreBelow (length r.capture.events) others → AreDistinct others → IfSome o (λ l. (l.conn < length r.capture.events) × (link_of l.conn others ≡ None)) → IsNumbered (with_stream r others o bytes)
-stream_numbered r others None bytes below distinct is = events_numbered r [] others below distinct
-stream_numbered r others (Some l) bytes below distinct is =
+stream_numbered : (r : Reading) (stores : ℕ) (others : List Link) (o : Option Link) (bytes : List ℕ) → AreBelow (length r.capture.steps) others → AreDistinct others → IfSome o (λ l. (l.conn < length r.capture.steps) × (link_of l.conn others ≡ None)) → IsNumbered (with_stream r stores others o bytes)
+stream_numbered r stores others None bytes below distinct is = events_numbered r stores [] others below distinct
+stream_numbered r stores others (Some l) bytes below distinct is =
     let f = framed l bytes in
-    events_numbered r (events_of l.conn f) (others ++ option_to_list (still_open l f)) (kept_below (length r.capture.events) l f (is_none f.bad) others below is.0) (kept_distinct l f (is_none f.bad) others distinct is.1)
+    events_numbered r stores (events_of l.conn f) (others ++ option_to_list (still_open l f)) (kept_below (length r.capture.steps) l f (is_none f.bad) others below is.0) (kept_distinct l f (is_none f.bad) others distinct is.1)
 
 found_new : (n conn : ℕ) (ls : List Link) (o : Option Link) → AreBelow n ls → AreDistinct ls → link_of conn ls ≡ o → IfSome o (λ l. (l.conn < n) × (link_of l.conn (without conn ls) ≡ None))
 found_new n conn ls None below distinct e = tt
 found_new n conn ls (Some l) below distinct e = (below_found n conn ls l below e, ap (λ (m : ℕ). link_of m (without conn ls)) (found_conn conn ls l e) ∙ none_left conn ls distinct)
 
-piece_numbered : (r : Reading) (conn : ℕ) (bytes : List ℕ) → IsNumbered r → IsNumbered (with_piece r conn bytes)
+pub piece_numbered : (r : Reading) (stores conn : ℕ) (bytes : List ℕ) → IsNumbered r → IsNumbered (with_piece r stores conn bytes)
 unfolding with_piece
-piece_numbered r conn bytes is =
-    let n = length r.capture.events in
-    stream_numbered r (without conn r.links) (link_of conn r.links) bytes (below_without n conn r.links is.places) (distinct_without conn r.links is.distinct) (found_new n conn r.links (link_of conn r.links) is.places is.distinct refl)
+piece_numbered r stores conn bytes is =
+    let n = length r.capture.steps in
+    stream_numbered r stores (without conn r.links) (link_of conn r.links) bytes (below_without n conn r.links is.places) (distinct_without conn r.links is.distinct) (found_new n conn r.links (link_of conn r.links) is.places is.distinct refl)
 
-last_numbered : (r : Reading) (others : List Link) (o : Option Link) → AreBelow (length r.capture.events) others → AreDistinct others → IsNumbered (with_last r others o)
-last_numbered r others None below distinct = events_numbered r [] others below distinct
-last_numbered r others (Some l) below distinct = events_numbered r (End l.conn ∷ []) others below distinct
+last_numbered : (r : Reading) (stores : ℕ) (others : List Link) (o : Option Link) → AreBelow (length r.capture.steps) others → AreDistinct others → IsNumbered (with_last r stores others o)
+last_numbered r stores others None below distinct = events_numbered r stores [] others below distinct
+last_numbered r stores others (Some l) below distinct = events_numbered r stores (End l.conn ∷ []) others below distinct
 
-ended_numbered : (r : Reading) (conn : ℕ) → IsNumbered r → IsNumbered (with_ended r conn)
+pub ended_numbered : (r : Reading) (stores conn : ℕ) → IsNumbered r → IsNumbered (with_ended r stores conn)
 unfolding with_ended
-ended_numbered r conn is = last_numbered r (without conn r.links) (link_of conn r.links) (below_without (length r.capture.events) conn r.links is.places) (distinct_without conn r.links is.distinct)
+ended_numbered r stores conn is = last_numbered r stores (without conn r.links) (link_of conn r.links) (below_without (length r.capture.steps) conn r.links is.places) (distinct_without conn r.links is.distinct)
 
 -- what a line makes
 abbrev IsNumberedIf : Option Reading → Type 0
@@ -191,52 +193,89 @@ lasting_numbered r lease grace break_time is =
     (λ a. then_numbered (λ b. option_and_then (λ c. with_times r a b c) (time_of break_time)) (time_of grace)
     (λ b. then_numbered (λ c. with_times r a b c) (time_of break_time) (λ c. times_numbered r a b c is)))
 
-open_numbered : (r : Reading) (word : List ℕ) → IsNumbered r → IsNumberedIf (with_open r word)
+count_numbered : (r : Reading) (epoch : ℕ) → IsNumbered r → IsNumberedIf (with_count r epoch)
+count_numbered r epoch is = either_numbered (r.begun || r.counted) None _ tt (record { places = is.places; distinct = is.distinct })
+
+epoch_numbered : (r : Reading) (word : List ℕ) → IsNumbered r → IsNumberedIf (with_epoch r word)
+unfolding with_epoch
+epoch_numbered r word is = then_numbered (λ epoch. with_count r epoch) (epoch_of word) (λ epoch. count_numbered r epoch is)
+
+client_numbered : (r : Reading) (protocol : Protocol) (name : List ℕ) → IsNumbered r → IsNumberedIf (with_client r protocol name)
+unfolding with_client
+client_numbered r protocol name is =
+    let client : Recorded = record { protocol = protocol; name = name } in
+    either_numbered (takes_client r client) (Some (with_recorded r client)) None (record { places = is.places; distinct = is.distinct }) tt
+
+named_numbered : (r : Reading) (word hex : List ℕ) → IsNumbered r → IsNumberedIf (with_named r word hex)
+unfolding with_named
+named_numbered r word hex is = then_numbered (λ protocol. option_and_then (λ name. with_client r protocol name) (bytes_of hex)) (protocol_of word)
+    (λ protocol. then_numbered (λ name. with_client r protocol name) (bytes_of hex) (λ name. client_numbered r protocol name is))
+
+open_numbered : (r : Reading) (stores : ℕ) (word : List ℕ) → IsNumbered r → IsNumberedIf (with_open r stores word)
 unfolding with_open
-open_numbered r word is = map_numbered (λ kind. with_opened r kind) (kind_of word) (λ kind. opened_numbered r kind is)
+open_numbered r stores word is = map_numbered (λ kind. with_opened r stores kind) (kind_of word) (λ kind. opened_numbered r stores kind is)
 
-bytes_numbered : (r : Reading) (conn hex : List ℕ) → IsNumbered r → IsNumberedIf (with_bytes r conn hex)
+bytes_numbered : (r : Reading) (stores : ℕ) (conn hex : List ℕ) → IsNumbered r → IsNumberedIf (with_bytes r stores conn hex)
 unfolding with_bytes
-bytes_numbered r conn hex is = then_numbered (λ n. option_map (λ bytes. with_piece r n bytes) (bytes_of hex)) (number_of conn)
-    (λ n. map_numbered (λ bytes. with_piece r n bytes) (bytes_of hex) (λ bytes. piece_numbered r n bytes is))
+bytes_numbered r stores conn hex is = then_numbered (λ n. option_map (λ bytes. with_piece r stores n bytes) (bytes_of hex)) (number_of conn)
+    (λ n. map_numbered (λ bytes. with_piece r stores n bytes) (bytes_of hex) (λ bytes. piece_numbered r stores n bytes is))
 
-end_numbered : (r : Reading) (conn : List ℕ) → IsNumbered r → IsNumberedIf (with_end r conn)
+end_numbered : (r : Reading) (stores : ℕ) (conn : List ℕ) → IsNumbered r → IsNumberedIf (with_end r stores conn)
 unfolding with_end
-end_numbered r conn is = map_numbered (λ n. with_ended r n) (number_of conn) (λ n. ended_numbered r n is)
+end_numbered r stores conn is = map_numbered (λ n. with_ended r stores n) (number_of conn) (λ n. ended_numbered r stores n is)
 
-called_numbered : (r : Reading) (call : ℕ) (reply : Option (List ℕ)) → IsNumbered r → IsNumbered (with_called r call reply)
+called_numbered : (r : Reading) (stores call : ℕ) (reply : Option (List ℕ)) → IsNumbered r → IsNumbered (with_called r stores call reply)
 unfolding with_called
-called_numbered r call reply is = events_numbered r (Called call reply ∷ []) r.links is.places is.distinct
+called_numbered r stores call reply is = events_numbered r stores (Called call reply ∷ []) r.links is.places is.distinct
 
-reply_numbered : (r : Reading) (call hex : List ℕ) → IsNumbered r → IsNumberedIf (with_reply r call hex)
+reply_numbered : (r : Reading) (stores : ℕ) (call hex : List ℕ) → IsNumbered r → IsNumberedIf (with_reply r stores call hex)
 unfolding with_reply
-reply_numbered r call hex is = then_numbered (λ n. option_map (λ bytes. with_called r n (Some bytes)) (bytes_of hex)) (number_of call)
-    (λ n. map_numbered (λ bytes. with_called r n (Some bytes)) (bytes_of hex) (λ bytes. called_numbered r n (Some bytes) is))
+reply_numbered r stores call hex is = then_numbered (λ n. option_map (λ bytes. with_called r stores n (Some bytes)) (bytes_of hex)) (number_of call)
+    (λ n. map_numbered (λ bytes. with_called r stores n (Some bytes)) (bytes_of hex) (λ bytes. called_numbered r stores n (Some bytes) is))
 
-no_reply_numbered : (r : Reading) (call : List ℕ) → IsNumbered r → IsNumberedIf (with_no_reply r call)
+no_reply_numbered : (r : Reading) (stores : ℕ) (call : List ℕ) → IsNumbered r → IsNumberedIf (with_no_reply r stores call)
 unfolding with_no_reply
-no_reply_numbered r call is = map_numbered (λ n. with_called r n None) (number_of call) (λ n. called_numbered r n None is)
+no_reply_numbered r stores call is = map_numbered (λ n. with_called r stores n None) (number_of call) (λ n. called_numbered r stores n None is)
 
-tick_numbered : (r : Reading) (moment : List ℕ) → IsNumbered r → IsNumberedIf (with_tick r moment)
+tick_numbered : (r : Reading) (stores : ℕ) (moment : List ℕ) → IsNumbered r → IsNumberedIf (with_tick r stores moment)
 unfolding with_tick
-tick_numbered r moment is = map_numbered (λ n. with_events r (Tick (record { 0 = n }) ∷ []) r.links) (number_of moment) (λ n. events_numbered r (Tick (record { 0 = n }) ∷ []) r.links is.places is.distinct)
+tick_numbered r stores moment is = map_numbered (λ n. with_events r stores (Tick (record { 0 = n }) ∷ []) r.links) (number_of moment) (λ n. events_numbered r stores (Tick (record { 0 = n }) ∷ []) r.links is.places is.distinct)
+
+event_numbered : (r : Reading) (stores : ℕ) (words : List (List ℕ)) → IsNumbered r → IsNumberedIf (with_event r stores words)
+unfolding with_event
+event_numbered r stores [] is = tt
+event_numbered r stores (a ∷ []) is =
+    either_numbered (bytes_eq a (codes "R")) (Some (with_restart r stores)) None (events_numbered r stores (Restart ∷ []) [] tt tt) tt
+event_numbered r stores (a ∷ b ∷ []) is =
+    either_numbered (bytes_eq a (codes "O")) (with_open r stores b) _ (open_numbered r stores b is)
+    (either_numbered (bytes_eq a (codes "E")) (with_end r stores b) _ (end_numbered r stores b is)
+    (either_numbered (bytes_eq a (codes "C")) (with_no_reply r stores b) _ (no_reply_numbered r stores b is)
+    (either_numbered (bytes_eq a (codes "T")) (with_tick r stores b) None (tick_numbered r stores b is) tt)))
+event_numbered r stores (a ∷ b ∷ d ∷ []) is =
+    either_numbered (bytes_eq a (codes "B")) (with_bytes r stores b d) _ (bytes_numbered r stores b d is)
+    (either_numbered (bytes_eq a (codes "C")) (with_reply r stores b d) None (reply_numbered r stores b d is) tt)
+event_numbered r stores (a ∷ b ∷ d ∷ e ∷ more) is = tt
+
+entries_numbered : (r : Reading) (words : List (List ℕ)) (said : Option ℕ) → IsNumbered r → IsNumberedIf (with_entries r words said)
+entries_numbered r words None is = event_numbered r all_stores words is
+entries_numbered r words (Some stores) is = event_numbered r stores (all_but_last words) is
 
 words_numbered : (r : Reading) (words : List (List ℕ)) → IsNumbered r → IsNumberedIf (with_words r words)
 unfolding with_words
-words_numbered r [] is = tt
-words_numbered r (a ∷ []) is = tt
+words_numbered r [] is = entries_numbered r [] (said_stores []) is
+words_numbered r (a ∷ []) is = entries_numbered r (a ∷ []) (said_stores (a ∷ [])) is
 words_numbered r (a ∷ b ∷ []) is =
+    let words : List (List ℕ) = a ∷ b ∷ [] in
     either_numbered (bytes_eq a (codes "F")) (with_file r b) _ (file_numbered r b is)
-    (either_numbered (bytes_eq a (codes "O")) (with_open r b) _ (open_numbered r b is)
-    (either_numbered (bytes_eq a (codes "E")) (with_end r b) _ (end_numbered r b is)
-    (either_numbered (bytes_eq a (codes "C")) (with_no_reply r b) _ (no_reply_numbered r b is)
-    (either_numbered (bytes_eq a (codes "T")) (with_tick r b) None (tick_numbered r b is) tt))))
+    (either_numbered (bytes_eq a (codes "K")) (with_epoch r b) _ (epoch_numbered r b is) (entries_numbered r words (said_stores words) is))
 words_numbered r (a ∷ b ∷ d ∷ []) is =
-    either_numbered (bytes_eq a (codes "B")) (with_bytes r b d) _ (bytes_numbered r b d is)
-    (either_numbered (bytes_eq a (codes "H")) (with_host r b d) _ (host_numbered r b d is)
-    (either_numbered (bytes_eq a (codes "C")) (with_reply r b d) None (reply_numbered r b d is) tt))
-words_numbered r (a ∷ b ∷ d ∷ e ∷ []) is = either_numbered (bytes_eq a (codes "L")) (with_lasting r b d e) None (lasting_numbered r b d e is) tt
-words_numbered r (a ∷ b ∷ d ∷ e ∷ f ∷ more) is = tt
+    let words : List (List ℕ) = a ∷ b ∷ d ∷ [] in
+    either_numbered (bytes_eq a (codes "H")) (with_host r b d) _ (host_numbered r b d is)
+    (either_numbered (bytes_eq a (codes "N")) (with_named r b d) _ (named_numbered r b d is) (entries_numbered r words (said_stores words) is))
+words_numbered r (a ∷ b ∷ d ∷ e ∷ []) is =
+    let words : List (List ℕ) = a ∷ b ∷ d ∷ e ∷ [] in
+    either_numbered (bytes_eq a (codes "L")) (with_lasting r b d e) _ (lasting_numbered r b d e is) (entries_numbered r words (said_stores words) is)
+words_numbered r (a ∷ b ∷ d ∷ e ∷ f ∷ more) is = entries_numbered r (a ∷ b ∷ d ∷ e ∷ f ∷ more) (said_stores (a ∷ b ∷ d ∷ e ∷ f ∷ more)) is
 
 line_numbered : (r : Reading) (line : List ℕ) → IsNumbered r → IsNumberedIf (with_line r line)
 unfolding with_line

@@ -1,14 +1,18 @@
 -- The text of a capture.
-use Rattle.std.specs.Prelude.{◌≡◌, ℕ, ◌+◌, Bool, true, false, not, ◌==◌, ◌&&◌, ◌||◌, nat_le, nat_lt, if◌then◌else◌, List, [], ◌∷◌, ◌++◌, length, take, codes, bytes_eq, Option, Some, None, Result, Ok, Err}
-use Rattle.std.specs.List.{slice_split, list_all, list_any}
+use Rattle.std.specs.Prelude.{◌≡◌, ℕ, ◌+◌, ◌-◌, ◌^◌, Bool, true, false, not, ◌==◌, ◌&&◌, ◌||◌, nat_le, nat_lt, if◌then◌else◌, List, [], ◌∷◌, ◌++◌, length, take, map, codes, bytes_eq, Option, Some, None, Result, Ok, Err}
+use Rattle.std.specs.List.{slice_split, list_all, list_any, last_or}
 use Rattle.std.specs.Option.{option_map, option_map_or, option_and_then, option_to_list}
 use Rattle.std.specs.Result.{result_ok}
 use Rattle.hex.specs.Hex.{decode_of}
 pub use Rattle.xl_base.specs.Limits.{most_connections}
 use Rattle.xl_base.specs.declared.event.Event.{Event}
-use Rattle.xl_base.specs.declared.event.Event.TheVariants.{Open, End, Called, Tick}
+use Rattle.xl_base.specs.declared.event.Event.TheVariants.{Open, End, Called, Tick, Restart}
 use Rattle.xl_base.specs.declared.event.Kind.{Kind}
 use Rattle.xl_base.specs.declared.event.Kind.TheVariants.{Rpc, Smb}
+use Rattle.xl_base.specs.declared.name.Protocol.{Protocol}
+use Rattle.xl_base.specs.declared.name.Protocol.TheVariants as protocols
+use Rattle.xl_base.specs.declared.stable.Recorded.{Recorded}
+use Rattle.xl_base.specs.Stable.{Stable, is_recorded}
 use Rattle.xl_frame.specs.Frames.{Framed}
 use Rattle.xl_capture.specs.Addresses.{has_address}
 use Rattle.xl_capture.specs.Links.{Link, opened, link_of, without, framed, events_of, still_open, AreDistinct, AreBelow}
@@ -19,6 +23,7 @@ use Rattle.xl_capture.specs.declared.capture.CaptureError.{CaptureError}
 use Rattle.xl_capture.specs.declared.capture.CaptureError.TheVariants as errors
 use Rattle.xl_capture.specs.declared.capture.LineError.{LineError}
 use Rattle.xl_capture.specs.declared.capture.LineError.TheVariants as line
+use Rattle.xl_capture.specs.declared.step.Step.{Step}
 
 -- what stands behind the last line end is a line if there is anything
 abbrev pub last_line : List ℕ → List (List ℕ)
@@ -92,16 +97,27 @@ default_break = 35000
 abbrev pub longest_time : ℕ
 longest_time = 4000000000
 
--- what is known if nothing is read: no file, no address, the default times, no event, nothing open
+-- as many stores as no step makes; and the most that a line may say
+abbrev pub all_stores : ℕ
+all_stores = 2 ^ 64 - 1
+
+abbrev pub most_stores : ℕ
+most_stores = 9999
+
+-- the record of a server that never started
+abbrev pub no_record : Stable
+no_record = record { epoch = 0; names = [] }
+
+-- what is known if nothing is read: no file, no address, the default times, no record, no event, nothing open
 abbrev pub no_lines : Capture
-no_lines = record { files = []; addresses = []; lease = default_lease; grace = default_grace; break_time = default_break; events = [] }
+no_lines = record { files = []; addresses = []; lease = default_lease; grace = default_grace; break_time = default_break; stable = no_record; steps = [] }
 
 abbrev pub no_reading : Reading
-no_reading = record { capture = no_lines; links = []; timed = false; begun = false }
+no_reading = record { capture = no_lines; links = []; timed = false; counted = false; begun = false }
 
 -- the open connections have distinct numbers, each the place of an event
 pub record IsNumbered (r : Reading) : Type 0 where
-  pub places : AreBelow (length r.capture.events) r.links
+  pub places : AreBelow (length r.capture.steps) r.links
   pub distinct : AreDistinct r.links
 
 -- a file with this name may be added: no event line stands before it
@@ -148,9 +164,50 @@ unfoldable pub with_lasting : Reading → List ℕ → List ℕ → List ℕ →
 with_lasting r lease grace break_time =
     option_and_then (λ a. option_and_then (λ b. option_and_then (λ c. with_times r a b c) (time_of break_time)) (time_of grace)) (time_of lease)
 
--- with an event line that makes these events, or none, and leaves these connections open: no header line may follow (TEXT-4)
-abbrev pub with_events : Reading → List Event → List Link → Reading
-with_events r events links = record r { capture = record r.capture { events = r.capture.events ++ events }; links = links; begun = true }
+-- an epoch: a number below 2 ^ 32
+abbrev pub epoch_of : List ℕ → Option ℕ
+epoch_of word = option_and_then (λ n. if nat_lt n (2 ^ 32) then Some n else None) (number_of word)
+
+-- with this epoch, if no event line stands before it, and no epoch
+abbrev pub with_count : Reading → ℕ → Option Reading
+with_count r epoch =
+    if r.begun || r.counted then None
+    else Some (record r { capture = record r.capture { stable = record r.capture.stable { epoch = epoch } }; counted = true })
+
+-- with a line `K EPOCH`
+unfoldable pub with_epoch : Reading → List ℕ → Option Reading
+with_epoch r word = option_and_then (λ epoch. with_count r epoch) (epoch_of word)
+
+-- whose clients are recorded by this word: those of NFSv4, or of NLM
+abbrev pub protocol_of : List ℕ → Option Protocol
+protocol_of word = if bytes_eq word (codes "nfs") then Some protocols.Nfs else if bytes_eq word (codes "nlm") then Some protocols.Nlm else None
+
+-- this client may be recorded: no event line stands before it, and it isn't recorded yet; its name may be any, and the
+-- record of any length (TEXT-5)
+abbrev pub takes_client : Reading → Recorded → Bool
+takes_client r client = not r.begun && not (is_recorded client r.capture.stable.names)
+
+-- with a recorded client more
+abbrev pub with_recorded : Reading → Recorded → Reading
+with_recorded r client = record r { capture = record r.capture { stable = record r.capture.stable { names = r.capture.stable.names ++ client ∷ [] } } }
+
+-- with the client of this name
+unfoldable pub with_client : Reading → Protocol → List ℕ → Option Reading
+with_client r protocol name =
+    if takes_client r (record { protocol = protocol; name = name }) then Some (with_recorded r (record { protocol = protocol; name = name })) else None
+
+-- with a line `N PROTOCOL HEX`
+unfoldable pub with_named : Reading → List ℕ → List ℕ → Option Reading
+with_named r word hex = option_and_then (λ protocol. option_and_then (λ name. with_client r protocol name) (bytes_of hex)) (protocol_of word)
+
+-- these events, in each of which so many stores succeed
+abbrev pub steps_of : ℕ → List Event → List Step
+steps_of stores events = map (λ event. record { event = event; stores = stores }) events
+
+-- With an event line that makes these events, or none, in each of which so many stores succeed, and leaves these connections
+-- open: no header line may follow (TEXT-4).
+abbrev pub with_events : Reading → ℕ → List Event → List Link → Reading
+with_events r stores events links = record r { capture = record r.capture { steps = r.capture.steps ++ steps_of stores events }; links = links; begun = true }
 
 -- what a connection of this word speaks: ONC RPC, or SMB
 abbrev pub kind_of : List ℕ → Option Kind
@@ -161,75 +218,116 @@ abbrev pub with_link : List Link → ℕ → Kind → List Link
 with_link links place kind = if nat_lt (length links) most_connections then links ++ opened place kind ∷ [] else links
 
 -- with the opening of a connection of this kind, which is an event also if none is opened (TEXT-9)
-unfoldable pub with_opened : Reading → Kind → Reading
-with_opened r kind = with_events r (Open kind ∷ []) (with_link r.links (length r.capture.events) kind)
+unfoldable pub with_opened : Reading → ℕ → Kind → Reading
+with_opened r stores kind = with_events r stores (Open kind ∷ []) (with_link r.links (length r.capture.steps) kind)
 
 -- with a line `O KIND`
-unfoldable pub with_open : Reading → List ℕ → Option Reading
-with_open r word = option_map (λ kind. with_opened r kind) (kind_of word)
+unfoldable pub with_open : Reading → ℕ → List ℕ → Option Reading
+with_open r stores word = option_map (λ kind. with_opened r stores kind) (kind_of word)
 
 -- with frames of a connection's stream; others are the open connections beside it, and it stands behind them
-abbrev pub with_frames : Reading → List Link → Link → Framed → Reading
-with_frames r others l f = with_events r (events_of l.conn f) (others ++ option_to_list (still_open l f))
+abbrev pub with_frames : Reading → ℕ → List Link → Link → Framed → Reading
+with_frames r stores others l f = with_events r stores (events_of l.conn f) (others ++ option_to_list (still_open l f))
 
 -- with bytes of a connection's stream, if it is open, and else without an event (TEXT-10)
-abbrev pub with_stream : Reading → List Link → Option Link → List ℕ → Reading
-with_stream r others None bytes = with_events r [] others
-with_stream r others (Some l) bytes = with_frames r others l (framed l bytes)
+abbrev pub with_stream : Reading → ℕ → List Link → Option Link → List ℕ → Reading
+with_stream r stores others None bytes = with_events r stores [] others
+with_stream r stores others (Some l) bytes = with_frames r stores others l (framed l bytes)
 
 -- with bytes that come by the connection of this number; nothing happens if it isn't open
-unfoldable pub with_piece : Reading → ℕ → List ℕ → Reading
-with_piece r conn bytes = with_stream r (without conn r.links) (link_of conn r.links) bytes
+unfoldable pub with_piece : Reading → ℕ → ℕ → List ℕ → Reading
+with_piece r stores conn bytes = with_stream r stores (without conn r.links) (link_of conn r.links) bytes
 
 -- with a line `B CONN HEX`
-unfoldable pub with_bytes : Reading → List ℕ → List ℕ → Option Reading
-with_bytes r conn hex = option_and_then (λ n. option_map (λ bytes. with_piece r n bytes) (bytes_of hex)) (number_of conn)
+unfoldable pub with_bytes : Reading → ℕ → List ℕ → List ℕ → Option Reading
+with_bytes r stores conn hex = option_and_then (λ n. option_map (λ bytes. with_piece r stores n bytes) (bytes_of hex)) (number_of conn)
 
 -- with the end of a connection, if it is open, and else without an event (TEXT-10)
-abbrev pub with_last : Reading → List Link → Option Link → Reading
-with_last r others None = with_events r [] others
-with_last r others (Some l) = with_events r (End l.conn ∷ []) others
+abbrev pub with_last : Reading → ℕ → List Link → Option Link → Reading
+with_last r stores others None = with_events r stores [] others
+with_last r stores others (Some l) = with_events r stores (End l.conn ∷ []) others
 
 -- with the end of the connection of this number, if it is open
-unfoldable pub with_ended : Reading → ℕ → Reading
-with_ended r conn = with_last r (without conn r.links) (link_of conn r.links)
+unfoldable pub with_ended : Reading → ℕ → ℕ → Reading
+with_ended r stores conn = with_last r stores (without conn r.links) (link_of conn r.links)
 
 -- with a line `E CONN`
-unfoldable pub with_end : Reading → List ℕ → Option Reading
-with_end r conn = option_map (λ n. with_ended r n) (number_of conn)
+unfoldable pub with_end : Reading → ℕ → List ℕ → Option Reading
+with_end r stores conn = option_map (λ n. with_ended r stores n) (number_of conn)
 
 -- with the end of a call of any number, with a reply or without one (TEXT-7)
-unfoldable pub with_called : Reading → ℕ → Option (List ℕ) → Reading
-with_called r call reply = with_events r (Called call reply ∷ []) r.links
+unfoldable pub with_called : Reading → ℕ → ℕ → Option (List ℕ) → Reading
+with_called r stores call reply = with_events r stores (Called call reply ∷ []) r.links
 
 -- with a line `C CALL HEX`, the reply of any length; a dash is a reply without bytes (TEXT-5, TEXT-8)
-unfoldable pub with_reply : Reading → List ℕ → List ℕ → Option Reading
-with_reply r call hex = option_and_then (λ n. option_map (λ bytes. with_called r n (Some bytes)) (bytes_of hex)) (number_of call)
+unfoldable pub with_reply : Reading → ℕ → List ℕ → List ℕ → Option Reading
+with_reply r stores call hex = option_and_then (λ n. option_map (λ bytes. with_called r stores n (Some bytes)) (bytes_of hex)) (number_of call)
 
 -- with a line `C CALL`: no reply (TEXT-8)
-unfoldable pub with_no_reply : Reading → List ℕ → Option Reading
-with_no_reply r call = option_map (λ n. with_called r n None) (number_of call)
+unfoldable pub with_no_reply : Reading → ℕ → List ℕ → Option Reading
+with_no_reply r stores call = option_map (λ n. with_called r stores n None) (number_of call)
 
 -- with a line `T MS`
-unfoldable pub with_tick : Reading → List ℕ → Option Reading
-with_tick r moment = option_map (λ n. with_events r (Tick (record { 0 = n }) ∷ []) r.links) (number_of moment)
+unfoldable pub with_tick : Reading → ℕ → List ℕ → Option Reading
+with_tick r stores moment = option_map (λ n. with_events r stores (Tick (record { 0 = n }) ∷ []) r.links) (number_of moment)
 
--- with one line more, given by its words
+-- with a line `R`: no connection is open behind it
+abbrev pub with_restart : Reading → ℕ → Reading
+with_restart r stores = with_events r stores (Restart ∷ []) []
+
+-- with an event line, given by its words without ` !n`; in each of its entries so many stores succeed
+unfoldable pub with_event : Reading → ℕ → List (List ℕ) → Option Reading
+with_event r stores (a ∷ []) = if bytes_eq a (codes "R") then Some (with_restart r stores) else None
+with_event r stores (a ∷ b ∷ []) =
+    if bytes_eq a (codes "O") then with_open r stores b
+    else if bytes_eq a (codes "E") then with_end r stores b
+    else if bytes_eq a (codes "C") then with_no_reply r stores b
+    else if bytes_eq a (codes "T") then with_tick r stores b
+    else None
+with_event r stores (a ∷ b ∷ d ∷ []) =
+    if bytes_eq a (codes "B") then with_bytes r stores b d
+    else if bytes_eq a (codes "C") then with_reply r stores b d
+    else None
+with_event r stores words = None
+
+-- so many stores, if a line may say so
+abbrev pub few_stores : ℕ → Option ℕ
+few_stores n = if nat_le n most_stores then Some n else None
+
+-- the number of stores that a word `!n` says
+abbrev pub stores_of : List ℕ → Option ℕ
+stores_of [] = None
+stores_of (b ∷ digits) = if b == 33 then option_and_then few_stores (number_of digits) else None
+
+-- what the last word says of stores
+abbrev pub said_stores : List (List ℕ) → Option ℕ
+said_stores words = option_and_then stores_of (last_or None words)
+
+-- the words before the last
+abbrev pub all_but_last : List (List ℕ) → List (List ℕ)
+all_but_last [] = []
+all_but_last (word ∷ []) = []
+all_but_last (word ∷ next ∷ words) = word ∷ all_but_last (next ∷ words)
+
+-- with an event line, given by its words, of which the last may say how many stores succeed
+abbrev pub with_entries : Reading → List (List ℕ) → Option ℕ → Option Reading
+with_entries r words None = with_event r all_stores words
+with_entries r words (Some stores) = with_event r stores (all_but_last words)
+
+-- with one line more, given by its words: a header line, or an event line, which may end with ` !n` (TEXT-14)
 unfoldable pub with_words : Reading → List (List ℕ) → Option Reading
 with_words r (a ∷ b ∷ []) =
     if bytes_eq a (codes "F") then with_file r b
-    else if bytes_eq a (codes "O") then with_open r b
-    else if bytes_eq a (codes "E") then with_end r b
-    else if bytes_eq a (codes "C") then with_no_reply r b
-    else if bytes_eq a (codes "T") then with_tick r b
-    else None
+    else if bytes_eq a (codes "K") then with_epoch r b
+    else with_entries r (a ∷ b ∷ []) (said_stores (a ∷ b ∷ []))
 with_words r (a ∷ b ∷ d ∷ []) =
-    if bytes_eq a (codes "B") then with_bytes r b d
-    else if bytes_eq a (codes "H") then with_host r b d
-    else if bytes_eq a (codes "C") then with_reply r b d
-    else None
-with_words r (a ∷ b ∷ d ∷ e ∷ []) = if bytes_eq a (codes "L") then with_lasting r b d e else None
-with_words r words = None
+    if bytes_eq a (codes "H") then with_host r b d
+    else if bytes_eq a (codes "N") then with_named r b d
+    else with_entries r (a ∷ b ∷ d ∷ []) (said_stores (a ∷ b ∷ d ∷ []))
+with_words r (a ∷ b ∷ d ∷ e ∷ []) =
+    if bytes_eq a (codes "L") then with_lasting r b d e
+    else with_entries r (a ∷ b ∷ d ∷ e ∷ []) (said_stores (a ∷ b ∷ d ∷ e ∷ []))
+with_words r words = with_entries r words (said_stores words)
 
 -- an empty line, and one that begins with `#`, is passed over
 abbrev pub is_passed_over : List ℕ → Bool

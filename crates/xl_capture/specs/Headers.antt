@@ -1,12 +1,12 @@
--- A text that says what is exported, and nothing else.
+-- A text that says what is exported, and maybe the record before the start, and nothing else.
 use Rattle.std.specs.Prelude.{ℕ, ◌+◌, Bool, true, ◌==◌, ◌||◌, nat_lt, if◌then◌else◌, List, [], ◌∷◌, Option, Some, None, Result, Ok, Err}
 use Rattle.xl_capture.specs.Capture.{captured, lines_of, looked_at}
 use Rattle.xl_capture.specs.declared.capture.Capture.{Capture}
 
--- a line that says what is exported, or is passed over
+-- a line that says what is exported or recorded, or is passed over
 abbrev pub is_header : List ℕ → Bool
 is_header [] = true
-is_header (b ∷ bs) = b == 35 || b == 70 || b == 72 || b == 76
+is_header (b ∷ bs) = b == 35 || b == 70 || b == 72 || b == 75 || b == 76 || b == 78
 
 -- the number of the first line that is none; n lines stand before these
 abbrev pub first_other : ℕ → List (List ℕ) → Option ℕ

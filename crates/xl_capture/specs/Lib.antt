@@ -1,4 +1,5 @@
 pub mod Addresses
+pub mod Again
 pub mod Capture
 pub mod Headers
 pub mod Links

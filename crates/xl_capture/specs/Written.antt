@@ -8,7 +8,11 @@ use Rattle.xl_base.specs.declared.event.Kind.{Kind}
 use Rattle.xl_base.specs.declared.event.Kind.TheVariants.{Rpc, Smb}
 use Rattle.xl_base.specs.declared.journal.Entry.{Entry}
 use Rattle.xl_base.specs.declared.journal.Exports.{Exports}
+use Rattle.xl_base.specs.declared.journal.Head.{Head}
 use Rattle.xl_base.specs.declared.journal.Journal.{Journal}
+use Rattle.xl_base.specs.declared.name.Protocol.{Protocol}
+use Rattle.xl_base.specs.declared.name.Protocol.TheVariants.{Nlm}
+use Rattle.xl_base.specs.declared.stable.Recorded.{Recorded}
 use Rattle.xl_frame.specs.Frames.{wrapped}
 use Rattle.xl_names.specs.Texts.{hex_word}
 
@@ -25,8 +29,21 @@ address_lines (a ∷ addresses) = (codes "H " ++ hex_word a.0 ++ codes " " ++ a.
 unfoldable pub times_line : Exports → List ℕ
 times_line e = codes "L " ++ decimal e.lease ++ codes " " ++ decimal e.grace ++ codes " " ++ decimal e.break_time ++ codes "\n"
 
-abbrev pub header_lines : Exports → List ℕ
-header_lines e = file_lines e.files ++ (address_lines e.addresses ++ times_line e)
+abbrev pub epoch_line : ℕ → List ℕ
+epoch_line epoch = codes "K " ++ decimal epoch ++ codes "\n"
+
+-- whose client is recorded; no other has a name there
+abbrev pub protocol_word : Protocol → List ℕ
+protocol_word Nlm = codes "nlm"
+protocol_word _ = codes "nfs"
+
+abbrev pub name_lines : List Recorded → List ℕ
+name_lines [] = []
+name_lines (n ∷ names) = (codes "N " ++ protocol_word n.protocol ++ codes " " ++ hex_word n.name ++ codes "\n") ++ name_lines names
+
+-- the lines of what is exported, and of the record that the first start loaded
+abbrev pub header_lines : Head → List ℕ
+header_lines h = file_lines h.exports.files ++ address_lines h.exports.addresses ++ times_line h.exports ++ epoch_line h.«record».epoch ++ name_lines h.«record».names
 
 -- ---- event lines
 
@@ -51,23 +68,28 @@ abbrev pub answer_words : Option (List ℕ) → List ℕ
 answer_words None = []
 answer_words (Some bytes) = codes " " ++ hex_word bytes
 
+-- the end of an event line: how many stores succeeded in the event
+abbrev pub stores_end : ℕ → List ℕ
+stores_end stores = codes " !" ++ decimal stores ++ codes "\n"
+
 -- the line of a message as one whole frame; nothing of one that is too long for a frame, which no stream gives
-unfoldable pub message_line : Kind → ℕ → List ℕ → List ℕ
-message_line kind number bytes = if nat_le (length bytes) most_message_bytes then (codes "B " ++ decimal number ++ codes " ") ++ hex_word (wrapped kind bytes) ++ codes "\n" else []
+unfoldable pub message_line : Kind → ℕ → List ℕ → ℕ → List ℕ
+message_line kind number bytes stores =
+    if nat_le (length bytes) most_message_bytes then (codes "B " ++ decimal number ++ codes " ") ++ hex_word (wrapped kind bytes) ++ stores_end stores else []
 
 -- the line of an event
-unfoldable pub event_line : List Entry → Event → List ℕ
-event_line es (Open kind) = codes "O " ++ kind_word kind ++ codes "\n"
-event_line es (Message number bytes) = message_line (kind_at es number) number bytes
-event_line es (End number) = codes "E " ++ decimal number ++ codes "\n"
-event_line es (Called call answer) = (codes "C " ++ decimal call) ++ answer_words answer ++ codes "\n"
-event_line es (Tick moment) = codes "T " ++ decimal moment.0 ++ codes "\n"
-event_line es Restart = codes "R\n"
+unfoldable pub event_line : List Entry → Event → ℕ → List ℕ
+event_line es (Open kind) stores = codes "O " ++ kind_word kind ++ stores_end stores
+event_line es (Message number bytes) stores = message_line (kind_at es number) number bytes stores
+event_line es (End number) stores = codes "E " ++ decimal number ++ stores_end stores
+event_line es (Called call answer) stores = (codes "C " ++ decimal call) ++ answer_words answer ++ stores_end stores
+event_line es (Tick moment) stores = codes "T " ++ decimal moment.0 ++ stores_end stores
+event_line es Restart stores = codes "R" ++ stores_end stores
 
 abbrev pub event_lines : List Entry → List Entry → List ℕ
 event_lines all [] = []
-event_lines all (e ∷ es) = event_line all e.event ++ event_lines all es
+event_lines all (e ∷ es) = event_line all e.event e.stores ++ event_lines all es
 
--- the capture of a journal: its exports, and then a line for each entry
+-- the capture of a journal: what it began from, and then a line for each entry (TEXT-15)
 unfoldable pub capture_of : Journal → List ℕ
-capture_of j = header_lines j.head.exports ++ event_lines j.entries j.entries
+capture_of j = header_lines j.head ++ event_lines j.entries j.entries

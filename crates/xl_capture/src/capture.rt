@@ -1,16 +1,21 @@
 //! The text of a capture.
 ghost use Rattle.std.specs.Prelude.{◌≡◌, ℕ, ◌∷◌, [], ◌++◌, length, map, take, Option, Some, None, MatchOption, IfOk, IfSome, ◌<◌, ◌==◌, nat_le, ◌&&◌, ◌||◌, bytes_eq, codes, position, true};
 ghost use Rattle.std.specs.List.{list_all};
+ghost use Rattle.std.specs.Option.{option_and_then};
 ghost use Rattle.xl_base.specs.Results.{GivesUnless};
+ghost use Rattle.xl_base.specs.Stable.{is_recordable};
 ghost use Rattle.xl_capture.specs.declared.capture.CaptureError.TheVariants.{NoMemory as capture_no_memory};
 ghost use Rattle.xl_capture.specs.declared.capture.LineError.TheVariants.{NoMemory as line_no_memory};
 
 use crate::addresses::Addresses;
 use crate::links::{Link, Links};
 use crate::numbers::number_of;
+use crate::step::{ALL_STORES, Step};
 use hex::FromHexError;
 use std::alloc::{AllocError, AllocFailed, Global};
-use xl_base::{Event, Kind, MOST_CONNECTIONS, Moment, Sequence};
+use xl_base::{
+    Event, Kind, MOST_CONNECTIONS, Moment, Protocol, Record, RecordNameError, Recorded, Sequence,
+};
 
 /// The most bytes of a capture.
 pub const MOST_BYTES: usize = 268435456;
@@ -30,8 +35,11 @@ pub const DEFAULT_BREAK: u64 = 35_000;
 /// The longest time that may be said, in milliseconds.
 const LONGEST_TIME: u64 = 4_000_000_000;
 
-/// What a capture says: the exported files, the addresses of callers, how long leases, grace and breaks last, and the
-/// events in order.
+/// The most stores that a line may say.
+const MOST_STORES: u64 = 9_999;
+
+/// What a capture says: the exported files, the addresses of callers, how long leases, grace and breaks last, the record
+/// before the start, and the events in order.
 #[derive(Drop)]
 pub struct Capture {
     /// The names of the files, numbered from 1 in this order.
@@ -45,8 +53,10 @@ pub struct Capture {
     pub grace: u64,
     /// How long a break of a cache is waited for.
     pub break_time: u64,
-    /// The events in order.
-    pub events: Sequence<Event>,
+    /// The record that the first start loads.
+    pub stable: Record,
+    /// The events in order, each with the stores that succeed in it.
+    pub steps: Sequence<Step>,
 }
 
 /// What is known at a line of a capture.
@@ -58,6 +68,8 @@ struct Reading {
     links: Links,
     /// Whether the times stood.
     timed: bool,
+    /// Whether the epoch stood.
+    counted: bool,
     /// Whether an event line stood.
     begun: bool,
 }
@@ -94,7 +106,7 @@ impl<T: Drop> From<AllocFailed<T>> for LineError {
     }
 }
 
-ghost use Rattle.xl_capture.specs.Capture.{is_line_end, lines_of, words_of, is_name_byte, is_file_name, is_graphic, is_address, bytes_of, is_named, takes_file, with_file, takes_address, with_address, with_host, kind_of, with_opened, with_open, with_piece, with_bytes, with_ended, with_end, with_called, with_reply, with_no_reply, time_of, with_times, with_lasting, with_tick, with_words, is_passed_over, with_line, with_lines, no_reading, capture_in, looked_at, captured, bad_line, Follows, ReadsAs};
+ghost use Rattle.xl_capture.specs.Capture.{is_line_end, lines_of, words_of, is_name_byte, is_file_name, is_graphic, is_address, bytes_of, is_named, takes_file, with_file, takes_address, with_address, with_host, time_of, with_times, with_lasting, epoch_of, with_count, with_epoch, protocol_of, with_client, with_named, with_events, kind_of, with_opened, with_open, with_piece, with_bytes, with_ended, with_end, with_reply, with_no_reply, with_tick, with_restart, with_event, few_stores, stores_of, said_stores, with_entries, with_words, is_passed_over, with_line, with_lines, no_reading, capture_in, looked_at, captured, bad_line, Follows, ReadsAs};
 ghost use Rattle.xl_capture.specs.Numbers.{number_of};
 
 #[tactic(auto, using(crate::proofs::LineLaws::first_line, crate::proofs::LineLaws::only_line))]
@@ -298,6 +310,93 @@ fn add_lasting(
     add_times(reading, lease, grace, break_time)
 }
 
+/// An epoch.
+fn epoch_of(word: &[u8]) -> Option<u32>
+    ensures { result ≡ epoch_of word.now }
+{
+    match number_of(word) {
+        Some(epoch) if epoch <= u64::from(u32::MAX) => Some(epoch as u32),
+        _ => None,
+    }
+}
+
+/// Adds the epoch, if none stood.
+fn add_count(reading: &mut Reading, epoch: u32) -> Result<(), LineError>
+    ensures { Follows result (with_count reading.old epoch) reading.new }
+{
+    if reading.begun || reading.counted {
+        return Err(LineError::Bad);
+    }
+    reading.counted = true;
+    reading.capture.stable.set_epoch(epoch);
+    Ok(())
+}
+
+/// Adds a line `K EPOCH`.
+#[tactic(auto, unfolding(crate::specs::Capture::with_epoch))]
+fn add_epoch(reading: &mut Reading, word: &[u8]) -> Result<(), LineError>
+    ensures { Follows result (with_epoch reading.old word.now) reading.new }
+{
+    match epoch_of(word) {
+        Some(epoch) => add_count(reading, epoch),
+        None => Err(LineError::Bad),
+    }
+}
+
+/// Whose clients are recorded by this word.
+fn protocol_of(word: &[u8]) -> Option<Protocol>
+    ensures { result ≡ protocol_of word.now }
+{
+    if is_text(word, b"nfs") {
+        Some(Protocol::Nfs)
+    } else if is_text(word, b"nlm") {
+        Some(Protocol::Nlm)
+    } else {
+        None
+    }
+}
+
+/// Records the client of this name, if it may be recorded.
+#[tactic(auto, unfolding(crate::specs::Capture::with_client))]
+fn add_client(
+    reading: &mut Reading,
+    protocol: Protocol,
+    name: Sequence<u8>,
+) -> Result<(), LineError>
+    requires { is_recordable (record { protocol = protocol; name = name }) ≡ true }
+    ensures { Follows result (with_client reading.old protocol name) reading.new }
+{
+    if reading.begun {
+        return Err(LineError::Bad);
+    }
+    match reading.capture.stable.add(Recorded { protocol, name }) {
+        Ok(()) => Ok(()),
+        Err(RecordNameError::NoMemory) => Err(LineError::NoMemory),
+        Err(RecordNameError::Smb | RecordNameError::Twice) => Err(LineError::Bad),
+    }
+}
+
+/// Adds a line `N PROTOCOL HEX`.
+#[tactic(auto, unfolding(crate::specs::Capture::with_named))]
+fn add_named(alloc: Global, reading: &mut Reading, word: &[u8], hex: &[u8]) -> Result<(), LineError>
+    ensures { Follows result (with_named reading.old word.now hex.now) reading.new }
+{
+    let Some(protocol) = protocol_of(word) else {
+        return Err(LineError::Bad);
+    };
+    let name = Sequence::from_vec(bytes_of(alloc, hex)?);
+    add_client(reading, protocol, name)
+}
+
+/// Adds an event, in which so many stores succeed.
+fn add_step(reading: &mut Reading, stores: u64, event: Event) -> Result<(), LineError>
+    ensures { Follows result (Some (with_events reading.old stores (event ∷ []) reading.old.links)) reading.new }
+{
+    reading.begun = true;
+    reading.capture.steps.push(Step { event, stores })?;
+    Ok(())
+}
+
 /// What a connection of this word speaks.
 fn kind_of(word: &[u8]) -> Option<Kind>
     ensures { result ≡ kind_of word.now }
@@ -313,12 +412,16 @@ fn kind_of(word: &[u8]) -> Option<Kind>
 
 /// Adds the opening of a connection of this kind. Its number is the place of this event.
 #[tactic(auto, unfolding(crate::specs::Capture::with_opened))]
-fn add_opened(alloc: Global, reading: &mut Reading, kind: Kind) -> Result<(), LineError>
-    ensures { Follows result (Some (with_opened reading.old kind)) reading.new }
+fn add_opened(
+    alloc: Global,
+    reading: &mut Reading,
+    stores: u64,
+    kind: Kind,
+) -> Result<(), LineError>
+    ensures { Follows result (Some (with_opened reading.old stores kind)) reading.new }
 {
-    let place = reading.capture.events.len() as u64;
-    reading.begun = true;
-    reading.capture.events.push(Event::Open(kind))?;
+    let place = reading.capture.steps.len() as u64;
+    add_step(reading, stores, Event::Open(kind))?;
     if reading.links.len() < MOST_CONNECTIONS {
         reading.links.push(Link::open(alloc, place, kind))?;
     }
@@ -327,25 +430,31 @@ fn add_opened(alloc: Global, reading: &mut Reading, kind: Kind) -> Result<(), Li
 
 /// Adds a line `O KIND`.
 #[tactic(auto, unfolding(crate::specs::Capture::with_open))]
-fn add_open(alloc: Global, reading: &mut Reading, word: &[u8]) -> Result<(), LineError>
-    ensures { Follows result (with_open reading.old word.now) reading.new }
+fn add_open(alloc: Global, reading: &mut Reading, stores: u64, word: &[u8]) -> Result<(), LineError>
+    ensures { Follows result (with_open reading.old stores word.now) reading.new }
 {
     match kind_of(word) {
-        Some(kind) => add_opened(alloc, reading, kind),
+        Some(kind) => add_opened(alloc, reading, stores, kind),
         None => Err(LineError::Bad),
     }
 }
 
 /// Adds bytes that come by the connection of this number.
 #[tactic(auto, unfolding(crate::specs::Capture::with_piece))]
-fn add_piece(alloc: Global, reading: &mut Reading, conn: u64, bytes: &[u8]) -> Result<(), LineError>
-    ensures { Follows result (Some (with_piece reading.old conn bytes.now)) reading.new }
+fn add_piece(
+    alloc: Global,
+    reading: &mut Reading,
+    stores: u64,
+    conn: u64,
+    bytes: &[u8],
+) -> Result<(), LineError>
+    ensures { Follows result (Some (with_piece reading.old stores conn bytes.now)) reading.new }
 {
     reading.begun = true;
     let Some(link) = reading.links.take_out(conn) else {
         return Ok(());
     };
-    if let Some(open) = link.feed(alloc, bytes, &mut reading.capture.events)? {
+    if let Some(open) = link.feed(alloc, stores, bytes, &mut reading.capture.steps)? {
         reading.links.push(open)?;
     }
     Ok(())
@@ -353,87 +462,148 @@ fn add_piece(alloc: Global, reading: &mut Reading, conn: u64, bytes: &[u8]) -> R
 
 /// Adds a line `B CONN HEX`.
 #[tactic(auto, unfolding(crate::specs::Capture::with_bytes))]
-fn add_bytes(alloc: Global, reading: &mut Reading, conn: &[u8], hex: &[u8]) -> Result<(), LineError>
-    ensures { Follows result (with_bytes reading.old conn.now hex.now) reading.new }
+fn add_bytes(
+    alloc: Global,
+    reading: &mut Reading,
+    stores: u64,
+    conn: &[u8],
+    hex: &[u8],
+) -> Result<(), LineError>
+    ensures { Follows result (with_bytes reading.old stores conn.now hex.now) reading.new }
 {
     let Some(conn) = number_of(conn) else {
         return Err(LineError::Bad);
     };
     let bytes = bytes_of(alloc, hex)?;
-    add_piece(alloc, reading, conn, &bytes)
+    add_piece(alloc, reading, stores, conn, &bytes)
 }
 
 /// Adds the end of the connection of this number, if it is open.
 #[tactic(auto, unfolding(crate::specs::Capture::with_ended))]
-fn add_ended(reading: &mut Reading, conn: u64) -> Result<(), LineError>
-    ensures { Follows result (Some (with_ended reading.old conn)) reading.new }
+fn add_ended(reading: &mut Reading, stores: u64, conn: u64) -> Result<(), LineError>
+    ensures { Follows result (Some (with_ended reading.old stores conn)) reading.new }
 {
     reading.begun = true;
-    if let Some(link) = reading.links.take_out(conn) {
-        reading.capture.events.push(Event::End(link.conn()))?;
+    match reading.links.take_out(conn) {
+        Some(link) => add_step(reading, stores, Event::End(link.conn())),
+        None => Ok(()),
     }
-    Ok(())
 }
 
 /// Adds a line `E CONN`.
 #[tactic(auto, unfolding(crate::specs::Capture::with_end))]
-fn add_end(reading: &mut Reading, conn: &[u8]) -> Result<(), LineError>
-    ensures { Follows result (with_end reading.old conn.now) reading.new }
+fn add_end(reading: &mut Reading, stores: u64, conn: &[u8]) -> Result<(), LineError>
+    ensures { Follows result (with_end reading.old stores conn.now) reading.new }
 {
     match number_of(conn) {
-        Some(conn) => add_ended(reading, conn),
+        Some(conn) => add_ended(reading, stores, conn),
         None => Err(LineError::Bad),
     }
 }
 
-/// Adds the end of the call of this number, with a reply or without one.
-#[tactic(auto, unfolding(crate::specs::Capture::with_called))]
-fn add_called(
-    reading: &mut Reading,
-    call: u64,
-    reply: Option<Sequence<u8>>,
-) -> Result<(), LineError>
-    ensures { Follows result (Some (with_called reading.old call reply)) reading.new }
-{
-    reading.begun = true;
-    reading.capture.events.push(Event::Called(call, reply))?;
-    Ok(())
-}
-
 /// Adds a line `C CALL HEX`.
-#[tactic(auto, unfolding(crate::specs::Capture::with_reply))]
-fn add_reply(alloc: Global, reading: &mut Reading, call: &[u8], hex: &[u8]) -> Result<(), LineError>
-    ensures { Follows result (with_reply reading.old call.now hex.now) reading.new }
+#[tactic(auto, unfolding(crate::specs::Capture::with_reply, crate::specs::Capture::with_called))]
+fn add_reply(
+    alloc: Global,
+    reading: &mut Reading,
+    stores: u64,
+    call: &[u8],
+    hex: &[u8],
+) -> Result<(), LineError>
+    ensures { Follows result (with_reply reading.old stores call.now hex.now) reading.new }
 {
     let Some(call) = number_of(call) else {
         return Err(LineError::Bad);
     };
     let reply = Sequence::from_vec(bytes_of(alloc, hex)?);
-    add_called(reading, call, Some(reply))
+    add_step(reading, stores, Event::Called(call, Some(reply)))
 }
 
 /// Adds a line `C CALL`.
-#[tactic(auto, unfolding(crate::specs::Capture::with_no_reply))]
-fn add_no_reply(reading: &mut Reading, call: &[u8]) -> Result<(), LineError>
-    ensures { Follows result (with_no_reply reading.old call.now) reading.new }
+#[tactic(auto, unfolding(crate::specs::Capture::with_no_reply, crate::specs::Capture::with_called))]
+fn add_no_reply(reading: &mut Reading, stores: u64, call: &[u8]) -> Result<(), LineError>
+    ensures { Follows result (with_no_reply reading.old stores call.now) reading.new }
 {
     match number_of(call) {
-        Some(call) => add_called(reading, call, None),
+        Some(call) => add_step(reading, stores, Event::Called(call, None)),
         None => Err(LineError::Bad),
     }
 }
 
 /// Adds a line `T MS`.
 #[tactic(auto, unfolding(crate::specs::Capture::with_tick))]
-fn add_tick(reading: &mut Reading, moment: &[u8]) -> Result<(), LineError>
-    ensures { Follows result (with_tick reading.old moment.now) reading.new }
+fn add_tick(reading: &mut Reading, stores: u64, moment: &[u8]) -> Result<(), LineError>
+    ensures { Follows result (with_tick reading.old stores moment.now) reading.new }
 {
-    let Some(moment) = number_of(moment) else {
+    match number_of(moment) {
+        Some(moment) => add_step(reading, stores, Event::Tick(Moment(moment))),
+        None => Err(LineError::Bad),
+    }
+}
+
+/// Adds a line `R`, behind which no connection is open.
+fn add_restart(alloc: Global, reading: &mut Reading, stores: u64) -> Result<(), LineError>
+    ensures { Follows result (Some (with_restart reading.old stores)) reading.new }
+{
+    add_step(reading, stores, Event::Restart)?;
+    reading.links = Links::new(alloc);
+    Ok(())
+}
+
+/// Adds an event line, given by its words without ` !n`; in each of its entries so many stores succeed.
+#[tactic(auto, unfolding(crate::specs::Capture::with_event))]
+fn add_event(
+    alloc: Global,
+    reading: &mut Reading,
+    stores: u64,
+    words: &[&[u8]],
+) -> Result<(), LineError>
+    ensures { Follows result (with_event reading.old stores (map (λ w. w.now) words.now)) reading.new }
+{
+    match words {
+        [a] if is_text(a, b"R") => add_restart(alloc, reading, stores),
+        [a, kind] if is_text(a, b"O") => add_open(alloc, reading, stores, kind),
+        [a, conn] if is_text(a, b"E") => add_end(reading, stores, conn),
+        [a, call] if is_text(a, b"C") => add_no_reply(reading, stores, call),
+        [a, moment] if is_text(a, b"T") => add_tick(reading, stores, moment),
+        [a, conn, hex] if is_text(a, b"B") => add_bytes(alloc, reading, stores, conn, hex),
+        [a, call, hex] if is_text(a, b"C") => add_reply(alloc, reading, stores, call, hex),
+        _ => Err(LineError::Bad),
+    }
+}
+
+/// So many stores, if a line may say so.
+fn few_of(stores: Option<u64>) -> Option<u64>
+    ensures { result ≡ option_and_then few_stores stores }
+{
+    match stores {
+        Some(stores) if stores <= MOST_STORES => Some(stores),
+        _ => None,
+    }
+}
+
+/// The number of stores that a word `!n` says.
+fn stores_of(word: &[u8]) -> Option<u64>
+    ensures { result ≡ stores_of word.now }
+{
+    match word {
+        [b'!', digits @ ..] => few_of(number_of(digits)),
+        _ => None,
+    }
+}
+
+/// Adds an event line, given by its words, of which the last may say how many stores succeed.
+#[tactic(auto, using(crate::proofs::LineLaws::no_entries, crate::proofs::LineLaws::said_entries, crate::proofs::LineLaws::unsaid_entries))]
+fn add_entries(alloc: Global, reading: &mut Reading, words: &[&[u8]]) -> Result<(), LineError>
+    ensures { Follows result (with_entries reading.old (map (λ w. w.now) words.now) (said_stores (map (λ w. w.now) words.now))) reading.new }
+{
+    let Some((last, rest)) = words.split_last() else {
         return Err(LineError::Bad);
     };
-    reading.begun = true;
-    reading.capture.events.push(Event::Tick(Moment(moment)))?;
-    Ok(())
+    match stores_of(last) {
+        Some(stores) => add_event(alloc, reading, stores, rest),
+        None => add_event(alloc, reading, ALL_STORES, words),
+    }
 }
 
 /// Adds a line, given by its words.
@@ -442,16 +612,12 @@ fn add_words(alloc: Global, reading: &mut Reading, words: &[&[u8]]) -> Result<()
     ensures { Follows result (with_words reading.old (map (λ w. w.now) words.now)) reading.new }
 {
     match words {
-        [a, b] if is_text(a, b"F") => add_file(alloc, reading, b),
-        [a, b] if is_text(a, b"O") => add_open(alloc, reading, b),
-        [a, b] if is_text(a, b"E") => add_end(reading, b),
-        [a, b] if is_text(a, b"C") => add_no_reply(reading, b),
-        [a, b] if is_text(a, b"T") => add_tick(reading, b),
-        [a, b, hex] if is_text(a, b"B") => add_bytes(alloc, reading, b, hex),
-        [a, hex, address] if is_text(a, b"H") => add_host(alloc, reading, hex, address),
-        [a, b, hex] if is_text(a, b"C") => add_reply(alloc, reading, b, hex),
+        [a, name] if is_text(a, b"F") => add_file(alloc, reading, name),
+        [a, epoch] if is_text(a, b"K") => add_epoch(reading, epoch),
+        [a, caller, address] if is_text(a, b"H") => add_host(alloc, reading, caller, address),
+        [a, protocol, name] if is_text(a, b"N") => add_named(alloc, reading, protocol, name),
         [a, b, c, d] if is_text(a, b"L") => add_lasting(reading, b, c, d),
-        _ => Err(LineError::Bad),
+        _ => add_entries(alloc, reading, words),
     }
 }
 
@@ -507,10 +673,12 @@ fn read_lines(alloc: Global, past: bool, text: &[u8]) -> Result<Capture, Capture
             lease: DEFAULT_LEASE,
             grace: DEFAULT_GRACE,
             break_time: DEFAULT_BREAK,
-            events: Sequence::new(alloc),
+            stable: Record::new(alloc),
+            steps: Sequence::new(alloc),
         },
         links: Links::new(alloc),
         timed: false,
+        counted: false,
         begun: false,
     };
     let mut rest = text;

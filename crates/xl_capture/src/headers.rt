@@ -1,4 +1,4 @@
-//! A text that says what is exported, and nothing else.
+//! A text that says what is exported, and maybe the record before the start, and nothing else.
 ghost use Rattle.std.specs.Prelude.{◌≡◌};
 ghost use Rattle.xl_base.specs.Results.{GivesUnless};
 ghost use Rattle.xl_capture.specs.Capture.{bad_line, lines_of};
@@ -7,13 +7,13 @@ ghost use Rattle.xl_capture.specs.Headers.{first_other, headed, is_header, lower
 use crate::capture::{Capture, CaptureError, looked_at, next_line, read_capture};
 use std::alloc::Global;
 
-/// Whether a line says what is exported, or is passed over.
+/// Whether a line says what is exported or recorded, or is passed over.
 fn is_header(line: &[u8]) -> bool
     ensures { result ≡ is_header line.now }
 {
     match line {
         [] => true,
-        [first, ..] => *first == b'#' || *first == b'F' || *first == b'H' || *first == b'L',
+        [first, ..] => matches!(first, b'#' | b'F' | b'H' | b'K' | b'L' | b'N'),
     }
 }
 
@@ -40,7 +40,8 @@ fn lower(number: u64, line: u64) -> u64
     if number < line { number } else { line }
 }
 
-/// Reads the header lines of a capture: what is exported, where callers are called, and the times. An event line is bad here.
+/// Reads the header lines of a capture: what is exported, where callers are called, the times, and the record before the
+/// start. An event line is bad here.
 #[tactic(auto, unfolding(crate::specs::Headers::headed))]
 pub fn read_header(alloc: Global, text: &[u8]) -> Result<Capture, CaptureError>
     ensures { GivesUnless bad_line (λ c. c) result (headed text.now) }

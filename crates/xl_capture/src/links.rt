@@ -4,7 +4,9 @@ ghost use Rattle.std.specs.Option.{is_none};
 ghost use Rattle.xl_base.specs.declared.event.Event.TheVariants.{Message, End};
 ghost use Rattle.xl_frame.specs.Frames.{frames};
 ghost use Rattle.xl_capture.specs.Links.{Link as OpenLink, opened, link_of, without, framed, events_of, still_open};
+ghost use Rattle.xl_capture.specs.Capture.{steps_of};
 
+use crate::step::Step;
 use std::alloc::{AllocError, AllocFailed, Global};
 use std::marker::Model;
 use xl_base::{Event, Kind, Sequence};
@@ -31,15 +33,17 @@ impl Model for Link {
 /// Adds a message for each frame that the cutter has ready.
 fn add_messages(
     conn: u64,
+    stores: u64,
     cutter: &mut Cutter,
-    events: &mut Sequence<Event>,
+    steps: &mut Sequence<Step>,
 ) -> Result<(), AllocError>
-    ensures events { OnOk result (events.new ≡ events.old ++ map (Message conn) cutter.old.ready) }
+    ensures steps { OnOk result (steps.new ≡ steps.old ++ steps_of stores (map (Message conn) cutter.old.ready)) }
     ensures ready { OnOk result (cutter.new.ready ≡ []) }
     ensures same { OnOk result ((cutter.new.kind ≡ cutter.old.kind) × (cutter.new.rest ≡ cutter.old.rest) × (cutter.new.bad ≡ cutter.old.bad)) }
 {
     'frames: while let Some(frame) = cutter.next() {
-        events.push(Event::Message(conn, Sequence::from_vec(frame)))?;
+        let event = Event::Message(conn, Sequence::from_vec(frame));
+        steps.push(Step { event, stores })?;
     }
     Ok(())
 }
@@ -63,11 +67,12 @@ fn cut(alloc: Global, cutter: &mut Cutter, bytes: &[u8]) -> Result<bool, AllocEr
 }
 
 /// Adds the end of a connection if a frame is bad.
-fn add_end(conn: u64, good: bool, events: &mut Sequence<Event>) -> Result<(), AllocError>
-    ensures { OnOk result (events.new ≡ events.old ++ (if good then [] else End conn ∷ [])) }
+fn add_end(conn: u64, stores: u64, good: bool, steps: &mut Sequence<Step>) -> Result<(), AllocError>
+    ensures { OnOk result (steps.new ≡ steps.old ++ steps_of stores (if good then [] else End conn ∷ [])) }
 {
     if !good {
-        events.push(Event::End(conn))?;
+        let event = Event::End(conn);
+        steps.push(Step { event, stores })?;
     }
     Ok(())
 }
@@ -90,21 +95,23 @@ impl Link {
         self.conn
     }
 
-    /// Takes the next bytes of its stream, and adds what they come to to the events: a message for each frame that is
-    /// whole now, and its end if a frame is bad. The connection is given back if it is open still.
+    /// Takes the next bytes of its stream, and adds what they come to to the steps: a message for each frame that is
+    /// whole now, and its end if a frame is bad; in each of them so many stores succeed. The connection is given back if
+    /// it is open still.
     pub fn feed(
         self,
         alloc: Global,
+        stores: u64,
         bytes: &[u8],
-        events: &mut Sequence<Event>,
+        steps: &mut Sequence<Step>,
     ) -> Result<Option<Link>, AllocError>
-        ensures events { OnOk result (events.new ≡ events.old ++ events_of self.conn (framed self bytes.now)) }
+        ensures steps { OnOk result (steps.new ≡ steps.old ++ steps_of stores (events_of self.conn (framed self bytes.now))) }
         ensures open { IfOk result (λ l. l ≡ still_open self (framed self bytes.now)) }
     {
         let Link { conn, mut cutter } = self;
         let good = cut(alloc, &mut cutter, bytes)?;
-        add_messages(conn, &mut cutter, events)?;
-        add_end(conn, good, events)?;
+        add_messages(conn, stores, &mut cutter, steps)?;
+        add_end(conn, stores, good, steps)?;
         if good {
             Ok(Some(Link { conn, cutter }))
         } else {
