@@ -3,13 +3,14 @@
 //!
 //! The cases of a text are parted by lines of two hyphens. Each is a capture, a line `=>`, and what a replay answers: its
 //! status, the number of the line and how many entries its journal has, and behind them the transcript. A line
-//! `* COUNT NUMBER STEP PLACE LINE` is so many lines, in which `#` is the number in hex, `$` the next number, `%` the number from
-//! its lowest byte on, and `@` the place in decimal. From line to line the number rises by the step, the place by one. Above
+//! `* COUNT NUMBER STEP PLACE LINE` is so many lines, in which `#` is the number in hex, `$` the next number, `%` and `&` the same
+//! from their lowest byte on, and `@` the place in decimal. From line to line the number rises by the step, the place by one. Above
 //! each message stand its words, as `tools/capture_from_words.py` has them.
 
 ghost use Rattle.std.specs.Prelude.{◌≡◌, vec_len};
 
 mod captures;
+mod grace;
 mod house;
 mod lanes;
 mod limits;
@@ -75,6 +76,7 @@ fn put_filled(text: &mut String, line: &str, number: u32, place: u32) -> Result<
             '#' => write!(text, "{number:08x}")?,
             '$' => write!(text, "{:08x}", number.wrapping_add(1))?,
             '%' => write!(text, "{:08x}", number.swap_bytes())?,
+            '&' => write!(text, "{:08x}", number.wrapping_add(1).swap_bytes())?,
             '@' => write!(text, "{place}")?,
             _ => text.push(sign)?,
         }

@@ -6,6 +6,7 @@ pub mod GroupLaws
 pub mod JobLaws
 pub mod MadeLaws
 pub mod ReadLaws
+pub mod ReplayLaws
 pub mod ServeLaws
 pub mod StepLaws
 pub mod SumLaws

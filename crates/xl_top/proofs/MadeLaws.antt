@@ -1,5 +1,6 @@
 -- The journal of calls that were made.
-use Rattle.std.proofs.Common.{◌≡◌, ℕ, zero, suc, ◌+◌, ◌-◌, ◌<◌, List, [], ◌∷◌, ◌++◌, length, take, Result, Err, refl, sym, ap, ◌∙◌, append-nil, arith, subst}
+use Rattle.std.proofs.Common.{◌≡◌, ℕ, zero, suc, ◌+◌, ◌-◌, ◌<◌, Bool, true, false, not, ◌==◌, ◌&&◌, if◌then◌else◌, List, [], ◌∷◌, ◌++◌, length, take, Result, Err, refl, sym, ap, ◌∙◌, append_assoc, append-nil, arith, subst}
+use Rattle.std.proofs.Math.Seq.{take-append_seam}
 use Rattle.xl_base.specs.declared.event.Event.{Event}
 use Rattle.xl_base.specs.declared.event.Event.TheVariants.{Message}
 use Rattle.xl_base.specs.declared.halt.Halt.{Halt}
@@ -8,11 +9,12 @@ use Rattle.xl_base.specs.declared.journal.Entry.{Entry}
 use Rattle.xl_base.specs.declared.journal.Head.{Head}
 use Rattle.xl_base.specs.declared.journal.Journal.{Journal}
 use Rattle.xl_top.specs.Job.{no_journal}
-use Rattle.xl_house.specs.Journals.{replay, entry, entries_of}
-use Rattle.xl_house.specs.State.{start_of}
-use Rattle.xl_house.proofs.JournalLaws.{stepped}
+use Rattle.xl_capture.specs.Capture.{all_stores}
+use Rattle.xl_house.specs.Journals.{entry, entries_of, is_restart, may_enter, replay}
+use Rattle.xl_house.specs.Machine.{step}
+use Rattle.xl_house.specs.State.{Whole, start_of}
 use Rattle.xl_top.specs.declared.make.Draws.{Draws}
-use Rattle.xl_top.specs.Made.{IsMadePart, next, draw, fourth, call_by, call_from, record_of, calls_from, made_entries, made_head, made_journal, summary_from, whole_summary}
+use Rattle.xl_top.specs.Made.{IsMadePart, next, draw, fourth, call_by, call_from, record_of, calls_from, made_entries, made_head, made_journal, summary_from, surely, whole_summary}
 
 abbrev journal_with : Head → List Entry → Journal
 journal_with head entries = record { head = head; entries = entries }
@@ -31,7 +33,7 @@ no_part seed count = record { entries = refl; head = λ some. absurd (omega (ari
 
 -- ---- stepping the calls
 
-abbrev pub failed : Halt → Result ℕ Halt
+abbrev failed : Halt → Result ℕ Halt
 failed halt = Err halt
 
 -- a step that fails, where the journal isn't full, found no memory
@@ -50,22 +52,34 @@ pub drawn_event : (x number : ℕ) (draws : Draws) → draws ≡ record { first 
 unfolding call_from
 drawn_event x number draws e = ap (λ (d : Draws). Message 0 (record_of number (call_by d.first d.second d.third d.fourth))) e
 
--- one call more is entered
-pub call_stepped : (head at : Head) (es new : List Entry) (x y number left : ℕ) (event : Event) (whole : List Entry) → at ≡ head → new ≡ es ++ entry 0 (replay (start_of head) es) event ∷ []
-    → event ≡ Message 0 (record_of number (call_from x)) → y ≡ fourth x → 0 < left → es ++ entries_of (replay (start_of head) es) (calls_from x number left) ≡ whole
-    → new ++ entries_of (replay (start_of at) new) (calls_from y (number + 1) (left - 1)) ≡ whole
-call_stepped head at es new x y number left event whole same entered is last some before =
-    (λ i. entered i ++ entries_of (replay (start_of (same i)) (entered i)) (calls_from (last i) (number + 1) (left - 1)))
-    ∙ stepped (start_of head) es event (calls_from (fourth x) (number + 1) (left - 1))
-    ∙ ap (λ (e : Event). es ++ entries_of (replay (start_of head) es) (e ∷ calls_from (fourth x) (number + 1) (left - 1))) is
-    ∙ ap (λ (es' : List Event). es ++ entries_of (replay (start_of head) es) es') (sym (next_call x number left some))
+-- one event more is entered
+pub entries_more : (s : Whole) (es new : List Entry) (event : Event) (t : Whole) (rest : List Event) → is_restart event ≡ false → new ≡ es ++ entry all_stores s event ∷ [] → t ≡ (step all_stores s event).next → new ++ entries_of t (surely rest) ≡ es ++ entries_of s (surely (event ∷ rest))
+entries_more s es new event t rest steps entered next =
+    let first : Entry = entry all_stores s event in
+    let enters : may_enter all_stores event ≡ true = ap (λ (b : Bool). not (b && (all_stores == 0))) steps in
+    ap (λ (xs : List Entry). xs ++ entries_of t (surely rest)) entered
+    ∙ append_assoc es (first ∷ []) (entries_of t (surely rest))
+    ∙ ap (λ (u : Whole). es ++ first ∷ entries_of u (surely rest)) next
+    ∙ ap (λ (b : Bool). es ++ (if b then first ∷ entries_of (step all_stores s event).next (surely rest) else [])) (sym enters)
+
+-- one call more is
+pub call_stepped : (s t : Whole) (es new : List Entry) (x y number left : ℕ) (event : Event) (whole : List Entry) → new ≡ es ++ entry all_stores s event ∷ [] → t ≡ (step all_stores s event).next
+    → event ≡ Message 0 (record_of number (call_from x)) → y ≡ fourth x → 0 < left → es ++ entries_of s (surely (calls_from x number left)) ≡ whole → new ++ entries_of t (surely (calls_from y (number + 1) (left - 1))) ≡ whole
+call_stepped s t es new x y number left event whole entered next is last some before =
+    ap (λ (z : ℕ). new ++ entries_of t (surely (calls_from z (number + 1) (left - 1)))) last
+    ∙ entries_more s es new event t (calls_from (fourth x) (number + 1) (left - 1)) (ap is_restart is) entered next
+    ∙ ap (λ (e : Event). es ++ entries_of s (surely (e ∷ calls_from (fourth x) (number + 1) (left - 1)))) is
+    ∙ ap (λ (events : List Event). es ++ entries_of s (surely events)) (sym (next_call x number left some))
     ∙ before
 
 -- no call is left
-pub none_left : (head : Head) (es : List Entry) (x number left : ℕ) (whole : List Entry) → left ≡ 0 → es ++ entries_of (replay (start_of head) es) (calls_from x number left) ≡ whole → es ≡ whole
+pub none_left : (s : Whole) (es : List Entry) (x number left : ℕ) (whole : List Entry) → left ≡ 0 → es ++ entries_of s (surely (calls_from x number left)) ≡ whole → es ≡ whole
 unfolding calls_from
-none_left head es x number left whole none before =
-    sym (append-nil es) ∙ ap (λ (n : ℕ). es ++ entries_of (replay (start_of head) es) (calls_from x number n)) (sym none) ∙ before
+none_left s es x number left whole none before = sym (append-nil es) ∙ ap (λ (n : ℕ). es ++ entries_of s (surely (calls_from x number n))) (sym none) ∙ before
+
+-- the entries so far are a front of all
+pub front_so : (es more whole : List Entry) → es ++ more ≡ whole → take (length es) whole ≡ es
+front_so es more whole same = ap (λ (xs : List Entry). take (length es) xs) (sym same) ∙ take-append_seam es more
 
 -- ---- its summary
 

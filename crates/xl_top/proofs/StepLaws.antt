@@ -32,7 +32,7 @@ use Rattle.xl_front_nlm.specs.declared.outcome.Outcome.TheVariants.{Waits, Answe
 use Rattle.xl_capture.specs.Summary.{results_status}
 use Rattle.xl_top.specs.Made.{asked_by, lock_by}
 use Rattle.xl_top.proofs.CallLaws.{exported_again, res_again}
-use Rattle.xl_top.proofs.DrawnLaws.{AreOurs, IsMadeCore, IsPlain, IsDrawnWell, drawn_ask, tells_nothing, lock_well, test_well, unlock_well}
+use Rattle.xl_top.proofs.DrawnLaws.{AreOurs, IsAble, IsMadeCore, IsPlain, IsDrawnWell, drawn_ask, tells_nothing, lock_well, test_well, unlock_well}
 
 -- ---- what a call names
 
@@ -118,10 +118,10 @@ quietly : (n : ℕ) (f : FrontState) (s : CoreState) (host : Option (List ℕ)) 
 quietly n f s host a none =
     ap (λ (es : List Effect). (Answered (ask n (rooms f.hosts) s a).0, es ++ [], hosted host (ask n (rooms f.hosts) s a).0 f, (ask n (rooms f.hosts) s a).2)) none
 
-lock_served : (n : ℕ) (f : FrontState) (s : CoreState) (exclusive : Bool) (b c d : ℕ) → IsMadeCore s → AreOurs f.hosts
+lock_served : (n : ℕ) (f : FrontState) (s : CoreState) (exclusive : Bool) (b c d : ℕ) → IsMadeCore s → IsAble n s → AreOurs f.hosts
     → IsServed n f s (Lock (record { cookie = []; block = false; exclusive = exclusive; lock = lock_by b c d; reclaim = false; state = pos 0 }))
 unfolding served planned reply_of
-lock_served n f s exclusive b c d core ours = record {
+lock_served n f s exclusive b c d core able ours = record {
   answer = (ask n (rooms f.hosts) s a).0;
   front = hosted (Some (codes "m")) (ask n (rooms f.hosts) s a).0 f;
   core = (ask n (rooms f.hosts) s a).2;
@@ -134,14 +134,14 @@ lock_served n f s exclusive b c d core ours = record {
   args = record { cookie = []; block = false; exclusive = exclusive; lock = lock_by b c d; reclaim = false; state = pos 0 }
 
   a : Ask
-  a = drawn_ask (c % 4) (1 + b % 8) (acts.Ranges ((Bytes (10 * (d % 16)) (10 * (d % 16) + 10 - 1), exclusive) ∷ [])) (host_rows (codes "m") f.hosts)
+  a = drawn_ask true (c % 4) (1 + b % 8) (acts.Ranges ((Bytes (10 * (d % 16)) (10 * (d % 16) + 10 - 1), exclusive) ∷ [])) (host_rows (codes "m") f.hosts)
 
   well : IsDrawnWell s (ask n (rooms f.hosts) s a)
-  well = lock_well n f.hosts s (c % 4) (1 + b % 8) (10 * (d % 16)) (10 * (d % 16) + 10 - 1) exclusive core ours (omega arith) (omega arith) (omega arith) (omega arith)
+  well = lock_well n f.hosts s (c % 4) (1 + b % 8) (10 * (d % 16)) (10 * (d % 16) + 10 - 1) exclusive core able ours (omega arith) (omega arith) (omega arith) (omega arith)
 
   plan : planned 8 f s (Lock args) ≡ asks (Some (codes "m")) f (rooms f.hosts) a
   plan =
-      ap (at_bytes (λ at. lock_plan f s args at)) (aimed_is b c d)
+      ap (at_bytes (λ at. lock_plan true f s args at)) (aimed_is b c d)
       ∙ ap (λ (w : Bool). if w then Tells Waits else asks (Some (codes "m")) f (rooms f.hosts) a) (nobody_waits s args (aim_by b d) core.waiters)
 
 unlock_served : (n : ℕ) (f : FrontState) (s : CoreState) (b c d : ℕ) → IsMadeCore s → AreOurs f.hosts → IsServed n f s (Unlock (record { cookie = []; lock = lock_by b c d }))
@@ -156,7 +156,7 @@ unlock_served n f s b c d core ours = record {
   kept = well.core;
 } where
   a : Ask
-  a = drawn_ask (c % 4) (1 + b % 8) (acts.Unlock (Bytes (10 * (d % 16)) (10 * (d % 16) + 10 - 1))) (record { hosts = 0; owners = 0; opens = 0 })
+  a = drawn_ask false (c % 4) (1 + b % 8) (acts.Unlock (Bytes (10 * (d % 16)) (10 * (d % 16) + 10 - 1))) (record { hosts = 0; owners = 0; opens = 0 })
 
   well : IsDrawnWell s (ask n (rooms f.hosts) s a)
   well = unlock_well n (rooms f.hosts) s (c % 4) (1 + b % 8) (10 * (d % 16)) (10 * (d % 16) + 10 - 1) (record { hosts = 0; owners = 0; opens = 0 }) core (omega arith) (omega arith) (omega arith) (omega arith)
@@ -179,7 +179,7 @@ test_served n f s exclusive b c d core ours = record {
   args = record { cookie = []; exclusive = exclusive; lock = lock_by b c d }
 
   a : Ask
-  a = drawn_ask (c % 4) (1 + b % 8) (acts.Test (Bytes (10 * (d % 16)) (10 * (d % 16) + 10 - 1)) exclusive) (record { hosts = 0; owners = 0; opens = 0 })
+  a = drawn_ask false (c % 4) (1 + b % 8) (acts.Test (Bytes (10 * (d % 16)) (10 * (d % 16) + 10 - 1)) exclusive) (record { hosts = 0; owners = 0; opens = 0 })
 
   well : IsDrawnWell s (ask n (rooms f.hosts) s a)
   well = test_well n (rooms f.hosts) s (c % 4) (1 + b % 8) (10 * (d % 16)) (10 * (d % 16) + 10 - 1) exclusive (record { hosts = 0; owners = 0; opens = 0 }) core (omega arith) (omega arith)
@@ -187,13 +187,13 @@ test_served n f s exclusive b c d core ours = record {
   plan : planned 8 f s (Test args) ≡ asks None f (rooms f.hosts) a
   plan = ap (at_bytes (λ at. asks None f (rooms f.hosts) (test_ask args at))) (aimed_is b c d)
 
-pub call_served : (n : ℕ) (f : FrontState) (s : CoreState) (choice : ℕ) (exclusive : Bool) (b c d : ℕ) → IsMadeCore s → AreOurs f.hosts → IsServed n f s (asked_by choice exclusive (lock_by b c d))
-call_served n f s choice exclusive b c d core ours =
+pub call_served : (n : ℕ) (f : FrontState) (s : CoreState) (choice : ℕ) (exclusive : Bool) (b c d : ℕ) → IsMadeCore s → IsAble n s → AreOurs f.hosts → IsServed n f s (asked_by choice exclusive (lock_by b c d))
+call_served n f s choice exclusive b c d core able ours =
     elim (cases_Bool (choice == 2)) [
       | inl two ↦ rw two (unlock_served n f s b c d core ours)
       | inr other ↦
           elim (cases_Bool (choice == 3)) [
             | inl three ↦ rw (other, three) (test_served n f s exclusive b c d core ours)
-            | inr locks ↦ rw (other, locks) (lock_served n f s exclusive b c d core ours)
+            | inr locks ↦ rw (other, locks) (lock_served n f s exclusive b c d core able ours)
           ]
     ]

@@ -1,5 +1,6 @@
 pub mod Enter
 pub mod Job
 pub mod Made
+pub mod Replays
 pub mod Serve
 pub mod Words

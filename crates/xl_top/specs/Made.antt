@@ -13,6 +13,7 @@ use Rattle.xl_programs.specs.declared.program.Program.TheVariants as programs
 use Rattle.xl_nlm.specs.Arguments.{procedure_of, arguments}
 use Rattle.xl_nlm.specs.Granted.{no_auth}
 use Rattle.xl_nlm.specs.Items.{LockItem, CallItem, Test, Lock, Unlock}
+use Rattle.xl_capture.specs.Capture.{all_stores, no_record}
 use Rattle.xl_capture.specs.Summary.{summary}
 use Rattle.xl_house.specs.Journals.{entries_of, replay}
 use Rattle.xl_house.specs.State.{start_of}
@@ -76,10 +77,14 @@ abbrev pub made_files : List (List ℕ)
 made_files = map (λ digit. 102 ∷ digit ∷ []) (codes "01234567")
 
 abbrev pub made_head : Head
-made_head = head_with (exports_with made_files [])
+made_head = head_with (exports_with made_files []) no_record
+
+-- these events, no store of which fails
+abbrev pub surely : List Event → List (Event × ℕ)
+surely events = map (λ event. (event, all_stores)) events
 
 unfoldable pub made_entries : ℕ → ℕ → List Entry
-made_entries seed count = entries_of (start_of made_head) (made seed count)
+made_entries seed count = entries_of (start_of made_head) (surely (made seed count))
 
 abbrev pub made_journal : ℕ → ℕ → Journal
 made_journal seed count = record { head = made_head; entries = made_entries seed count }

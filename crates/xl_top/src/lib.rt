@@ -1,8 +1,9 @@
 //! The program's top call.
 #![tactic(auto)]
 
-mod keeper;
 mod make;
+mod replay;
+mod replayer;
 mod serve;
 mod start;
 mod step;

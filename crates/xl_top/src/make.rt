@@ -6,15 +6,17 @@ ghost use Rattle.xl_rpc.specs.Calls.{HeadFits, shown_head};
 ghost use Rattle.xl_nlm.specs.Arguments.{CallFits, procedure_of};
 ghost use Rattle.xl_nlm.specs.Items.{shown_lock, shown_call};
 ghost use Rattle.xl_house.specs.Housed.{Housed, is_spoiled};
-ghost use Rattle.xl_house.specs.Journals.{replay, entries_of, most_entries};
+ghost use Rattle.xl_capture.specs.Capture.{all_stores};
+ghost use Rattle.xl_house.specs.Journals.{replay, entry, entries_of, is_restart, most_entries};
+ghost use Rattle.xl_house.specs.Machine.{step};
 ghost use Rattle.xl_house.specs.State.{start_of};
 ghost use Rattle.xl_top.specs.Words.{most_made};
-ghost use Rattle.xl_top.specs.Made.{next, draw, fourth, exclusive_by, lock_by, asked_by, call_by, call_from, head_to, record_of, calls_from, made, made_files, made_head, made_entries};
+ghost use Rattle.xl_top.specs.Made.{next, draw, fourth, exclusive_by, lock_by, asked_by, call_by, call_from, head_to, record_of, calls_from, made, made_files, made_head, made_entries, surely};
 
-use crate::keeper::SureKeeper;
 use crate::start::{exports_with, start};
 use std::alloc::{AllocError, Global};
-use xl_base::{Event, Halt, Kind, Sequence, handle_of};
+use xl_base::{BudgetKeeper, Event, Halt, Kind, Record, Sequence, handle_of};
+use xl_capture::ALL_STORES;
 use xl_house::House;
 use xl_nlm::{Lock, LockArgs, NlmCall, TestArgs, UnlockArgs, procedure, write};
 use xl_programs::{NLM, NLM_VERSION};
@@ -167,16 +169,40 @@ fn files(alloc: Global) -> Result<Sequence<Sequence<u8>>, AllocError>
     Ok(files)
 }
 
+/// Steps one event, no store of which fails. An error leaves the journal as it was.
+fn step_surely(alloc: Global, house: &mut House<BudgetKeeper>, event: Event) -> Result<(), Halt>
+    requires steps { is_restart event ≡ false }
+    requires goes { house.old.halt ≡ None }
+    requires room { length house.old.entries < most_entries }
+    ensures head { house.new.head ≡ house.old.head }
+    ensures ok { OnOk result ((house.new.entries ≡ house.old.entries ++ entry all_stores (replay (start_of house.old.head) house.old.entries) event ∷ []) × (replay (start_of house.old.head) house.new.entries ≡ (step all_stores (replay (start_of house.old.head) house.old.entries) event).next)) }
+    ensures goes { OnOk result (house.new.halt ≡ None) }
+    ensures err { OnErr result (house.new.entries ≡ house.old.entries) }
+    ensures memory { IfErr result (λ halt. halt ≡ Halt.NoMemory) }
+{
+    house.allow(ALL_STORES);
+    match house.step(alloc, event) {
+        Ok(_) => Ok(()),
+        Err(halt) => Err(halt),
+    }
+}
+
 /// Steps so many calls by the draws behind x, each made once the one before is stepped (MAKE-2). An error leaves a
 /// beginning of their entries.
-fn step_calls(alloc: Global, house: &mut House<SureKeeper>, x: u32, count: u32) -> Result<(), Halt>
+#[tactic(auto, using(crate::proofs::MadeLaws::front_so))]
+fn step_calls(
+    alloc: Global,
+    house: &mut House<BudgetKeeper>,
+    x: u32,
+    count: u32,
+) -> Result<(), Halt>
     requires goes { house.old.halt ≡ None }
     requires begun { length house.old.entries ≡ 1 }
     requires seed { x < 2 ^ 31 }
     requires few { count ≤ most_made }
     ensures head { house.new.head ≡ house.old.head }
-    ensures ok { OnOk result (house.new.entries ≡ house.old.entries ++ entries_of (replay (start_of house.old.head) house.old.entries) (calls_from x 1 count)) }
-    ensures err { OnErr result (take (length house.new.entries) (house.old.entries ++ entries_of (replay (start_of house.old.head) house.old.entries) (calls_from x 1 count)) ≡ house.new.entries) }
+    ensures ok { OnOk result (house.new.entries ≡ house.old.entries ++ entries_of (replay (start_of house.old.head) house.old.entries) (surely (calls_from x 1 count))) }
+    ensures err { OnErr result (take (length house.new.entries) (house.old.entries ++ entries_of (replay (start_of house.old.head) house.old.entries) (surely (calls_from x 1 count))) ≡ house.new.entries) }
     ensures unspoiled { OnOk result (is_spoiled house.new.halt ≡ false) }
     ensures memory { IfErr result (λ halt. halt ≡ Halt.NoMemory) }
 {
@@ -189,7 +215,7 @@ fn step_calls(alloc: Global, house: &mut House<SureKeeper>, x: u32, count: u32) 
         let Ok(event) = event(alloc, &mut out, number, draws) else {
             return Err(Halt::NoMemory);
         };
-        if let Err(halt) = house.step(alloc, event) {
+        if let Err(halt) = step_surely(alloc, house, event) {
             return Err(halt);
         }
         x = last;
@@ -202,7 +228,7 @@ fn step_calls(alloc: Global, house: &mut House<SureKeeper>, x: u32, count: u32) 
 /// Opens the connection of the calls, and steps them. An error leaves a beginning of their entries.
 fn step_made(
     alloc: Global,
-    house: &mut House<SureKeeper>,
+    house: &mut House<BudgetKeeper>,
     seed: u32,
     count: u32,
 ) -> Result<(), Halt>
@@ -211,21 +237,23 @@ fn step_made(
     requires seed { seed < 2 ^ 31 }
     requires few { count ≤ most_made }
     ensures head { house.new.head ≡ house.old.head }
-    ensures ok { OnOk result (house.new.entries ≡ entries_of (start_of house.old.head) (made seed count)) }
-    ensures err { OnErr result (take (length house.new.entries) (entries_of (start_of house.old.head) (made seed count)) ≡ house.new.entries) }
+    ensures ok { OnOk result (house.new.entries ≡ entries_of (start_of house.old.head) (surely (made seed count))) }
+    ensures err { OnErr result (take (length house.new.entries) (entries_of (start_of house.old.head) (surely (made seed count))) ≡ house.new.entries) }
     ensures unspoiled { OnOk result (is_spoiled house.new.halt ≡ false) }
     ensures memory { IfErr result (λ halt. halt ≡ Halt.NoMemory) }
 {
-    if let Err(halt) = house.step(alloc, Event::Open(Kind::Rpc)) {
-        return Err(halt);
-    }
+    step_surely(alloc, house, Event::Open(Kind::Rpc))?;
     step_calls(alloc, house, seed, count)
 }
 
 /// A house that stepped the calls of a seed, and whether it stepped them all; if not, memory ran out. None comes for want
 /// of memory at the start.
 #[tactic(auto, unfolding(crate::specs::Made::made_entries))]
-pub(crate) fn made_house(alloc: Global, seed: u32, count: u32) -> Option<(House<SureKeeper>, bool)>
+pub(crate) fn made_house(
+    alloc: Global,
+    seed: u32,
+    count: u32,
+) -> Option<(House<BudgetKeeper>, bool)>
     requires seed { seed < 2 ^ 31 }
     requires few { count ≤ most_made }
     ensures head { IfSome result (λ r. r.0.head ≡ made_head) }
@@ -235,7 +263,8 @@ pub(crate) fn made_house(alloc: Global, seed: u32, count: u32) -> Option<(House<
     let Ok(files) = files(alloc) else {
         return None;
     };
-    let mut house = start(alloc, exports_with(files, Sequence::new(alloc)))?;
+    let exports = exports_with(files, Sequence::new(alloc));
+    let mut house = start(alloc, exports, Record::new(alloc))?;
     match step_made(alloc, &mut house, seed, count) {
         Ok(()) => Some((house, true)),
         Err(_) => Some((house, false)),

@@ -2,10 +2,9 @@
 ghost use Rattle.std.specs.Prelude.{◌≡◌, [], None, IfSome};
 ghost use Rattle.xl_top.specs.Job.{exports_with, head_with};
 
-use crate::keeper::SureKeeper;
 use std::alloc::Global;
-use xl_base::{Exports, Halt, Moment, Record, Sequence};
-use xl_capture::{DEFAULT_BREAK, DEFAULT_GRACE, DEFAULT_LEASE};
+use xl_base::{BudgetKeeper, Exports, Halt, Moment, Record, Sequence};
+use xl_capture::{ALL_STORES, DEFAULT_BREAK, DEFAULT_GRACE, DEFAULT_LEASE};
 use xl_house::House;
 
 /// These files and these callers' addresses, with the default times.
@@ -24,16 +23,18 @@ pub(crate) fn exports_with(
     }
 }
 
-/// A house over these exports, of a server that never started before. None comes if memory runs out.
-pub(crate) fn start(alloc: Global, exports: Exports) -> Option<House<SureKeeper>>
-    ensures { IfSome result (λ h. (h.head ≡ head_with exports) × ((h.entries ≡ []) × (h.halt ≡ None))) }
+/// A house over these exports, of a server that finds this record; its keeper is in memory, and no store of its start fails. None
+/// comes if memory runs out.
+pub(crate) fn start(alloc: Global, exports: Exports, stable: Record) -> Option<House<BudgetKeeper>>
+    ensures { IfSome result (λ h. (h.head ≡ head_with exports stable) × ((h.entries ≡ []) × (h.halt ≡ None))) }
 {
-    let keeper = SureKeeper::new(alloc, Record::new(alloc));
+    let keeper = BudgetKeeper::new(stable, ALL_STORES);
     match House::start(alloc, exports, keeper, Moment(0)) {
         Ok(house) => Some(house),
         Err(ended) => match ended.halt {
             Halt::NoMemory => None,
-            Halt::JournalFull(_) | Halt::StartStore(_) => unreachable!(),
+            Halt::JournalFull(_) => unreachable!(),
+            Halt::StartStore(_) => unreachable!(),
         },
     }
 }

@@ -1,18 +1,33 @@
-//! Events that are entered one behind another, through one desk.
-ghost use Rattle.std.specs.Prelude.{◌≡◌, ℕ, ◌<◌, [], length, take, true, false, None, Ok, Err, OnOk};
+//! Steps of a capture, entered through one desk up to each start of the server.
+ghost use Rattle.std.specs.Prelude.{◌≡◌, ◌≢◌, ℕ, ◌<◌, ◌≤◌, ◌∷◌, ◌++◌, [], length, take, true, false, Some, None, List, Ok, Err, OnOk, OnErr, IfOk, IfErr, IsOkAnd};
+ghost use Rattle.std.specs.Vec.Iter.{into_iter_items, into_iter_len};
+ghost use Rattle.xl_base.specs.declared.event.Event.{Event as TheEvent};
 ghost use Rattle.xl_house.specs.Housed.{is_spoiled};
-ghost use Rattle.xl_house.specs.Journals.{IsLegal, entries_of, is_restart, most_entries};
+ghost use Rattle.xl_house.specs.Journals.{IsLegal, IsOrderly, is_restart, most_entries};
 ghost use Rattle.xl_house.specs.Serials.{MayHalt};
 ghost use Rattle.xl_house.specs.State.{start_of};
-ghost use Rattle.xl_top.specs.Enter.{AreEntered, HasEntered, IsAlone, entered_as, halt_in};
-ghost use Rattle.xl_top.specs.Job.{AreSteps, is_whole};
+ghost use Rattle.xl_top.specs.Enter.{HasEntered, HasPaused, HasRun, IsAlone, entered_as, halt_in};
+ghost use Rattle.xl_base.specs.declared.event.Event.TheVariants.{Restart};
+ghost use Rattle.xl_capture.specs.declared.step.Step.{Step as TheStep};
+ghost use Rattle.xl_top.specs.Replays.{AreMade, IsEnded, IsLeft, entries_left, events_in, events_of, head_left, origin_of, stores_of};
 
-use crate::keeper::SureKeeper;
+use crate::replayer::Replayer;
 use std::alloc::Global;
 use std::sync::Wait;
-use xl_base::{Event, Halt};
+use std::vec::IntoIter;
+use xl_base::{BudgetKeeper, Event, Halt};
+use xl_capture::Step;
 use xl_desk::{Desk, DeskErr, NoRoom, Pass, Receipt};
-use xl_house::House;
+use xl_house::{Ended, House};
+
+/// A replay that made its steps, or that stopped.
+#[derive(Drop)]
+pub(crate) struct Replayed {
+    /// The house; or what is left of one whose start failed, or found no memory.
+    pub left: Result<House<BudgetKeeper>, Ended<BudgetKeeper>>,
+    /// Why it stopped, if it did.
+    pub ended: Result<(), Halt>,
+}
 
 /// Why a call of the desk entered nothing.
 fn halt_in(refused: DeskErr) -> Halt
@@ -34,12 +49,29 @@ fn entered_as(called: Result<Receipt, DeskErr>) -> Result<(), Halt>
     }
 }
 
+/// A replay whose house is there still.
+fn stopped(replayer: Replayer, ended: Result<(), Halt>) -> Replayed
+    ensures { result ≡ record { left = Ok replayer.house; ended = ended } }
+{
+    Replayed {
+        left: Ok(replayer.into_house()),
+        ended,
+    }
+}
+
+/// Whether an event starts the server again.
+fn is_restart(event: &Event) -> bool
+    ensures { result ≡ is_restart event.now }
+{
+    matches!(event, Event::Restart)
+}
+
 /// Enters one event, by the only pass of a desk.
 fn call_one<R: Wait>(
     rt: &R,
     alloc: Global,
-    desk: &Desk<House<SureKeeper>>,
-    pass: &mut Pass<House<SureKeeper>>,
+    desk: &Desk<Replayer>,
+    pass: &mut Pass<Replayer>,
     event: Event,
 ) -> Result<(), Halt>
     requires desk { pass.old.desk ≡ desk.now }
@@ -55,69 +87,123 @@ fn call_one<R: Wait>(
     entered_as(called)
 }
 
-/// Enters the events in order, by the only pass of a desk that has no entry yet.
-#[tactic(auto, using(crate::proofs::EnterLaws::one_more, crate::proofs::EnterLaws::cut_short, crate::proofs::EnterLaws::all_entered))]
-fn call_all<R: Wait>(
+/// Enters steps in order, by the only pass of a desk, up to the next restart, and tells whether one came.
+#[tactic(auto, using(crate::proofs::EnterLaws::one_more, crate::proofs::EnterLaws::all_entered))]
+fn call_run<R: Wait>(
     rt: &R,
     alloc: Global,
-    desk: &Desk<House<SureKeeper>>,
-    pass: &mut Pass<House<SureKeeper>>,
-    events: Vec<Event>,
-) -> Result<(), Halt>
+    desk: &Desk<Replayer>,
+    pass: &mut Pass<Replayer>,
+    steps: &mut IntoIter<Step, Global>,
+) -> Result<bool, Halt>
     requires desk { pass.old.desk ≡ desk.now }
     requires alone { IsAlone pass.old.view }
-    requires begun { pass.old.view.seen ≡ [] }
-    requires steps { AreSteps events.items }
     ensures desk { pass.new.desk ≡ pass.old.desk }
     ensures alone { IsAlone pass.new.view }
     ensures origin { pass.new.view.origin ≡ pass.old.view.origin }
-    ensures entered { AreEntered pass.new.view events.items result }
+    ensures fewer { result ≡ Ok true → into_iter_len steps.new < into_iter_len steps.old }
+    ensures paused { HasPaused pass.new.view.seen (events_of (into_iter_items steps.new)) (events_in pass.old.view.seen ++ events_of (into_iter_items steps.old)) result }
 {
-    for event in events {
+    'steps: while let Some(Step { event, stores: _ }) = steps.next() {
+        if is_restart(&event) {
+            return Ok(true);
+        }
         if let Err(halt) = call_one(rt, alloc, desk, pass, event) {
             return Err(halt);
         }
     }
-    Ok(())
+    Ok(false)
 }
 
 /// How the steps of a house ended whose calls ended so.
-fn ended_in(house: &House<SureKeeper>, called: Result<(), Halt>) -> Result<(), Halt>
-    ensures spoiled { is_whole result ≡ true → is_spoiled house.now.halt ≡ false }
-    ensures ok { OnOk result (called ≡ result) }
-    ensures err { (count : ℕ) → result ≡ Err (Halt.JournalFull count) → called ≡ Err (Halt.JournalFull count) }
-    ensures started { (count : ℕ) → result ≡ Err (Halt.StartStore count) → called ≡ Err (Halt.StartStore count) }
+fn ended_in(replayer: &Replayer, called: Result<bool, Halt>) -> Result<bool, Halt>
+    ensures same { result ≢ Err Halt.NoMemory → (called ≡ result) × (is_spoiled replayer.now.house.halt ≡ false) }
 {
-    if house.is_spoiled() {
+    if replayer.is_spoiled() {
         return Err(Halt::NoMemory);
     }
     called
 }
 
-/// Steps the events in order, through one desk. After an error the house is halted, and its journal has the entries of the first of
-/// them.
-pub(crate) fn step_all<R: Wait>(
+/// Enters steps in order, through one desk, up to the next restart, and tells whether one came.
+fn step_run<R: Wait>(
     rt: &R,
     alloc: Global,
-    house: House<SureKeeper>,
-    events: Vec<Event>,
-) -> (House<SureKeeper>, Result<(), Halt>)
-    requires goes { house.halt ≡ None }
-    requires begun { house.entries ≡ [] }
-    requires steps { AreSteps events.items }
-    ensures head { result.0.head ≡ house.head }
-    ensures ok { OnOk result.1 (result.0.entries ≡ entries_of (start_of house.head) events.items) }
-    ensures begun { take (length result.0.entries) (entries_of (start_of house.head) events.items) ≡ result.0.entries }
-    ensures full { (count : ℕ) → result.1 ≡ Err (Halt.JournalFull count) → (length result.0.entries ≡ most_entries) × (most_entries < length events.items) }
-    ensures whole { is_whole result.1 ≡ true → is_spoiled result.0.halt ≡ false }
-    ensures started { (count : ℕ) → result.1 ≡ Err (Halt.StartStore count) → ⊥ }
+    replayer: Replayer,
+    steps: &mut IntoIter<Step, Global>,
+) -> (Replayer, Result<bool, Halt>)
+    requires goes { replayer.house.halt ≡ None }
+    requires made { AreMade (start_of replayer.house.head) replayer.house.entries replayer.allowed }
+    ensures made { AreMade (start_of result.0.house.head) result.0.house.entries result.0.allowed }
+    ensures origin { origin_of result.0 ≡ origin_of replayer }
+    ensures fewer { result.1 ≡ Ok true → into_iter_len steps.new < into_iter_len steps.old }
+    ensures run { HasRun result.0.house.entries (events_of (into_iter_items steps.new)) (events_in replayer.house.entries ++ events_of (into_iter_items steps.old)) result.1 }
+    ensures whole { result.1 ≢ Err Halt.NoMemory → is_spoiled result.0.house.halt ≡ false }
 {
-    let (desk, mut pass) = match Desk::make(alloc, house) {
+    let (desk, mut pass) = match Desk::make(alloc, replayer) {
         Ok(made) => made,
         Err(NoRoom { machine }) => return (machine, Err(Halt::NoMemory)),
     };
-    let called = call_all(rt, alloc, &desk, &mut pass, events);
-    let house = desk.close(pass);
-    let ended = ended_in(&house, called);
-    (house, ended)
+    let called = call_run(rt, alloc, &desk, &mut pass, steps);
+    let replayer = desk.close(pass);
+    let ended = ended_in(&replayer, called);
+    (replayer, ended)
+}
+
+/// Starts the server again.
+fn start_again(alloc: Global, replayer: Replayer) -> Result<Replayer, Replayed>
+    ensures goes { IfOk result (λ r. r.house.halt ≡ None) }
+    ensures made { IfOk result (λ r. AreMade (start_of r.house.head) r.house.entries r.allowed) }
+    ensures origin { IfOk result (λ r. origin_of r ≡ origin_of replayer) }
+    ensures entered { IfOk result (λ r. events_in r.house.entries ≡ events_in replayer.house.entries ++ Restart ∷ []) }
+    ensures head { IfErr result (λ r. head_left r.left ≡ replayer.house.head) }
+    ensures ended { (steps : List TheStep) (rest : List TheEvent) → replayer.allowed ≡ stores_of steps → events_in replayer.house.entries ++ Restart ∷ rest ≡ events_of steps → IfErr result (λ r. IsEnded (start_of replayer.house.head) steps (entries_left r.left) r.ended) }
+    ensures left { IfErr result (λ r. IsLeft r.left r.ended) }
+{
+    if let Some(halt) = replayer.barred() {
+        return Err(Replayed {
+            left: Ok(replayer.into_house()),
+            ended: Err(halt),
+        });
+    }
+    match replayer.restart(alloc) {
+        Ok(again) => Ok(again),
+        Err(ended) => {
+            let halt = ended.halt;
+            Err(Replayed {
+                left: Err(ended),
+                ended: Err(halt),
+            })
+        }
+    }
+}
+
+/// Makes the steps in order: those up to each restart through a desk of their own, and the server's start behind it.
+pub(crate) fn step_all<R: Wait>(
+    rt: &R,
+    alloc: Global,
+    replayer: Replayer,
+    steps: Vec<Step>,
+) -> Replayed
+    requires goes { replayer.house.halt ≡ None }
+    requires begun { replayer.house.entries ≡ [] }
+    requires allowed { replayer.allowed ≡ stores_of steps.items }
+    ensures head { head_left result.left ≡ replayer.house.head }
+    ensures ended { IsEnded (start_of replayer.house.head) steps.items (entries_left result.left) result.ended }
+    ensures left { IsLeft result.left result.ended }
+{
+    let mut replayer = replayer;
+    let mut steps = steps.into_iter();
+    'starts: loop {
+        let (paused, run) = step_run(rt, alloc, replayer, &mut steps);
+        match run {
+            Ok(true) => {}
+            Ok(false) => return stopped(paused, Ok(())),
+            Err(halt) => return stopped(paused, Err(halt)),
+        }
+        match start_again(alloc, paused) {
+            Ok(again) => replayer = again,
+            Err(replayed) => return replayed,
+        }
+    }
 }

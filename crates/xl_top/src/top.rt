@@ -6,6 +6,7 @@ ghost use Rattle.xl_capture.specs.Capture.{captured, most_bytes};
 ghost use Rattle.xl_house.specs.Lawful.{Always, IsLawful, IsWaiting, IsKept, IsComplete, IsCaused, IsTold};
 ghost use Rattle.xl_house.specs.Awaited.{IsServed};
 ghost use Rattle.xl_house.specs.Fitting.{IsFitting};
+ghost use Rattle.xl_house.specs.Recording.{IsAdmitting, IsRecording};
 ghost use Rattle.xl_house.specs.Steady.{IsSteady};
 ghost use Rattle.xl_house.specs.Entries.{IsWishing, IsBreaking, IsKeeping, IsPartied};
 ghost use Rattle.xl_house.specs.Owed.{IsOwed};
@@ -18,34 +19,34 @@ ghost use Rattle.xl_house.specs.Housed.{Holds, Housed, is_spoiled};
 ghost use Rattle.xl_house.specs.Starts.{IsLoaded};
 ghost use Rattle.xl_house.specs.Journals.{replay, IsLegal, IsOrderly, entries_of, most_entries};
 ghost use Rattle.xl_house.specs.State.{start_of};
-ghost use Rattle.xl_top.specs.Job.{is_status, is_stepped, is_read, is_replay, is_shown, is_show, is_made, is_idle, AddsShown, BeginsShown, capped, head_of, journal_of, no_journal, IsReplayed, IsBegun, BeginsAs, IsCutAt, AreSteps, is_whole, is_done, is_full, transcript_from, whole_transcript};
+ghost use Rattle.xl_top.specs.Job.{is_status, is_stepped, is_read, is_replay, is_housed, is_shown, is_show, is_made, is_idle, AddsShown, BeginsShown, capped, head_of, journal_of, no_journal, IsReplayed, IsBegun, BeginsAs, IsCutAt, IsUnstartedAt, FailsBefore, is_done, is_failed, is_full, outs_transcript, transcript_from, whole_transcript};
 ghost use Rattle.xl_capture.specs.Show.{shown};
 ghost use Rattle.xl_capture.specs.Summary.{granted, denied};
-ghost use Rattle.xl_capture.specs.Transcript.{transcript};
+ghost use Rattle.xl_capture.specs.Transcript.{entry_lines, transcript};
 ghost use Rattle.xl_top.specs.Made.{IsMadePart, made_journal, summary_from, whole_summary};
 ghost use Rattle.xl_base.specs.Results.{GivesUnless};
 ghost use Rattle.xl_capture.specs.Capture.{bad_line};
 ghost use Rattle.xl_capture.specs.Written.{capture_of};
 ghost use Rattle.xl_work.specs.Crews.{tells_caller, tells_lane};
 ghost use Rattle.xl_top.specs.declared.words.Serving.{Serving as TheServing};
-ghost use Rattle.xl_top.specs.Serve.{AreIdle, HasRoom, IsServedBy, exported, is_exported, is_refused, is_serve, is_served};
+ghost use Rattle.xl_top.specs.Replays.{pairs_in};
+ghost use Rattle.xl_top.specs.Serve.{AreIdle, HasRoom, IsServedBy, exported, is_exported, is_refused, is_serve, is_served, is_unstarted, is_unstored};
 ghost use Rattle.xl_top.specs.Words.{job, HasFit, is_reader, is_server, most_made};
 
-use crate::keeper::SureKeeper;
 use crate::make::made_house;
+use crate::replay::replay;
 use crate::serve::{idle_lanes, serve};
-use crate::start::{exports_with, start};
-use crate::step::step_all;
+use crate::start::exports_with;
 use crate::words::{Job, ParseError, Serving, parse};
 use std::alloc::{AllocError, AllocFailed, Global};
 use std::sync::Wait;
 use std::thread::Threads;
 use xl_base::{
-    Caller, Clock, Event, Exports, Halt, Head, Journal, Keeper, Lane, Moment, ReadOutcome, Record,
-    Sequence, Sink, Source, WriteOutcome,
+    BudgetKeeper, Caller, Clock, Exports, Halt, Head, Journal, Keeper, Lane, Moment, ReadOutcome,
+    Record, Sequence, Sink, Source, WriteOutcome,
 };
 use xl_capture::{
-    Capture, CaptureError, MOST_BYTES, read_capture, read_header, show_text, summary, transcript,
+    Capture, CaptureError, MOST_BYTES, read_capture, read_header, show_text, summary,
 };
 use xl_house::House;
 use xl_work::LaneDone;
@@ -76,8 +77,8 @@ pub struct Outside<K, L, C, T> {
 #[derive(Drop)]
 pub struct Done<K, L, C, T> {
     /// 0: the job was done to the end of the input. 1: the words ask for no job. 2: the source failed. 3: the sink
-    /// failed. 4: a line isn't in its grammar. 5: the keeper failed at the start of what was to be served. 6: memory ran out. 7: an
-    /// event met a full journal.
+    /// failed. 4: a line isn't in its grammar. 5: a start failed, since the record could not be loaded or stored. 6: memory ran out. 7:
+    /// an event met a full journal.
     pub status: u8,
     /// At status 4 the number of the first such line, counted from 1; else 0.
     pub line: u64,
@@ -164,29 +165,8 @@ pub(crate) enum Written {
     NoMemory,
 }
 
-/// Writes the transcript of a house's journal.
-#[tactic(auto, using(crate::proofs::WriteLaws::began_none, crate::proofs::WriteLaws::began_all))]
-fn write_whole<O: Sink>(alloc: Global, house: &House<SureKeeper>, out: &mut O) -> Written
-    requires { is_spoiled house.now.halt ≡ false }
-    ensures all { result ≡ Written.All → Added (O.held out.old) (transcript_from house.now.head house.now.entries) (O.held out.new) }
-    ensures began { Began (O.held out.old) (transcript_from house.now.head house.now.entries) (O.held out.new) }
-    ensures failed { result ≡ Written.Failed → Rose (O.faults out.old) (O.faults out.new) }
-    ensures still { result ≢ Written.Failed → O.faults out.new ≡ O.faults out.old }
-{
-    let Ok(claims) = house.dump(alloc) else {
-        return Written::NoMemory;
-    };
-    let Ok(text) = transcript(alloc, house.outs_from(0), &claims, house.names()) else {
-        return Written::NoMemory;
-    };
-    match out.write(&text) {
-        WriteOutcome::Wrote => Written::All,
-        WriteOutcome::Failed => Written::Failed,
-    }
-}
-
 /// The journal of a house that steps no more.
-fn journal_in(house: House<SureKeeper>) -> Journal
+pub(crate) fn journal_in(house: House<BudgetKeeper>) -> Journal
     ensures journal { (result.head ≡ house.head) × (result.entries ≡ house.entries) }
     ensures legal { IsLegal (start_of result.head) result.entries }
     ensures served { Always IsServed (start_of result.head) result.entries }
@@ -217,121 +197,23 @@ pub(crate) fn idle(alloc: Global, status: u8, line: u64) -> Report
     }
 }
 
-/// A house that stepped the events of a capture, and how the last step ended. None comes if memory runs out at the start.
-fn step_capture<R: Wait>(
-    rt: &R,
-    alloc: Global,
-    capture: Capture,
-) -> Option<(House<SureKeeper>, Result<(), Halt>)>
-    requires { AreSteps capture.events }
-    ensures head { IfSome result (λ r. r.0.head ≡ head_of capture) }
-    ensures ok { IfSome result (λ r. OnOk r.1 (r.0.entries ≡ entries_of (start_of (head_of capture)) capture.events)) }
-    ensures begun { IfSome result (λ r. take (length r.0.entries) (entries_of (start_of (head_of capture)) capture.events) ≡ r.0.entries) }
-    ensures full { IfSome result (λ r. (count : ℕ) → r.1 ≡ Err (Halt.JournalFull count) → (length r.0.entries ≡ most_entries) × (most_entries < length capture.events)) }
-    ensures whole { IfSome result (λ r. is_whole r.1 ≡ true → is_spoiled r.0.halt ≡ false) }
-    ensures started { IfSome result (λ r. (count : ℕ) → r.1 ≡ Err (Halt.StartStore count) → ⊥) }
-{
-    let Capture {
-        files,
-        addresses,
-        lease,
-        grace,
-        break_time,
-        events,
-    } = capture;
-    let exports = Exports {
-        files,
-        addresses: addresses.into_sequence(),
-        lease,
-        grace,
-        break_time,
-    };
-    let house = start(alloc, exports)?;
-    Some(step_all(rt, alloc, house, events.into_vec()))
-}
-
-/// Writes the transcript of a house whose last step ended so, if it has one, and gives the status: at a full journal 7, also
-/// if the sink failed, and 6 if memory runs out for the transcript (TEXT-13).
-#[tactic(auto, using(crate::proofs::WriteLaws::began_none))]
-fn write_ended<O: Sink>(
-    alloc: Global,
-    house: &House<SureKeeper>,
-    ended: Result<(), Halt>,
-    out: &mut O,
-) -> u8
-    requires whole { is_whole ended ≡ true → is_spoiled house.now.halt ≡ false }
-    requires started { (count : ℕ) → ended ≡ Err (Halt.StartStore count) → ⊥ }
-    ensures known { is_stepped result ≡ true }
-    ensures done { result ≡ 0 → is_done ended ≡ true }
-    ensures unwritten { result ≡ 3 → is_done ended ≡ true }
-    ensures full { result ≡ 7 → is_full ended ≡ true }
-    ensures written { result ≡ 0 → Added (O.held out.old) (transcript_from house.now.head house.now.entries) (O.held out.new) }
-    ensures began { Began (O.held out.old) (transcript_from house.now.head house.now.entries) (O.held out.new) }
-    ensures failed { result ≡ 3 → Rose (O.faults out.old) (O.faults out.new) }
-    ensures still { result ≢ 3 → result ≢ 7 → O.faults out.new ≡ O.faults out.old }
-    ensures written_full { result ≡ 7 → (Rose (O.faults out.old) (O.faults out.new) → ⊥) → Added (O.held out.old) (transcript_from house.now.head house.now.entries) (O.held out.new) }
-{
-    match ended {
-        Err(Halt::NoMemory) => 6,
-        Err(Halt::JournalFull(_)) => match write_whole(alloc, house, out) {
-            Written::All | Written::Failed => 7,
-            Written::NoMemory => 6,
-        },
-        Err(Halt::StartStore(_)) => unreachable!(),
-        Ok(()) => match write_whole(alloc, house, out) {
-            Written::All => 0,
-            Written::Failed => 3,
-            Written::NoMemory => 6,
-        },
-    }
-}
-
-/// Replays a capture, and writes its transcript.
-fn replay<O: Sink, R: Wait>(rt: &R, alloc: Global, capture: Capture, out: &mut O) -> Report
-    requires { AreSteps capture.events }
-    ensures known { is_stepped result.status ≡ true }
-    ensures line { result.line ≡ 0 }
-    ensures replayed { result.status ≡ 0 → result.journal ≡ journal_of capture }
-    ensures unwritten { result.status ≡ 3 → result.journal ≡ journal_of capture }
-    ensures begun { BeginsAs capture result.journal }
-    ensures full { result.status ≡ 7 → IsCutAt most_entries (Ok capture) result.journal }
-    ensures written { result.status ≡ 0 → Added (O.held out.old) (whole_transcript result.journal) (O.held out.new) }
-    ensures began { Began (O.held out.old) (whole_transcript result.journal) (O.held out.new) }
-    ensures failed { result.status ≡ 3 → Rose (O.faults out.old) (O.faults out.new) }
-    ensures still { result.status ≢ 3 → result.status ≢ 7 → O.faults out.new ≡ O.faults out.old }
-    ensures written_full { result.status ≡ 7 → (Rose (O.faults out.old) (O.faults out.new) → ⊥) → Added (O.held out.old) (whole_transcript result.journal) (O.held out.new) }
-    ensures legal { IsLegal (start_of result.journal.head) result.journal.entries }
-    ensures served { Always IsServed (start_of result.journal.head) result.journal.entries }
-    ensures orderly { IsOrderly [] 0 result.journal.entries }
-    ensures most { length result.journal.entries ≤ most_entries }
-{
-    let Some((house, ended)) = step_capture(rt, alloc, capture) else {
-        return idle(alloc, 6, 0);
-    };
-    let status = write_ended(alloc, &house, ended, out);
-    let journal = journal_in(house);
-    Report {
-        status,
-        line: 0,
-        journal,
-    }
-}
-
 /// Replays the capture that a text is, and writes its transcript.
-#[tactic(auto, using(crate::proofs::JobLaws::captured_steps, crate::proofs::JobLaws::replayed_as, crate::proofs::JobLaws::begun_as, crate::proofs::JobLaws::cut_as, crate::proofs::JobLaws::bad_as))]
+#[tactic(auto, using(crate::proofs::JobLaws::replayed_as, crate::proofs::JobLaws::begun_as, crate::proofs::JobLaws::cut_as, crate::proofs::JobLaws::unstarted_as, crate::proofs::JobLaws::bad_as))]
 fn replay_text<O: Sink, R: Wait>(rt: &R, alloc: Global, text: &[u8], out: &mut O) -> Report
     ensures known { is_read result.status ≡ true }
     ensures replayed { result.status ≡ 0 → IsReplayed (captured text.now) result.journal }
     ensures unwritten { result.status ≡ 3 → IsReplayed (captured text.now) result.journal }
     ensures full { result.status ≡ 7 → IsCutAt most_entries (captured text.now) result.journal }
+    ensures unstarted { result.status ≡ 5 → IsUnstartedAt most_entries (captured text.now) result.journal }
     ensures bad { result.status ≡ 4 → captured text.now ≡ Err result.line }
     ensures line { result.status ≢ 4 → result.line ≡ 0 }
     ensures begun { result.status ≡ 6 → IsBegun (captured text.now) result.journal }
     ensures written { result.status ≡ 0 → Added (O.held out.old) (whole_transcript result.journal) (O.held out.new) }
     ensures began { Began (O.held out.old) (whole_transcript result.journal) (O.held out.new) }
     ensures failed { result.status ≡ 3 → Rose (O.faults out.old) (O.faults out.new) }
-    ensures still { result.status ≢ 3 → result.status ≢ 7 → O.faults out.new ≡ O.faults out.old }
+    ensures still { result.status ≢ 3 → result.status ≢ 5 → result.status ≢ 7 → O.faults out.new ≡ O.faults out.old }
     ensures written_full { result.status ≡ 7 → (Rose (O.faults out.old) (O.faults out.new) → ⊥) → Added (O.held out.old) (whole_transcript result.journal) (O.held out.new) }
+    ensures written_outs { result.status ≡ 5 → (Rose (O.faults out.old) (O.faults out.new) → ⊥) → Added (O.held out.old) (outs_transcript result.journal) (O.held out.new) }
     ensures idle { result.status ≡ 4 → (result.journal ≡ no_journal) × (O.held out.new ≡ O.held out.old) }
     ensures legal { IsLegal (start_of result.journal.head) result.journal.entries }
     ensures served { Always IsServed (start_of result.journal.head) result.journal.entries }
@@ -359,9 +241,12 @@ fn replay_input<I: Source, O: Sink, R: Wait>(
     ensures write { result.status ≡ 3 → Rose (O.faults out.old) (O.faults out.new) }
     ensures write_still { result.status ≢ 3 → result.status ≢ 5 → result.status ≢ 7 → O.faults out.new ≡ O.faults out.old }
     ensures written_full { result.status ≡ 7 → (Rose (O.faults out.old) (O.faults out.new) → ⊥) → Added (O.held out.old) (whole_transcript result.journal) (O.held out.new) }
+    ensures written_outs { result.status ≡ 5 → (Rose (O.faults out.old) (O.faults out.new) → ⊥) → Added (O.held out.old) (outs_transcript result.journal) (O.held out.new) }
     ensures replayed { (all : List ℕ) → I.left input.old ≡ Some all → result.status ≡ 0 → IsReplayed (captured (capped all)) result.journal }
     ensures unwritten { (all : List ℕ) → I.left input.old ≡ Some all → result.status ≡ 3 → IsReplayed (captured (capped all)) result.journal }
     ensures full { (all : List ℕ) → I.left input.old ≡ Some all → result.status ≡ 7 → IsCutAt most_entries (captured (capped all)) result.journal }
+    ensures unstarted { (all : List ℕ) → I.left input.old ≡ Some all → result.status ≡ 5 → IsUnstartedAt most_entries (captured (capped all)) result.journal }
+    ensures starts { (all : List ℕ) → I.left input.old ≡ Some all → FailsBefore most_entries (captured (capped all)) → result.status ≢ 2 → result.status ≢ 6 → result.status ≡ 5 }
     ensures bad { (all : List ℕ) → I.left input.old ≡ Some all → result.status ≡ 4 → captured (capped all) ≡ Err result.line }
     ensures line { result.status ≢ 4 → result.line ≡ 0 }
     ensures begun { (all : List ℕ) → I.left input.old ≡ Some all → result.status ≡ 6 → IsBegun (captured (capped all)) result.journal }
@@ -432,7 +317,7 @@ fn show_input<I: Source, O: Sink>(alloc: Global, input: &mut I, out: &mut O) -> 
 
 /// Writes the summary of a house's journal.
 #[tactic(auto, using(crate::proofs::WriteLaws::began_none, crate::proofs::WriteLaws::began_all))]
-fn write_summary<O: Sink>(alloc: Global, house: &House<SureKeeper>, out: &mut O) -> Written
+fn write_summary<O: Sink>(alloc: Global, house: &House<BudgetKeeper>, out: &mut O) -> Written
     requires { is_spoiled house.now.halt ≡ false }
     ensures all { result ≡ Written.All → Added (O.held out.old) (summary_from house.now.head house.now.entries) (O.held out.new) }
     ensures began { Began (O.held out.old) (summary_from house.now.head house.now.entries) (O.held out.new) }
@@ -453,7 +338,7 @@ fn write_summary<O: Sink>(alloc: Global, house: &House<SureKeeper>, out: &mut O)
 
 /// Writes the summary of a house that stepped all its calls, and gives the status.
 #[tactic(auto, using(crate::proofs::WriteLaws::began_none))]
-fn write_made<O: Sink>(alloc: Global, house: &House<SureKeeper>, all: bool, out: &mut O) -> u8
+fn write_made<O: Sink>(alloc: Global, house: &House<BudgetKeeper>, all: bool, out: &mut O) -> u8
     requires { all ≡ true → is_spoiled house.now.halt ≡ false }
     ensures known { is_made result ≡ true }
     ensures done { result ≡ 0 → all ≡ true }
@@ -544,7 +429,8 @@ fn exports_in(alloc: Global, text: &[u8]) -> Result<Exports, CaptureError>
         lease,
         grace,
         break_time,
-        events: _,
+        stable: _,
+        steps: _,
     } = read_header(alloc, text)?;
     Ok(Exports {
         files,
@@ -691,10 +577,13 @@ fn work<I: Source, O: Sink, R: Wait>(
     ensures replayed { job (map string_bytes words.now) ≡ Some Job.Replay → (all : List ℕ) → I.left input.old ≡ Some all → result.status ≡ 0 → IsReplayed (captured (capped all)) result.journal }
     ensures unwritten { job (map string_bytes words.now) ≡ Some Job.Replay → (all : List ℕ) → I.left input.old ≡ Some all → result.status ≡ 3 → IsReplayed (captured (capped all)) result.journal }
     ensures full { job (map string_bytes words.now) ≡ Some Job.Replay → (all : List ℕ) → I.left input.old ≡ Some all → result.status ≡ 7 → IsCutAt most_entries (captured (capped all)) result.journal }
+    ensures unable { job (map string_bytes words.now) ≡ Some Job.Replay → (all : List ℕ) → I.left input.old ≡ Some all → result.status ≡ 5 → IsUnstartedAt most_entries (captured (capped all)) result.journal }
+    ensures starts { job (map string_bytes words.now) ≡ Some Job.Replay → (all : List ℕ) → I.left input.old ≡ Some all → FailsBefore most_entries (captured (capped all)) → result.status ≢ 2 → result.status ≢ 6 → result.status ≡ 5 }
     ensures bad { job (map string_bytes words.now) ≡ Some Job.Replay → (all : List ℕ) → I.left input.old ≡ Some all → result.status ≡ 4 → captured (capped all) ≡ Err result.line }
     ensures begun { job (map string_bytes words.now) ≡ Some Job.Replay → (all : List ℕ) → I.left input.old ≡ Some all → result.status ≡ 6 → IsBegun (captured (capped all)) result.journal }
     ensures written { job (map string_bytes words.now) ≡ Some Job.Replay → result.status ≡ 0 → Added (O.held out.old) (whole_transcript result.journal) (O.held out.new) }
     ensures written_full { job (map string_bytes words.now) ≡ Some Job.Replay → result.status ≡ 7 → (Rose (O.faults out.old) (O.faults out.new) → ⊥) → Added (O.held out.old) (whole_transcript result.journal) (O.held out.new) }
+    ensures written_outs { job (map string_bytes words.now) ≡ Some Job.Replay → result.status ≡ 5 → (Rose (O.faults out.old) (O.faults out.new) → ⊥) → Added (O.held out.old) (outs_transcript result.journal) (O.held out.new) }
     ensures began { job (map string_bytes words.now) ≡ Some Job.Replay → Began (O.held out.old) (whole_transcript result.journal) (O.held out.new) }
     ensures shown { job (map string_bytes words.now) ≡ Some Job.Show → (all : List ℕ) → I.left input.old ≡ Some all → result.status ≡ 0 → AddsShown (O.held out.old) (shown (capped all)) (O.held out.new) }
     ensures shown_part { job (map string_bytes words.now) ≡ Some Job.Show → (all : List ℕ) → I.left input.old ≡ Some all → result.status ≡ 3 → BeginsShown (O.held out.old) (shown (capped all)) (O.held out.new) }
@@ -708,7 +597,7 @@ fn work<I: Source, O: Sink, R: Wait>(
     ensures numbers { (seed count : ℕ) → job (map string_bytes words.now) ≡ Some (Job.Make seed count) → result.status ≡ 0 → (length result.journal.entries ≡ count + 1) × (granted result.journal.entries + denied result.journal.entries ≡ count) }
     ensures made_alone { (seed count : ℕ) → job (map string_bytes words.now) ≡ Some (Job.Make seed count) → (is_made result.status ≡ true) × (I.left input.new ≡ I.left input.old) }
     ensures unserved { (s : TheServing) → job (map string_bytes words.now) ≡ Some (Job.Serve s) → (result.status ≡ 6) × (O.held out.new ≡ O.held out.old) }
-    ensures started { result.status ≢ 5 }
+    ensures started { result.status ≡ 5 → job (map string_bytes words.now) ≡ Some Job.Replay }
     ensures legal { IsLegal (start_of result.journal.head) result.journal.entries }
     ensures served { Always IsServed (start_of result.journal.head) result.journal.entries }
     ensures orderly { IsOrderly [] 0 result.journal.entries }
@@ -730,7 +619,7 @@ fn work<I: Source, O: Sink, R: Wait>(
 ///
 /// The journal that comes back has each event that was stepped, with what was sent for it. The clauses from `legal` to
 /// `served` hold for it whatever the input is, and at every status.
-#[tactic(auto, using(xl_house::proofs::MachineLaws::begun_free, xl_house::proofs::LawfulLaws::always_lawful, xl_house::proofs::LawfulLaws::always_waiting, xl_house::proofs::LawfulLaws::always_kept, xl_house::proofs::LawfulLaws::always_complete, xl_house::proofs::FittingLaws::always_fitting, xl_house::proofs::LawfulLaws::always_caused, xl_house::proofs::LawfulLaws::always_told, xl_house::proofs::SteadyLaws::always_steady, xl_house::proofs::EntryLaws::always_wishing, xl_house::proofs::EntryLaws::always_breaking, xl_house::proofs::EntryLaws::always_keeping, xl_house::proofs::OwedLaws::always_owed, xl_house::proofs::ReplyingLaws::always_replied, xl_house::proofs::EntryLaws::always_partied, xl_house::proofs::AskingLaws::always_asking, xl_house::proofs::NotifiedLaws::always_notified, xl_house::proofs::MeantLaws::always_meant))]
+#[tactic(auto, using(crate::proofs::ReplayLaws::remade_so, xl_house::proofs::MachineLaws::begun_free, xl_house::proofs::LawfulLaws::always_lawful, xl_house::proofs::LawfulLaws::always_waiting, xl_house::proofs::LawfulLaws::always_kept, xl_house::proofs::LawfulLaws::always_complete, xl_house::proofs::FittingLaws::always_fitting, xl_house::proofs::LawfulLaws::always_caused, xl_house::proofs::LawfulLaws::always_told, xl_house::proofs::SteadyLaws::always_steady, xl_house::proofs::RecordLaws::always_recording, xl_house::proofs::RecordLaws::always_admitting, xl_house::proofs::EntryLaws::always_wishing, xl_house::proofs::EntryLaws::always_breaking, xl_house::proofs::EntryLaws::always_keeping, xl_house::proofs::OwedLaws::always_owed, xl_house::proofs::ReplyingLaws::always_replied, xl_house::proofs::EntryLaws::always_partied, xl_house::proofs::AskingLaws::always_asking, xl_house::proofs::NotifiedLaws::always_notified, xl_house::proofs::MeantLaws::always_meant))]
 pub fn run<
     I: Source,
     O: Sink,
@@ -763,16 +652,20 @@ pub fn run<
     // If the words name no job, nothing is read, stepped or written, also if memory runs out.
     ensures untouched { job (map string_bytes words.now) ≡ None → (result.journal ≡ no_journal) × (input.new ≡ input.old) × (out.new ≡ out.old) }
 
-    // A replay read a capture if the status is 0, 3 or 7. At 4 the text is no capture, and the line is the first bad one. The
-    // whole transcript was written at 0, and at 7 unless the sink failed. A beginning of it was written at 3, 6 and 7, and
-    // nothing at 1, 2 and 4.
+    // A replay read a capture if the status is 0, 3, 5 or 7. It is 5 exactly if a start of the capture is to fail before the journal is
+    // full, unless the source failed or memory ran out. At 4 the text is no capture, and the line is the first bad one. The
+    // whole transcript was written at 0, and at 7 unless the sink failed; at 5 its outs alone, without what is held, unless the sink
+    // failed. A beginning of it was written at 3, 5, 6 and 7, and nothing at 1, 2 and 4.
     ensures replayed { job (map string_bytes words.now) ≡ Some Job.Replay → (all : List ℕ) → I.left input.old ≡ Some all → result.status ≡ 0 → IsReplayed (captured (capped all)) result.journal }
     ensures unwritten { job (map string_bytes words.now) ≡ Some Job.Replay → (all : List ℕ) → I.left input.old ≡ Some all → result.status ≡ 3 → IsReplayed (captured (capped all)) result.journal }
     ensures full { job (map string_bytes words.now) ≡ Some Job.Replay → (all : List ℕ) → I.left input.old ≡ Some all → result.status ≡ 7 → IsCutAt most_entries (captured (capped all)) result.journal }
+    ensures unable { job (map string_bytes words.now) ≡ Some Job.Replay → (all : List ℕ) → I.left input.old ≡ Some all → result.status ≡ 5 → IsUnstartedAt most_entries (captured (capped all)) result.journal }
+    ensures starts { job (map string_bytes words.now) ≡ Some Job.Replay → (all : List ℕ) → I.left input.old ≡ Some all → FailsBefore most_entries (captured (capped all)) → result.status ≢ 2 → result.status ≢ 6 → result.status ≡ 5 }
     ensures bad { job (map string_bytes words.now) ≡ Some Job.Replay → (all : List ℕ) → I.left input.old ≡ Some all → result.status ≡ 4 → captured (capped all) ≡ Err result.line }
     ensures begun { job (map string_bytes words.now) ≡ Some Job.Replay → (all : List ℕ) → I.left input.old ≡ Some all → result.status ≡ 6 → IsBegun (captured (capped all)) result.journal }
     ensures written { job (map string_bytes words.now) ≡ Some Job.Replay → result.status ≡ 0 → Added (O.held out.old) (whole_transcript result.journal) (O.held out.new) }
     ensures written_full { job (map string_bytes words.now) ≡ Some Job.Replay → result.status ≡ 7 → (Rose (O.faults out.old) (O.faults out.new) → ⊥) → Added (O.held out.old) (whole_transcript result.journal) (O.held out.new) }
+    ensures written_outs { job (map string_bytes words.now) ≡ Some Job.Replay → result.status ≡ 5 → (Rose (O.faults out.old) (O.faults out.new) → ⊥) → Added (O.held out.old) (outs_transcript result.journal) (O.held out.new) }
     ensures began { job (map string_bytes words.now) ≡ Some Job.Replay → Began (O.held out.old) (whole_transcript result.journal) (O.held out.new) }
 
     // `show` wrote all lines on the messages at 0, a beginning of them at 3, and nothing at any other status. At 4 the line is
@@ -805,8 +698,8 @@ pub fn run<
     ensures holds { (s : TheServing) → job (map string_bytes words.now) ≡ Some (Job.Serve s) → is_served result.status ≡ true → Holds (K.held result.keeper) (replay (start_of result.journal.head) result.journal.entries).core.stable }
     ensures crew { (s : TheServing) → job (map string_bytes words.now) ≡ Some (Job.Serve s) → is_served result.status ≡ true → IsServedBy (tells_lane L.told L.asked L.lost L.faults L.ended) (tells_caller C.told C.asked) (record { lanes = outside.lanes; callers = outside.callers; turns = s.turns }) (T.told outside.clock) (T.told result.clock) result.status result.journal.entries result.lanes.items result.callers.items }
     ensures filled { (s : TheServing) → job (map string_bytes words.now) ≡ Some (Job.Serve s) → result.status ≡ 7 → length result.journal.entries ≡ most_entries }
-    ensures unstarted { result.status ≡ 5 → (is_server (job (map string_bytes words.now)) ≡ true) × (result.journal.entries ≡ []) × (result.callers ≡ outside.callers) × (result.clock ≡ outside.clock) × AreIdle outside.lanes.items result.lanes.items }
-    ensures unstored { result.status ≡ 5 → Rose (K.faults outside.keeper) (K.faults result.keeper) × (K.held result.keeper ≡ K.held outside.keeper) × IsLoaded (K.held outside.keeper) result.journal.head.«record» }
+    ensures unstarted { (s : TheServing) → job (map string_bytes words.now) ≡ Some (Job.Serve s) → result.status ≡ 5 → (result.journal.entries ≡ []) × (result.callers ≡ outside.callers) × (result.clock ≡ outside.clock) × AreIdle outside.lanes.items result.lanes.items }
+    ensures unstored { (s : TheServing) → job (map string_bytes words.now) ≡ Some (Job.Serve s) → result.status ≡ 5 → Rose (K.faults outside.keeper) (K.faults result.keeper) × (K.held result.keeper ≡ K.held outside.keeper) × IsLoaded (K.held outside.keeper) result.journal.head.«record» }
     ensures captured { (s : TheServing) → job (map string_bytes words.now) ≡ Some (Job.Serve s) → result.status ≡ 0 → Added (O.held out.old) (capture_of result.journal) (O.held out.new) }
     ensures captured_full { (s : TheServing) → job (map string_bytes words.now) ≡ Some (Job.Serve s) → is_exported result.status ≡ true → (Rose (O.faults out.old) (O.faults out.new) → ⊥) → Added (O.held out.old) (capture_of result.journal) (O.held out.new) }
     ensures captured_part { (s : TheServing) → job (map string_bytes words.now) ≡ Some (Job.Serve s) → is_idle result.status ≡ false → Began (O.held out.old) (capture_of result.journal) (O.held out.new) }
@@ -816,8 +709,10 @@ pub fn run<
     ensures alone { is_server (job (map string_bytes words.now)) ≡ false → (result.keeper ≡ outside.keeper) × (result.callers ≡ outside.callers) × (result.clock ≡ outside.clock) × (result.status ≢ 6 → AreIdle outside.lanes.items result.lanes.items) }
     ensures unserved { is_idle result.status ≡ true → (result.keeper ≡ outside.keeper) × (result.callers ≡ outside.callers) × (result.clock ≡ outside.clock) × AreIdle outside.lanes.items result.lanes.items }
 
-    // Each entry is what the machine's step gives. Nothing is sent to a connection before its opening or after its end.
+    // Each entry is what the machine's step gives, and has the stores that it made; so the journal is what its own events make, if just
+    // those stores succeed. Nothing is sent to a connection before its opening or after its end.
     ensures legal { IsLegal (start_of result.journal.head) result.journal.entries }
+    ensures remade { entries_of (start_of result.journal.head) (pairs_in result.journal.entries) ≡ result.journal.entries }
     ensures orderly { IsOrderly [] 0 result.journal.entries }
     ensures most { length result.journal.entries ≤ most_entries }
 
@@ -826,9 +721,12 @@ pub fn run<
     ensures free { AlwaysFree (start_of result.journal.head) result.journal.entries }
 
     // lawful: an event changes an owner's bytes and shares only by what the owner did in it, was granted after a wait, or lost
-    // with its lease or its connection; it changes a lease only by a renewal or the client's expiry.
-    // steady: an event finds the core as the one before left it, leaves what is exported, the times and the stored record, and
-    // gives out numbers one by one.
+    // with its lease or its connection; it changes a lease only by a renewal or the client's expiry. A restart leaves nothing.
+    // steady: an event finds the core as the one before left it, leaves what is exported, the times and the epoch, and
+    // gives out numbers one by one; a restart raises the epoch, and begins with the numbers anew.
+    // recorded: the record is the last that was stored, and no more was stored than the entry tells; a name comes into it by an ask of
+    // a client that is monitored, and goes only if the client expires, or at the end of a grace in which it reclaimed nothing.
+    // admitted: while grace runs a share or a lock is granted only to one who reclaims it and whose client is recorded.
     // parties: a claim is held for a party that had something of its owner's on the file, asked for it, or waited for it.
     // waiting: those who waited go on to wait in their order, except those whom the event served, cancelled or ended.
     // kept_until_answered: while the break of a cache runs, the cache is held at its full kind, and nothing is granted
@@ -837,8 +735,9 @@ pub fn run<
     // range is turned away by a cache of which no break runs.
     // caches_kept: each cache stays, at its kind or a greater one, unless it is given back, its break is answered or over, its party
     // ends or expires, or it was for reading alone and the event tells that it is gone.
-    // complete: a lock or a share is granted if nothing held stands against it and no limit is passed; if something does, it is
-    // refused or waits. A reading of the clock ends each break and lets each client expire that is due by then.
+    // complete: a lock or a share that grace lets in is granted if nothing held stands against it, no limit is passed, and its client is
+    // recorded or can be; if something does, it is refused or waits. A reading of the clock ends each break and lets each client expire
+    // that is due by then, except what waits for a store that failed.
     // fit: what is given back is held, a share that is made weaker has no more than before, no more is left of a cache than its
     // break leaves, and breaks and leases end only once their time has come.
     // wished: a wish gets one of its choices, or the least kind in which one of them and what its party had lie, and nothing if
@@ -854,6 +753,8 @@ pub fn run<
     // served or cancelled is told by one message, to whom it is due; and besides, only the event's message is replied to.
     ensures lawful { Always IsLawful (start_of result.journal.head) result.journal.entries }
     ensures steady { Always IsSteady (start_of result.journal.head) result.journal.entries }
+    ensures recorded { Always IsRecording (start_of result.journal.head) result.journal.entries }
+    ensures admitted { Always IsAdmitting (start_of result.journal.head) result.journal.entries }
     ensures parties { Always IsPartied (start_of result.journal.head) result.journal.entries }
     ensures waiting { Always IsWaiting (start_of result.journal.head) result.journal.entries }
     ensures kept_until_answered { Always IsKept (start_of result.journal.head) result.journal.entries }

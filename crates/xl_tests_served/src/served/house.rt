@@ -15,7 +15,8 @@ pub(super) fn exports(alloc: Global, header: &[u8]) -> Result<Exports, CaptureEr
         lease,
         grace,
         break_time,
-        events: _,
+        stable: _,
+        steps: _,
     } = read_capture(alloc, header)?;
     Ok(Exports {
         files,

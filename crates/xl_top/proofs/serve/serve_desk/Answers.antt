@@ -2,13 +2,13 @@ use Rattle.std.proofs.Common.{◌∙◌, ap}
 use Rattle.xl_base.specs.declared.journal.Head.{Head}
 use Rattle.xl_desk.specs.declared.view.View.{View}
 use Rattle.xl_work.specs.Crews.{tells_caller, tells_lane}
-use Rattle.xl_top.proofs.EnterLaws.{same_head}
+use Rattle.xl_top.proofs.EnterLaws.{same_origin}
 use Rattle.xl_top.proofs.ServeLaws.{all_worked}
 use Rattle.xl_top.proofs.serve.serve_desk.Goals as goal
 
 pub returns-clause-head : goal.returns-clause-head
 returns-clause-head g c =
-    same_head c.serve_all-pass.result.0.view c.close-house.result c.args.house.head c.close-house.ensures
+    same_origin _ _ _ _ c.serve_all-pass.result.0.view c.close-house.result c.args.house.head c.close-house.ensures
     (c.serve_all-pass.ensures.goes.origin ∙ ap (λ (v : View Head). v.origin) c.in-Ok.ensures.pass)
 
 pub returns-clause-served : goal.returns-clause-served

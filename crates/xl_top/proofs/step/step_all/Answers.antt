@@ -1,27 +1,45 @@
-use Rattle.std.proofs.Common.{rules, ◌≡◌}
-use Rattle.xl_house.specs.Journals.{entries_of}
+use Rattle.std.proofs.Common.{rules, ◌≡◌, ◌∙◌, List, Result, Ok, Err, Bool, true, false, ap, sym, subst}
+use Rattle.std.specs.Vec.Iter.{into_iter_items}
+use Rattle.xl_base.specs.declared.event.Event.{Event}
+use Rattle.xl_base.specs.declared.halt.Halt.{Halt}
+use Rattle.xl_base.specs.declared.journal.Entry.{Entry}
+use Rattle.xl_base.specs.declared.journal.Head.{Head}
 use Rattle.xl_house.specs.State.{start_of}
-use Rattle.xl_top.proofs.EnterLaws.{ended_full, ended_ok, never_starts, same_head, stepped_all, stepped_front, stepped_halt}
+use Rattle.xl_top.specs.Replays.{IsEnded, entries_left, events_of, origin_of}
+use Rattle.xl_top.proofs.ReplayLaws.{all_ended, made_from, run_all, run_next, run_stopped, stopped_ended}
 use Rattle.xl_top.proofs.step.step_all.Goals as goal
 
-pub returns-clause-head : goal.returns-clause-head
-returns-clause-head g c = same_head c.call_all-called.new.pass.view c.close-house.result c.args.house.head c.close-house.ensures (search rules)
+pub returns-in-Ok-false-clause-ended : goal.returns-in-Ok-false-clause-ended
+returns-in-Ok-false-clause-ended g c =
+    let first = c.args.replayer in
+    let paused = c.step_run-paused.result.0 in
+    let steps = c.args.steps.items in
+    let rest : List Event = events_of (into_iter_items c.step_run-paused.new.steps) in
+    let is : c.step_run-paused.result.1 ≡ Ok false = search rules in
+    let made = made_from first paused steps (c.step_run-paused.ensures.origin ∙ c.starts.invariant.origin) c.requires.allowed c.step_run-paused.ensures.made in
+    let same = run_all paused.house.entries rest _ (events_of steps) c.step_run-paused.result.1 is c.step_run-paused.ensures.run c.starts.invariant.events in
+    subst (λ r. IsEnded (start_of first.house.head) steps (entries_left r.left) r.ended) (sym c.stopped.ensures) (all_ended (start_of first.house.head) paused.house.entries steps made same)
 
-pub returns-clause-ok : goal.returns-clause-ok
-returns-clause-ok g c =
-    ended_ok c.call_all-called.result c.ended_in-ended.result (c.close-house.result.entries ≡ entries_of (start_of c.args.house.head) c.args.events.items) c.ended_in-ended.ensures.ok
-    (stepped_all c.call_all-called.new.pass.view c.close-house.result c.args.house.head c.args.events.items c.call_all-called.result c.close-house.ensures c.call_all-called.ensures.alone (search rules) c.requires.steps c.call_all-called.ensures.entered)
+pub returns-in-Err-clause-ended : goal.returns-in-Err-clause-ended
+returns-in-Err-clause-ended g c =
+    let first = c.args.replayer in
+    let paused = c.step_run-paused.result.0 in
+    let steps = c.args.steps.items in
+    let rest : List Event = events_of (into_iter_items c.step_run-paused.new.steps) in
+    let is : c.step_run-paused.result.1 ≡ Err c.in-Err.halt = search rules in
+    let made = made_from first paused steps (c.step_run-paused.ensures.origin ∙ c.starts.invariant.origin) c.requires.allowed c.step_run-paused.ensures.made in
+    let by = run_stopped paused.house.entries rest _ (events_of steps) c.step_run-paused.result.1 c.in-Err.halt is c.step_run-paused.ensures.run c.starts.invariant.events in
+    subst (λ r. IsEnded (start_of first.house.head) steps (entries_left r.left) r.ended) (sym c.stopped-in-Err.ensures)
+    (stopped_ended (start_of first.house.head) paused.house.entries steps c.in-Err.halt made by.0 by.1)
 
-pub returns-clause-begun : goal.returns-clause-begun
-returns-clause-begun g c =
-    stepped_front c.call_all-called.new.pass.view c.close-house.result c.args.house.head c.args.events.items c.call_all-called.result c.close-house.ensures c.call_all-called.ensures.alone (search rules) c.requires.steps c.call_all-called.ensures.entered
-
-pub returns-clause-full : goal.returns-clause-full
-returns-clause-full g c = λ count full.
-    ended_full c.close-house.result.entries c.args.events.items c.call_all-called.result count (c.ended_in-ended.ensures.err count full)
-    (stepped_halt c.call_all-called.new.pass.view c.close-house.result c.args.events.items c.call_all-called.result c.close-house.ensures c.call_all-called.ensures.alone c.call_all-called.ensures.entered)
-
-pub returns-clause-started : goal.returns-clause-started
-returns-clause-started g c = λ count failed.
-    never_starts c.close-house.result.entries c.args.events.items c.call_all-called.result count (c.ended_in-ended.ensures.started count failed)
-    (stepped_halt c.call_all-called.new.pass.view c.close-house.result c.args.events.items c.call_all-called.result c.close-house.ensures c.call_all-called.ensures.alone c.call_all-called.ensures.entered)
+pub returns-in-Err-start_again-clause-ended : goal.returns-in-Err-start_again-clause-ended
+returns-in-Err-start_again-clause-ended g c =
+    let first = c.args.replayer in
+    let paused = c.step_run-paused.result.0 in
+    let steps = c.args.steps.items in
+    let rest : List Event = events_of (into_iter_items c.step_run-paused.new.steps) in
+    let is : c.step_run-paused.result.1 ≡ Ok true = search rules in
+    let origin = c.step_run-paused.ensures.origin ∙ c.starts.invariant.origin in
+    let next = run_next paused.house.entries rest _ (events_of steps) c.step_run-paused.result.1 is c.step_run-paused.ensures.run c.starts.invariant.events in
+    subst (λ (head : Head). IsEnded (start_of head) steps (entries_left c.in-Err-start_again.replayed.left) c.in-Err-start_again.replayed.ended) (ap (λ o. o.0) origin)
+    (c.in-Err-start_again.ensures.ended steps rest (ap (λ o. o.1) origin ∙ c.requires.allowed) next)
