@@ -9,6 +9,8 @@ reads the file WORDS, or standard input if none is named, and writes a capture (
 {usages}
     file NAME                     exports a file; one that a call names is exported anyway, in order of appearance
     address CALLER ADDRESS        where the caller is called back
+    epoch N                       the epoch of the record before the start, which else is 0
+    recorded nfs|nlm NAME         a client that this record names
     open [NAME] [smb]             opens a connection, by which all goes that follows; a call before any opens one
     use NAME                      goes on by that connection
     end [NAME]                    ends the connection, or the one of that name
@@ -20,8 +22,8 @@ reads the file WORDS, or standard input if none is named, and writes a capture (
     answer CALL STATUS            the caller answers the server's call of that number: granted, denied, ..
     answer CALL BYTES             it answers these bytes
     no_answer CALL                it doesn't
-    F .. H .. L .. O .. B .. E .. C .. T ..   a line of the capture, as it stands
-    K .. N .. R .. !n             lines on restarts and the record, which the program doesn't read yet: only with --later
+    restart                       the server starts again from its record; no connection is open behind it
+    F .. H .. L .. K .. N .. O .. B .. E .. C .. T .. R   a line of the capture, as it stands
 
 FILE is an exported file's name, `/` the root, `0x..` any other handle. LENGTH is a number of bytes or `end`. x is an
 exclusive lock, s a shared one. ACCESS and DENY are r, w, rw or -. A name (CALLER, oh, cookie) is a word, `0x..` its bytes
@@ -40,7 +42,8 @@ ELEMENT is {element}, ACCESS and SHARED are letters of rwd, LEVEL is
 STATE its state: letters of rwh, of which h is the handle, or -. OPEN, and ID below, is an epoch and a number, as 1.3. Each
 request also takes session=ID and tree=N, which those that follow on the connection keep, and message=N.
 
-Each call also takes xid=N, fragments=N (its record in fragments of N bytes) and pieces=N (its bytes in lines of N).
+Each call also takes xid=N, fragments=N (its record in fragments of N bytes) and pieces=N (its bytes in lines of N). A line
+that makes an event may end with !N: only the first N stores of the record succeed in it.
 Empty lines and the words from one on that begins with `#` are passed over. In the capture a comment above
 each line has its words.
 
@@ -49,14 +52,17 @@ each line has its words.
     unlock a 7 a.txt 0 10         b has them, and is called back
 """
 import argparse
+import contextlib
 import itertools
 import sys
 
 from xlock import nfs, nlm, protocols, rpc, smb, words
-from xlock.captures import CaptureError, Writer
+from xlock.captures import MOST_STORES, RECORDED, CaptureError, Writer
 from xlock.words import Usage, WordError
 
 CALL_OPTIONS = ("xid", "fragments", "pieces")
+# The words that make no event.
+QUIET = ("file", "address", "epoch", "recorded", "use", "xid", "message")
 
 
 def usages():
@@ -71,9 +77,8 @@ def listed(usages):
 class Maker:
     """Makes the lines of a capture of lines of words."""
 
-    def __init__(self, later=False):
+    def __init__(self):
         self.out = Writer()
-        self.later = later
         self.names = {}
         """The connections, by name."""
         self.senders = {}
@@ -89,26 +94,30 @@ class Maker:
         if not given:
             return
         if given[0][:1].isupper():
-            self.check_served(given)
             self.out.line(" ".join(given))
+            if given[0] == "R":
+                self.forget()
             return
         act = getattr(self, "do_" + given[0], None)
         if act is None and given[0] not in self.modules:
             raise WordError(f"{given[0]} is no word; --help has them all")
         if act is None or given[0] in ("call", "bytes"):
             self.connection()
-        if given[0] not in ("file", "address", "use", "xid", "message"):
+        if given[0] not in QUIET:
             self.out.comment(" ".join(given))
-        if act is None:
-            self.call(given[0], given[1:])
-        else:
-            act(given[1:])
+        with self.allowed(given):
+            if act is None:
+                self.call(given[0], given[1:])
+            else:
+                act(given[1:])
 
-    def check_served(self, given):
-        """Lines that are settled, but that the program doesn't read yet."""
-        begins = [given[0], " ".join(given[:2]), "!n" if given[-1].startswith("!") else ""]
-        if not self.later and any(begin in protocols.LATER for begin in begins):
-            raise WordError(f"the program doesn't read lines {given[0]} of this kind yet; --later writes them all the same")
+    @contextlib.contextmanager
+    def allowed(self, given):
+        """While the lines of these words are written, which may end with how many stores succeed."""
+        if given[0] not in QUIET and given[-1].startswith("!"):
+            self.out.stores = words.number_of(given.pop()[1:], MOST_STORES)
+        yield
+        self.out.stores = None
 
     def connection(self):
         if self.current is None:
@@ -167,6 +176,25 @@ class Maker:
         call = rpc.Call(self.next_xid(options), program, version, procedure, arguments)
         self.send(rpc.call_bytes(call), options)
 
+    def do_epoch(self, given):
+        self.out.epoch(words.number_of(Usage("epoch", "N").read(given)[0][0], 2**32 - 1))
+
+    def do_recorded(self, given):
+        protocol, name = Usage("recorded", "nfs|nlm NAME").read(given)[0]
+        if protocol not in RECORDED:
+            raise WordError(f"{protocol} is none of {', '.join(RECORDED)}")
+        self.out.recorded(protocol, words.bytes_of(name))
+
+    def do_restart(self, given):
+        Usage("restart", "").read(given)
+        self.out.restart()
+        self.forget()
+
+    def forget(self):
+        """No connection is open any more."""
+        self.current = None
+        self.names, self.senders = {}, {}
+
     def do_file(self, given):
         self.out.files.number(Usage("file", "NAME").read(given)[0][0])
 
@@ -179,7 +207,6 @@ class Maker:
     def do_open(self, given):
         positions, flags, _ = Usage("open", "[NAME] [smb]").read(given)
         kind = "smb" if flags else "rpc"
-        self.check_served(["O", kind])
         self.current = self.out.open(kind)
         if kind == "smb":
             self.senders[self.current] = smb.Sender()
@@ -218,9 +245,9 @@ class Maker:
         self.out.called(words.number_of(Usage("no_answer", "CALL").read(given)[0][0]))
 
 
-def capture_of(text, later=False):
+def capture_of(text):
     """The capture of a text of words. WordError names its first line that says nothing known."""
-    maker = Maker(later)
+    maker = Maker()
     for place, line in enumerate(text.split("\n"), 1):
         try:
             maker.add(line)
@@ -235,12 +262,10 @@ def main():
     told |= {"element": smb.ELEMENT, "levels": ", ".join(smb.LEVELS)}
     parser = argparse.ArgumentParser(description=__doc__.format(**told), formatter_class=form)
     parser.add_argument("words", nargs="?", metavar="WORDS", help="the file with the words; standard input without it")
-    later = "also writes lines that the program doesn't read yet: " + ", ".join(protocols.LATER)
-    parser.add_argument("--later", action="store_true", help=later)
     given = parser.parse_args()
     try:
         with open(given.words) if given.words else sys.stdin as text:
-            sys.stdout.write(capture_of(text.read(), given.later))
+            sys.stdout.write(capture_of(text.read()))
     except (WordError, OSError) as error:
         sys.exit(f"capture_from_words: {error}")
 

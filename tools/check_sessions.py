@@ -21,8 +21,8 @@ from xlock.replays import Ours, ReplayError, replayed
 from xlock.xdr import Reader
 
 RECORDED = Path(__file__).resolve().parent / "tests" / "recorded"
-# The seeds of the random sessions, with how many events of a hundred are hostile.
-RANDOM, EVENTS = [("1", 0), ("2", 10), ("3", 50)], 4000
+# The seeds of the random sessions, with how many events of a hundred are hostile, and behind how many the server starts again.
+RANDOM, EVENTS = [("1", 0, 0), ("2", 10, 0), ("3", 50, 0), ("4", 5, 400)], 4000
 
 
 def differences_of(path, program):
@@ -42,10 +42,10 @@ def status_of(protocol, record):
     return reader.u32()
 
 
-def random_faults(program, seed, hostile):
+def random_faults(program, seed, hostile, restarts):
     """The first answer of a random session that isn't the one that is known."""
     lines = []
-    world = write_capture(seed, EVENTS, hostile, lines.append, expects=True)
+    world = write_capture(seed, EVENTS, hostile, lines.append, expects=True, restarts=restarts)
     ours = Ours(replayed(program, "".join(lines)))
     for place, (protocol, connection, message, status) in world.expected.items():
         records = [ours.replies[connection, place]] if (connection, place) in ours.replies else []
@@ -53,7 +53,7 @@ def random_faults(program, seed, hostile):
             records = [record for at, record in ours.smb.get((connection, message), []) if at == place]
         found = status_of(protocol, records[0]) if records else None
         if found != status:
-            what = f"make_capture {seed} {EVENTS} --hostile {hostile}"
+            what = f"make_capture {seed} {EVENTS} --hostile {hostile} --restarts {restarts}"
             yield f"{what}: the answer of {protocol} at place {place} is {found}, and {status} is due"
             return
 
@@ -69,8 +69,8 @@ def faults(program, writes=False):
             found = kept.read_text() if kept.is_file() else ""
             if found != wanted:
                 yield f"{kept.name} isn't what differs, at {first_difference(wanted, found)}"
-        for seed, hostile in RANDOM:
-            yield from random_faults(program, seed, hostile)
+        for seed, hostile, restarts in RANDOM:
+            yield from random_faults(program, seed, hostile, restarts)
     except (ReplayError, struct.error) as error:
         yield f"check_sessions: {error}"
 

@@ -9,7 +9,8 @@ lock, wait and are served or cancelled, have delegations, oplocks and leases, an
 leases of clients end; hosts start anew; connections end with all they have. Many such scenes run at a time, each at a file of
 its own, and all clients contend for the ranges of some files. The ids in it are those that the server gives, since these are
 counted, so most requests succeed. One event of a hundred is a tick. PERCENT of the events are of hostile peers: bytes that are
-no message, cut calls, ids of nobody.
+no message, cut calls, ids of nobody. With --restarts the server starts again at times, behind at least so many events: a client
+reclaims, and then all begin anew.
 
 A replay takes at most 1,048,576 events, and a capture 268,435,456 bytes. --into writes the files PREFIX1.capture,
 PREFIX2.capture, .., each a session of its own with at most so many events as --each says. Lines are written as they are made.
@@ -28,13 +29,20 @@ RUNNING, TICKS, SHARED = 24, 1, 30
 class Show:
     """The random course of a capture."""
 
-    def __init__(self, world, hostile):
-        self.world, self.hostile = world, hostile
-        self.stage, self.running = scenes.Stage(world, FILES), []
+    def __init__(self, world, hostile, restarts):
+        self.world, self.hostile, self.restarts = world, hostile, restarts
+        self.begin()
+
+    def begin(self):
+        self.stage, self.running, self.begun = scenes.Stage(self.world, FILES), [], self.world.place
 
     def event(self):
         """One event more, or some."""
-        if self.world.chance(self.hostile):
+        if self.restarts and self.world.place >= self.begun + self.restarts:
+            self.world.restart()
+            scenes.grace(self.world)
+            self.begin()
+        elif self.world.chance(self.hostile):
             scenes.hostile(self.stage)
         elif self.world.chance(TICKS):
             self.tick()
@@ -61,15 +69,15 @@ class Show:
         for client in self.stage.clients + self.stage.called_back:
             if moment - client.renewed > LEASE // 2:
                 self.world.renew(client)
-        self.world.clock = moment
-        self.world.line(f"T {moment}")
+        self.world.tick(moment)
 
 
-def write_capture(seed, count, hostile, write, expects=False):
-    """A capture of so many events, or of as many as it may have bytes; the world that is left has how many they are."""
+def write_capture(seed, count, hostile, write, expects=False, restarts=0):
+    """A capture of so many events, or of as many as it may have bytes; the world that is left has how many they are. The server
+    starts again behind at least so many events as `restarts` says, never where that is 0."""
     world = World(seed, write, count, MOST_BYTES, expects)
     world.header()
-    show = Show(world, hostile)
+    show = Show(world, hostile, restarts)
     try:
         while True:
             show.event()
@@ -84,7 +92,7 @@ def write_all(given):
         number += 1
         name = f"{given.into}{number}.capture"
         with open(name, "w") as file:
-            world = write_capture(f"{given.seed}/{number}", min(left, given.each), given.hostile, file.write)
+            world = write_capture(f"{given.seed}/{number}", min(left, given.each), given.hostile, file.write, restarts=given.restarts)
         left -= world.place
         print(f"{name}: {world.place} events", file=sys.stderr)
 
@@ -103,6 +111,8 @@ def main():
     parser.add_argument("count", type=number, metavar="COUNT", help="how many events")
     hostile = "how many of a hundred events are hostile, 5 without it"
     parser.add_argument("--hostile", type=number, default=5, metavar="PERCENT", help=hostile)
+    restarts = "behind how many events the server starts again, never without it"
+    parser.add_argument("--restarts", type=number, default=0, metavar="COUNT", help=restarts)
     into = "writes files PREFIX1.capture, PREFIX2.capture, .. in the place of one text"
     parser.add_argument("--into", metavar="PREFIX", help=into)
     each = "how many events a file has at most, 500,000 without it"
@@ -115,7 +125,7 @@ def main():
     elif given.count > MOST_EVENTS:
         parser.error(f"a replay takes at most {MOST_EVENTS} events: --into cuts them into several captures")
     else:
-        world = write_capture(str(given.seed), given.count, given.hostile, sys.stdout.write)
+        world = write_capture(str(given.seed), given.count, given.hostile, sys.stdout.write, restarts=given.restarts)
         if world.place < given.count:
             print(f"make_capture: {world.place} events fill a capture: --into cuts them into several", file=sys.stderr)
 

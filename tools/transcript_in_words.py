@@ -83,7 +83,7 @@ def event_in_words(event, files):
         "end": lambda: "end",
         "called": lambda: called_in_words(event),
         "tick": lambda: f"T {event.number}",
-        "restart": lambda: "R",
+        "restart": lambda: "restart",
     }
     return said[event.what](), None, None
 
@@ -148,6 +148,8 @@ def line_of(place, where, said, answer=""):
 def told_lines(event, place, outs, files):
     """The lines of an event: what came, with its answer, and what else was sent."""
     said, call, module = event_in_words(event, files)
+    if event.stores is not None:
+        said += f" !{event.stores}"
     where = f"c{event.connection}" if event.what in ("open", "message", "end") else ""
     answer, others = "", []
     if event.what == "message" and event.kind == "smb":

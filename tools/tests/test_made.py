@@ -11,9 +11,9 @@ from xlock.captures import MOST_OPEN, Capture
 from xlock.world import Ranges
 
 
-def made(seed, count, hostile, expects=False):
+def made(seed, count, hostile, expects=False, restarts=0):
     lines = []
-    world = write_capture(seed, count, hostile, lines.append, expects)
+    world = write_capture(seed, count, hostile, lines.append, expects, restarts)
     return "".join(lines), world
 
 
@@ -38,6 +38,16 @@ class Made(unittest.TestCase):
             self.assertTrue(known > messages * (98 - hostile) * 0.009, (hostile, known, messages))
             opened = [event.connection for event in capture.events if event.what == "open"]
             self.assertTrue(all(capture.events[number].what == "open" for number in opened))
+
+    def test_restarts(self):
+        # The server starts again, in another epoch, of whose clients and sessions requests are known.
+        text, world = made("3", 3000, 5, expects=True, restarts=500)
+        capture = Capture.read(text)
+        places = [place for place, event in enumerate(capture.events) if event.what == "restart"]
+        self.assertEqual((len(capture.events), len(places), world.epoch), (3000, 5, 6))
+        behind = [known for place, known in world.expected.items() if place > places[-1]]
+        self.assertEqual({known[0] for known in behind}, {"nlm", "nfs", "smb"})
+        self.assertEqual([known[3] for known in behind[:6]], [4, 0, 1, 4, 0, 4])
 
     def test_few(self):
         for count in 0, 1, 2, 40:

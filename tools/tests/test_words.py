@@ -94,15 +94,24 @@ CAPTURES = [
     ("message 0\nopen smb\nsmb negotiate\nsmb negotiate", ["O smb", f"B 0 {NEGOTIATES}", f"B 0 {NEGOTIATES}"]),
     ("open\nO rpc\nB 1 00\n", ["O rpc", "O rpc", "B 1 00"]),
     ("open smb\nB 0 00\n", ["O smb", "B 0 00"]),
+    ("recorded nlm 0x00ff\nopen\nepoch 7\nrecorded nfs -", ["N nlm 00ff", "K 7", "N nfs -", "O rpc"]),
+    ("K 4294967295\nN nfs 63\nT 5 !0", ["K 4294967295", "N nfs 63", "T 5 !0"]),
+    ("open a\nopen b\nrestart\nopen b\nend b", ["O rpc", "O rpc", "R", "O rpc", "E 3"]),
+    ("open\nR !0\ncall 100003 4 0 xid=1", ["O rpc", "R !0", "O rpc", "B 2 80000028" + "00000001 00000000 00000002 000186a3 00000004 00000000".replace(" ", "") + "0" * 32]),
+    ("open\nend\nopen !0\nrestart !9999\nR !1", ["O rpc", "E 0", "O rpc !0", "R !9999", "R !1"]),
+    ("lock a 7 a.txt 0 10 x pieces=60 !1", ["F a.txt", "O rpc", f"B 0 {LOCK[:120]} !1", f"B 0 {LOCK[120:]} !1"]),
+    ("open smb\nsmb negotiate !0\nno_answer 4 !2", ["O smb", f"B 0 {NEGOTIATES} !0", "C 4 !2"]),
     ("call 100003 4 0", ["O rpc", "B 0 80000028" + "00000001 00000000 00000002 000186a3 00000004 00000000".replace(" ", "") + "0" * 32]),
 ]
 
 REFUSED = [
     "fly", "lock a 7 a.txt 0 10", "lock a 7 a.txt 0 10 y", "lock a 7 A.txt 0 10 x", "lock a 7 a.txt 0 -1 x", "use b",
-    "share a a.txt d -", "answer 1 perhaps", "R", "unlock a 7 a.txt 0 10 block", "Q", "B 0 0",
+    "share a a.txt d -", "answer 1 perhaps", "unlock a 7 a.txt 0 10 block", "Q", "B 0 0",
     "compound renew", "compound renew 1", "compound confirm 1.5 0x00", "compound open a.txt", "compound get_fh then", "nfs_null 1",
     "compound lock 0 10 y 1.5.1 2", "compound close 2 1.5.x", "smb echo", "open smb\nsmb break_lease k rx",
     "open smb\nsmb create a.txt r lease=a_key_of_17_bytes", "xid", "xid 4294967296", "message x",
+    "compound open_previous 1 1.1 o r delegation=none", "restart now", "restart\nuse b", "epoch", "epoch 4294967296", "recorded smb k", "recorded nfs", "address a 1.2 !0", "epoch 1 !0",
+    "open !x", "null !10000", "R !10000", "T 1 !", "K 4294967296", "N smb 61", "N nfs 6", "F a !0", "!0",
 ]  # fmt: skip
 
 # Each call is said again as it was written.
@@ -125,12 +134,15 @@ compound put_fh a.txt then put_fh / then put_fh 0x00 then get_fh
 compound put_root_fh then lookup - then lookup A#.txt tag=0x00
 compound set_client_id c 7 program=9 netid=tcp address=1.2 ident=3 then confirm 1.5 6 then renew 4294967295.0 tag=t
 compound set_client_id 0x00ff
-compound open 1 1.1 o a.txt rw then open 2 1.1 o a.txt r w then open_previous 3 1.1 o w then open_confirm 1.3.1 4
+compound open 1 1.1 o a.txt rw then open 2 1.1 o a.txt r w then open_previous 3 1.1 o w delegation=write then open_confirm 1.3.1 4
+compound open_previous 4 1.1 o r rw then open_previous 5 1.1 o r delegation=read
 compound open_downgrade 1.3.2 5 r then close 6 1.3.3 then return_delegation 1.4.1 then release_lock_owner 1.1 l
 compound first_lock 0 end x 1.3.2 3 1.1 l 9 wait reclaim then lock 5 6 s 1.5.1 10 then lock_test 0 1 x 1.1 l wait
-compound unlock 0 10 x 1.5.2 11
+compound unlock 0 10 x 1.5.2 11 !0
 call 100003 4 1 0x000000000000000100000000
+free_all 0x2130 !3
 T 90000
+T 90001 !9999
 """
 
 # The same of requests of SMB.
@@ -222,9 +234,6 @@ class Words(unittest.TestCase):
             with self.assertRaises(WordError, msg=words):
                 capture_of("null\n" + words)
 
-    def test_later(self):
-        self.assertEqual(lines_of(capture_of("open\nR", later=True)), ["O rpc", "R"])
-
     def test_said_again(self):
         said = in_words(capture_of(CALLS), "")
         self.assertEqual([line[9:] for line in said[1:]], CALLS.splitlines())
@@ -241,9 +250,13 @@ class Words(unittest.TestCase):
 
     def test_places(self):
         # The fragments of a record are one event, two records in one line are two, and a bad mark ends the connection.
-        text = f"O rpc\nB 0 {LOCK[:40]}\nB 0 {LOCK[40:]}{UNLOCK}\nB 0 00000000\nB 0 {LOCK}\nO rpc\nE 0\nE 4\nC 1\n"
+        text = f"O rpc\nB 0 {LOCK[:40]}\nB 0 {LOCK[40:]}{UNLOCK} !1\nB 0 00000000\nB 0 {LOCK}\nO rpc\nE 0\nE 4\nC 1\n"
         said = [event.what for event in Capture.read(text).events]
         self.assertEqual(said, ["open", "message", "message", "end", "open", "end", "called"])
+        # Each event of a line has its stores; a restart ends the connections.
+        text += f"O smb\nR !0\nE 7\nB 7 00\nO rpc\nB 9 {LOCK}\n"
+        said = [(event.what, event.stores) for event in Capture.read(text).events]
+        self.assertEqual(said[1:3] + said[7:], [("message", 1)] * 2 + [("open", None), ("restart", 0), ("open", None), ("message", None)])
 
     def test_bad_marks(self):
         for stream, is_bad in [
@@ -264,6 +277,10 @@ class Transcripts(unittest.TestCase):
         said = in_words("F a.txt\nT 1\n", f"0 b5 312e32 {RECALLS}\n")
         self.assertEqual(said[1].split(": ", 1)[1], "recall 1.7.1 a.txt program=9 ident=3")
         self.assertIn("call 9 1 1 0x", in_words("F a.txt\nT 1\n", f"0 b5 312e32 {RECALLS[:-8]}\n")[1])
+
+    def test_restarts(self):
+        said = in_words("K 5\nN nlm 61\nO rpc\nR\nT 5 !0\nR !2\n", "")
+        self.assertEqual(said, ["0   c0   open", "1        restart", "2        T 5 !0", "3        restart !2"])
 
     def test_in_words(self):
         capture = capture_of("lock a 7 a.txt 0 10 x\ntest b 1 a.txt 0 end s\nend\nanswer 2 denied\nno_answer 3\n")

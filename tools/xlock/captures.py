@@ -12,6 +12,9 @@ LINES = {
     "O": (1,), "B": (2,), "E": (1,), "C": (1, 2), "T": (1,), "R": (0,),
 }  # fmt: skip
 HEADERS = ("F", "H", "L", "K", "N")
+MOST_STORES = 9999
+# Whose clients the record names.
+RECORDED = ("nfs", "nlm")
 CUTTERS = {"rpc": RecordCutter, "smb": FrameCutter}
 
 
@@ -34,6 +37,8 @@ class Event:
     kind: str = "rpc"
     answered: bool = True
     """Of a call that is over: whether a reply came."""
+    stores: int | None = None
+    """How many stores of the record succeed in it, where its line says so."""
 
 
 class Capture:
@@ -43,6 +48,8 @@ class Capture:
         self.files = Files()
         self.addresses = {}
         self.events = []
+        self.stores = None
+        """What the line says of stores."""
         self.cutters = {}
         """The cutter of each open connection."""
 
@@ -62,13 +69,16 @@ class Capture:
         if not line or line.startswith("#"):
             return
         words = line.split()
-        if words[-1].startswith("!") and words[0] not in ("F", "H"):
-            words.pop()
-        if words[0] not in LINES:
-            raise CaptureError(f"{words[0]} begins no line")
+        if words[0] not in HEADERS:
+            self.stores = _stores(words.pop()) if words[-1].startswith("!") else None
+        if not words or words[0] not in LINES:
+            raise CaptureError(f"{words[0] if words else line} begins no line")
         if len(words) - 1 not in LINES[words[0]]:
             raise CaptureError(f"{words[0]} has another number of words")
         getattr(self, "_line_" + words[0].lower())(*words[1:])
+
+    def _enter(self, what, **said):
+        self.events.append(Event(what, stores=self.stores, **said))
 
     def _line_f(self, name):
         self.files.names.append(name)
@@ -80,10 +90,13 @@ class Capture:
         pass
 
     def _line_k(self, epoch):
-        pass
+        if int(epoch) >= 2**32:
+            raise CaptureError("an epoch is below 2^32")
 
     def _line_n(self, protocol, name):
-        pass
+        if protocol not in RECORDED:
+            raise CaptureError(f"no client of {protocol} is recorded")
+        _hex(name)
 
     def _line_o(self, kind):
         place = len(self.events)
@@ -91,7 +104,7 @@ class Capture:
             raise CaptureError(f"{kind} is no kind of connection")
         if len(self.cutters) < MOST_OPEN:
             self.cutters[place] = CUTTERS[kind]()
-        self.events.append(Event("open", place, kind=kind))
+        self._enter("open", connection=place, kind=kind)
 
     def _line_b(self, connection, data):
         number, cutter = int(connection), self.cutters.get(int(connection))
@@ -99,7 +112,7 @@ class Capture:
         if cutter is None:
             return
         for message in cutter.feed(data):
-            self.events.append(Event("message", number, message, kind=cutter.KIND))
+            self._enter("message", connection=number, data=message, kind=cutter.KIND)
         if cutter.is_bad:
             self._end(number)
 
@@ -109,18 +122,25 @@ class Capture:
 
     def _end(self, number):
         del self.cutters[number]
-        self.events.append(Event("end", number))
+        self._enter("end", connection=number)
 
     def _line_c(self, number, reply=None):
         data = b"" if reply is None else _hex(reply)
-        self.events.append(Event("called", number=int(number), data=data, answered=reply is not None))
+        self._enter("called", number=int(number), data=data, answered=reply is not None)
 
     def _line_t(self, moment):
-        self.events.append(Event("tick", number=int(moment)))
+        self._enter("tick", number=int(moment))
 
     def _line_r(self):
         self.cutters = {}
-        self.events.append(Event("restart"))
+        self._enter("restart")
+
+
+def _stores(word):
+    """The number that a word `!n` says."""
+    if int(word[1:]) > MOST_STORES:
+        raise CaptureError(f"a line says at most {MOST_STORES} stores")
+    return int(word[1:])
 
 
 def _hex(word):
@@ -137,6 +157,8 @@ class Writer:
     def __init__(self):
         self.capture = Capture()
         self.notes, self.header, self.lines = [], [], []
+        self.stores = None
+        """How many stores succeed in each of the lines that follow."""
 
     @property
     def files(self):
@@ -148,7 +170,9 @@ class Writer:
         return len(self.capture.events)
 
     def line(self, line):
-        """An event line, or a header line, as it stands in a capture."""
+        """An event line without what it says of stores, or a header line."""
+        if line[:1] not in HEADERS and self.stores is not None:
+            line += f" !{self.stores}"
         self.capture.add(line)
         if line[:1] not in HEADERS:
             self.lines.append(line)
@@ -175,6 +199,17 @@ class Writer:
 
     def called(self, number, reply=None):
         self.line(f"C {number}" + ("" if reply is None else " " + hex_word(reply)))
+
+    def restart(self):
+        self.line("R")
+
+    def epoch(self, epoch):
+        """The epoch of the record before the start."""
+        self.line(f"K {epoch}")
+
+    def recorded(self, protocol, name):
+        """A client that the record before the start names."""
+        self.line(f"N {protocol} {hex_word(name)}")
 
     def address(self, caller, address):
         if caller not in self.capture.addresses:

@@ -34,6 +34,8 @@ LOCK_TYPES = {(False, False): 1, (True, False): 2, (False, True): 3, (True, True
 # The claims of an OPEN that have words: by name, and of what was open before the server's restart.
 BY_NAME, PREVIOUS = 0, 1
 RIGHTS = {"r": 1, "w": 2}
+# The types of a delegation that an OPEN reclaims.
+DELEGATIONS = {"read": 1, "write": 2}
 # The flag of an OPEN's result that its owner has to confirm.
 TO_CONFIRM = 2
 
@@ -48,7 +50,7 @@ OPS = {
     "confirm": (CONFIRM, "CLIENTID CONFIRM"),
     "renew": (RENEW, "CLIENTID"),
     "open": (OPEN, "SEQID CLIENTID OWNER NAME ACCESS [DENY]"),
-    "open_previous": (OPEN, "SEQID CLIENTID OWNER ACCESS [DENY]"),
+    "open_previous": (OPEN, "SEQID CLIENTID OWNER ACCESS [DENY] [delegation=read|write]"),
     "open_confirm": (OPEN_CONFIRM, "STATEID SEQID"),
     "open_downgrade": (OPEN_DOWNGRADE, "STATEID SEQID ACCESS [DENY]"),
     "close": (CLOSE, "SEQID STATEID"),
@@ -99,6 +101,14 @@ def _type(word, flags):
     return u32(LOCK_TYPES[words.is_exclusive(word), "wait" in flags])
 
 
+def _delegation(options):
+    """The type of the delegation that is reclaimed, 0 where none is."""
+    said = options.get("delegation")
+    if said is not None and said not in DELEGATIONS:
+        raise WordError(f"{said} is none of {', '.join(DELEGATIONS)}")
+    return u32(DELEGATIONS.get(said, 0))
+
+
 def _open(seqid, client, owner, share, claim):
     return _u32(seqid) + share + _clientid(client) + opaque(bytes_of(owner)) + u32(0) + claim
 
@@ -135,7 +145,7 @@ def _op_bytes(given, files):
         "confirm": lambda: _clientid(given[0]) + _verifier(given[1]),
         "renew": lambda: _clientid(given[0]),
         "open": lambda: _open(*given[:3], _share(given[4:]), u32(BY_NAME) + opaque(bytes_of(given[3]))),
-        "open_previous": lambda: _open(*given[:3], _share(given[3:]), u32(PREVIOUS) + u32(0)),
+        "open_previous": lambda: _open(*given[:3], _share(given[3:]), u32(PREVIOUS) + _delegation(options)),
         "open_confirm": lambda: _stateid(given[0]) + _u32(given[1]),
         "open_downgrade": lambda: _stateid(given[0]) + _u32(given[1]) + _share(given[2:]),
         "close": lambda: _u32(given[0]) + _stateid(given[1]),
@@ -226,6 +236,16 @@ def _type_words(number):
     raise XdrError("this type of lock has no word")
 
 
+def _reclaimed_words(number):
+    """The delegation that is reclaimed, where one is."""
+    for word, known in DELEGATIONS.items():
+        if known == number:
+            return ["delegation=" + word]
+    if number:
+        raise XdrError("this type of delegation has no word")
+    return []
+
+
 def _open_words(reader):
     seqid = str(reader.u32())
     share = _share_words(reader)
@@ -233,8 +253,8 @@ def _open_words(reader):
     how, claim = reader.u32(), reader.u32()
     if how == 0 and claim == BY_NAME:
         return "open", owner + [word_of(reader.opaque(MOST_TEXT))] + share
-    if how == 0 and claim == PREVIOUS and reader.u32() == 0:
-        return "open_previous", owner + share
+    if how == 0 and claim == PREVIOUS:
+        return "open_previous", owner + share + _reclaimed_words(reader.u32())
     raise XdrError("this OPEN has no words")
 
 

@@ -6,8 +6,6 @@ RPC = {(nlm.PROGRAM, nlm.VERSION): nlm, (nfs.PROGRAM, nfs.VERSION): nfs}
 
 # The kinds of connection in a capture's `O` line.
 KINDS = ("rpc", "smb")
-# The lines of a capture that are settled and that the program doesn't read yet.
-LATER = ("R", "K", "N", "!n")
 
 
 def of_call(call):

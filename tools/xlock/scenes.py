@@ -7,8 +7,8 @@ import struct
 from collections import Counter
 
 from xlock import nfs, nlm, rpc, smb
-from xlock.world import BLOCKED, BREAK, DENIED, LEASE, OK, PUT_ROOT, Client, Ranges, World, caller_name, clientid, name_of
-from xlock.world import op_close, op_open, op_test, put_fh, stateid
+from xlock.world import BLOCKED, BREAK, DENIED, GRACE, IN_GRACE, LEASE, OK, PUT_ROOT, Client, Ranges, World, caller_name
+from xlock.world import clientid, name_of, number_of, op_close, op_open, op_test, put_fh, stateid
 from xlock.xdr import opaque, u32
 
 SHARED_FILES, MOST_ELEMENTS = 8, 200
@@ -193,6 +193,21 @@ def nlm_host_ends(stage):
     stage.hosts.append(host)
 
 
+def grace(world):
+    """Behind a restart a recorded caller reclaims, whoever else asks has to wait, and grace ends; then nobody reclaims any more. Of
+    the callers that are known to be recorded the one that reclaimed is left."""
+    if world.recorded:
+        one, file = world.choice(sorted(world.recorded)), SHARED_FILES + 1
+        world.range(nlm.LOCK, one, 1, file, 0, 5, IN_GRACE)
+        world.range(nlm.LOCK, one, 1, file, 0, 5, OK, reclaim=True)
+        world.range(nlm.LOCK, b"nobody", 1, file, 9, 5, DENIED, reclaim=True)
+        world.range(nlm.LOCK, b"nobody", 1, file, 9, 5, IN_GRACE, block=True)
+        world.range(nlm.UNLOCK, one, 1, file, 0, 5, OK)
+        world.recorded = {one}
+    world.tick(world.clock + GRACE)
+    world.range(nlm.LOCK, b"nobody", 1, SHARED_FILES + 1, 9, 5, IN_GRACE, reclaim=True)
+
+
 # ---- NFSv4.0
 
 def nfs_locks(stage):
@@ -207,7 +222,7 @@ def nfs_locks(stage):
         world.nfs_lock(client, owner, file, 4 * at, 1 + world.pick(3), world.chance(60))
         yield
     if owner.lock is not None:
-        world.compound(other, [put_fh(file), op_test(0, 40, True, other.number, b"tester")], NFS_DENIED)
+        world.compound(other, [put_fh(file), op_test(0, 40, True, other.id, b"tester")], NFS_DENIED)
         yield
         world.range(nlm.LOCK, stage.callers(1)[0], 3, file, 0, 40, DENIED)
         yield
@@ -215,7 +230,7 @@ def nfs_locks(stage):
         yield
     if denies:
         opener = world.owner_of(other)
-        op = op_open(opener.next(), other.number, opener.name, file, 2)
+        op = op_open(opener.next(), other.id, opener.name, file, 2)
         world.compound(other, [PUT_ROOT, op], NFS_SHARE_DENIED)
         other.idle.append(opener)
         yield
@@ -232,7 +247,7 @@ def _delegated(stage, holder, owner, file):
         yield from world.nfs_open(holder, owner, file, 1)
         world.nfs_close(holder, owner, file)
         yield
-    op = op_open(owner.next(), holder.number, owner.name, file, 2 if world.chance(50) else 1)
+    op = op_open(owner.next(), holder.id, owner.name, file, 2 if world.chance(50) else 1)
     world.compound(holder, [PUT_ROOT, op], OK)
     owner.open, owner.open_seqid, delegation = world.draw(), 1, world.draw()
     yield
@@ -248,12 +263,13 @@ def nfs_delegation(stage):
     asker, file = (yield from stage.client()), stage.file()
     owner, opener = world.owner_of(holder), world.owner_of(asker)
     delegation = yield from _delegated(stage, holder, owner, file)
-    op = op_open(opener.next(), asker.number, opener.name, file, 2)
+    op = op_open(opener.next(), asker.id, opener.name, file, 2)
     world.compound(asker, [PUT_ROOT, op], NFS_DELAY)
     call, deadline = world.draw(), stage.break_begins()
     yield
     if world.chance(50):
-        world.line(f"C {call} {rpc.success_bytes(call, u32(0) + u32(0) + struct.pack('>3I', 1, 4, 0)).hex()}")
+        number = number_of(call)
+        world.line(f"C {number} {rpc.success_bytes(number, u32(0) + u32(0) + struct.pack('>3I', 1, 4, 0)).hex()}")
         yield
     is_silent = world.chance(25)
     if is_silent:
@@ -293,7 +309,7 @@ def nfs_expires(stage):
     yield from stage.until(last + LEASE)
     world.range(nlm.LOCK, caller, 4, file, 0, 9, OK)
     yield
-    world.compound(client, [u32(nfs.RENEW) + clientid(client.number)], 10022)
+    world.compound(client, [u32(nfs.RENEW) + clientid(client.id)], 10022)
     yield
     world.range(nlm.UNLOCK, caller, 4, file, 0, 9, OK)
     yield
@@ -327,7 +343,7 @@ def smb_locks(stage):
     yield
     if world.chance(30):
         is_by_message = world.chance(50)
-        ids, flags = (None, 0) if is_by_message else (waiter, 2)
+        ids, flags = (None, 0) if is_by_message else (number_of(waiter), 2)
         world.smb(other, smb.CANCEL, struct.pack("<HH", 4, 0), message=message, ids=ids, flags=flags)
         yield
         world.lock(one, first, [(0, 5, 4), (7, 1, 4)], OK)
@@ -481,10 +497,10 @@ def _by_nlm(stage, file, first, count, exclusive):
     owner, way = ("nlm", caller, svid), world.pick(5)
     if way == 0:
         is_free = ranges.is_free(owner, first, count, exclusive)
-        world.range(nlm.TEST, caller, svid, file, first, count, OK if is_free else DENIED, exclusive)
+        world.range(nlm.TEST, caller, svid, file, first, count, OK if is_free else DENIED, exclusive=exclusive)
     elif way < 3:
         is_done = ranges.lock(owner, first, count, exclusive)
-        world.range(nlm.LOCK, caller, svid, file, first, count, OK if is_done else DENIED, exclusive)
+        world.range(nlm.LOCK, caller, svid, file, first, count, OK if is_done else DENIED, exclusive=exclusive)
     else:
         ranges.unlock(owner, first, count)
         world.range(nlm.UNLOCK, caller, svid, file, first, count, OK)
@@ -590,13 +606,14 @@ def _strange_call(stage):
 def _strange_ops(stage):
     """A COMPOUND with stateids and clientids that nobody has, operations that none are, or too many."""
     world = stage.world
-    number = 2**31 + world.pick(2**31)
-    other = stateid(number, world.pick(9), world.choice([1, 1, 0, 7]))
+    nobody = world.id_of(2**31 + world.pick(2**31))
+    seqid, epoch = world.pick(9), world.choice([world.epoch, world.epoch, 0, world.epoch + 6])
+    other = stateid(epoch << 32 | number_of(nobody), seqid)
     file = world.pick(99)
     op = world.choice([
         lambda: op_close(world.pick(9), other),
-        lambda: u32(nfs.RENEW) + clientid(number),
-        lambda: op_open(1, number, b"nobody", 1, world.pick(5), world.pick(5)),
+        lambda: u32(nfs.RENEW) + clientid(nobody),
+        lambda: op_open(1, nobody, b"nobody", 1, world.pick(5), world.pick(5)),
         lambda: u32(nfs.RETURN_DELEGATION) + other,
         lambda: u32(world.choice([0, 1, 2, 3, 9, 17, 25, 40, 10044, 2**32 - 1])) + world.bytes(8),
         lambda: u32(nfs.LOCK) + world.bytes(world.pick(60)),
@@ -612,7 +629,7 @@ def _strange_smb(stage):
     world = stage.world
     if not stage.desks:
         return _no_frame(stage)
-    desk, nobody = world.choice(stage.desks), 2**31 + world.pick(2**31)
+    desk, nobody = world.choice(stage.desks), world.id_of(2**31 + world.pick(2**31))
     way = world.pick(6)
     if way == 0:
         world.lock(desk, nobody, [(0, 1, world.pick(64))])

@@ -22,7 +22,7 @@ def word_of(data):
     """The word of bytes, which `bytes_of` reads again."""
     if not data:
         return "-"
-    if re.fullmatch(rb"[!-~]+", data) and not data.startswith((b"0x", b"#")) and data != b"-":
+    if re.fullmatch(rb"[!-~]+", data) and not data.startswith((b"0x", b"#", b"!")) and data != b"-":
         return data.decode()
     return "0x" + data.hex()
 

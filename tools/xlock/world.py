@@ -1,5 +1,6 @@
 """A world of random sessions: its connections, files, clients and owners, and the bytes that they send. It counts as the server
-counts: events from 0, and the numbers of ids from 1, in the order in which they are drawn."""
+counts: events from 0, and the numbers of ids from 1 in each epoch, in the order in which they are drawn. An id has the epoch in its
+upper 32 bits and the number in the lower ones."""
 import random
 import struct
 
@@ -13,15 +14,19 @@ CALLERS = 8
 CALL_HEAD = struct.Struct(">10I")
 # A range is of cells of ten bytes.
 CELL = 10
-OK, DENIED, BLOCKED = 0, 1, 3
+OK, DENIED, BLOCKED, IN_GRACE = 0, 1, 3, 4
 
 
-def stateid(number, seqid, epoch=1):
-    return struct.pack(">IIQ", seqid, epoch, number)
+def number_of(id_):
+    return id_ & 0xFFFFFFFF
 
 
-def clientid(number):
-    return struct.pack(">II", 1, number)
+def stateid(id_, seqid):
+    return struct.pack(">IIQ", seqid, id_ >> 32, number_of(id_))
+
+
+def clientid(id_):
+    return struct.pack(">Q", id_)
 
 
 # ---- operations of NFSv4.0
@@ -73,8 +78,7 @@ class Client:
 
     def __init__(self, name, connection, program):
         self.name, self.connection, self.program = name, connection, program
-        self.number = 0
-        self.renewed = 0
+        self.id = self.renewed = 0
         self.idle, self.owners = [], 0
         self.opens = {}
         """The owners of its opens of shared files."""
@@ -177,11 +181,13 @@ class World:
     def __init__(self, seed, write, most_events, most_bytes, expects=False):
         self.generator, self.write = random.Random(seed), write
         self.most_events, self.most_bytes = most_events, most_bytes
-        self.place, self.number, self.clock, self.xid, self.size = 0, 0, 0, 0, 0
+        self.place, self.epoch, self.number, self.clock, self.xid, self.size = 0, 1, 0, 0, 0, 0
         self.expected = {} if expects else None
         self.rpc, self.smb_count, self.harmful = [], 0, {}
         self.deadlines = []
         """Of breaks that are to be answered: the clock stays before them."""
+        self.recorded = set()
+        """Callers that are recorded; others may be, too."""
 
     # ---- chance
 
@@ -220,7 +226,20 @@ class World:
 
     def draw(self):
         self.number += 1
-        return self.number
+        return self.id_of(self.number)
+
+    def id_of(self, number):
+        return self.epoch << 32 | number
+
+    def tick(self, moment):
+        self.clock = moment
+        self.line(f"T {moment}")
+
+    def restart(self):
+        """The server starts again: connections, ids and breaks are gone."""
+        self.line("R")
+        self.epoch += 1
+        self.number, self.rpc, self.harmful, self.deadlines = 0, [], {}, []
 
     def rpc_connection(self):
         """A connection of ONC RPC, one of some that stay."""
@@ -254,9 +273,11 @@ class World:
         self.call(connection, nlm.PROGRAM, nlm.VERSION, procedure, nlm.arguments_bytes(procedure, said))
         self.expect("nlm", connection, status)
 
-    def range(self, procedure, caller, svid, file, first, count, status=None, exclusive=True, block=False):
+    def range(self, procedure, caller, svid, file, first, count, status=None, **said):
         lock = nlm.Lock(caller, Files.MARK + u32(file), b"", svid, first * CELL, count * CELL)
-        self.nlm(procedure, {"lock": lock, "exclusive": exclusive, "block": block}, status)
+        self.nlm(procedure, {"lock": lock, **said}, status)
+        if procedure == nlm.LOCK and status == OK:
+            self.recorded.add(caller)
 
     def compound(self, client, ops, status=None):
         """A COMPOUND by a client's connection, or by any."""
@@ -270,15 +291,15 @@ class World:
         if message is None:
             message, desk.messages = desk.messages, desk.messages + 1
         ids = desk.tree << 32 if ids is None else ids
-        session = (1 << 32) + desk.session if desk.session else 0
-        head = smb.HEADER.pack(smb.MAGIC, 64, 0, 0, command, 1, flags, 0, message, ids, session, bytes(16))
+        head = smb.HEADER.pack(smb.MAGIC, 64, 0, 0, command, 1, flags, 0, message, ids, desk.session, bytes(16))
         self.line(f"B {desk.connection} {smb.framed(head + body).hex()}")
         self.expect("smb", desk.connection, status, message)
         return message
 
     def granted(self, call, status="granted"):
         """A caller's answer to a call of GRANTED."""
-        self.line(f"C {call} {rpc.success_bytes(call % 2**32, nlm.granted_answer(call, status)).hex()}")
+        number = number_of(call)
+        self.line(f"C {number} {rpc.success_bytes(number, nlm.granted_answer(number, status)).hex()}")
 
     # ---- clients
 
@@ -286,14 +307,14 @@ class World:
         """A SETCLIENTID and its confirmation, one event each."""
         callback = struct.pack(">I", client.program) + opaque(b"tcp") + opaque(b"127.0.0.1.3.4") + u32(1)
         self.compound(client, [u32(nfs.SET_CLIENT_ID) + bytes(8) + opaque(client.name) + callback], OK)
-        client.number, confirm = self.draw(), self.draw()
+        client.id, confirm = self.draw(), self.draw()
         yield
-        self.compound(client, [u32(nfs.CONFIRM) + clientid(client.number) + struct.pack(">Q", confirm)], OK)
+        self.compound(client, [u32(nfs.CONFIRM) + clientid(client.id) + struct.pack(">Q", number_of(confirm))], OK)
         client.renewed = self.clock
         yield
 
     def renew(self, client):
-        self.compound(client, [u32(nfs.RENEW) + clientid(client.number)], OK)
+        self.compound(client, [u32(nfs.RENEW) + clientid(client.id)], OK)
         client.renewed = self.clock
 
     def owner_of(self, client):
@@ -306,7 +327,7 @@ class World:
     def nfs_open(self, client, owner, file, access, deny=0):
         """An OPEN that succeeds, and its confirmation where the owner needs one."""
         seqid = owner.next()
-        self.compound(client, [PUT_ROOT, op_open(seqid, client.number, owner.name, file, access, deny), GET_FH], OK)
+        self.compound(client, [PUT_ROOT, op_open(seqid, client.id, owner.name, file, access, deny), GET_FH], OK)
         owner.open, owner.open_seqid = self.draw(), 1
         yield
         if not owner.is_confirmed:
@@ -317,7 +338,7 @@ class World:
     def nfs_lock(self, client, owner, file, first, count, exclusive=True, status=OK):
         """A LOCK, whose answer is known."""
         if owner.lock is None:
-            new = client.number, owner.name, owner.next()
+            new = client.id, owner.name, owner.next()
             op = op_lock(first, count, exclusive, owner.state, owner.next_lock(), new)
         else:
             op = op_lock(first, count, exclusive, owner.lock_state, owner.next_lock())
@@ -349,7 +370,7 @@ class World:
         yield
         path = "\\\\x\\xl".encode("utf-16-le")
         self.smb(desk, smb.TREE_CONNECT, struct.pack("<4H", 9, 0, 72, len(path)) + path, OK)
-        desk.tree = self.draw()
+        desk.tree = number_of(self.draw())
         yield
         return desk
 
@@ -383,7 +404,7 @@ class World:
 
 
 def file_id(open_):
-    return struct.pack("<2Q", *[(1 << 32) + open_] * 2)
+    return struct.pack("<2Q", open_, open_)
 
 
 def caller_name(number):
