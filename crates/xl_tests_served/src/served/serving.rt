@@ -21,7 +21,7 @@ const UNLOCK: &str =
     "80000058000000020000000000000002000186b500000004000000040000000000000000000000000000000000000000000000016100000000000008584c4b310000000100000000000000070000000000000000000000000000000a";
 
 /// What is written of a lane with this link: the header, and a line for each event.
-const HEADER: &str = "F a.txt\nL 90000 90000 35000\n";
+const HEADER: &str = "F a.txt\nL 90000 90000 35000\nK 0\n";
 
 /// What a replay of that answers.
 const REPLAY: &str = "0 0 4\n\
@@ -111,14 +111,14 @@ fn run_serve<R: Threads + Wait + Sync>(
     Ok(Ran { done, written })
 }
 
-/// The events of a link that gave so many of its records, behind the opening.
+/// The events of a link that gave so many of its records, behind the opening. The lock's caller is recorded, which is one store.
 fn lines(alloc: Global, between: &str, records: usize) -> Result<String, Fail> {
-    let mut text = format!(in alloc; "{HEADER}O rpc\n{between}")?;
-    for record in [LOCK, UNLOCK].iter().take(records) {
-        let line = format!(in alloc; "B 0 {record}\n")?;
+    let mut text = format!(in alloc; "{HEADER}O rpc !0\n{between}")?;
+    for (record, stores) in [(LOCK, 1), (UNLOCK, 0)].iter().take(records) {
+        let line = format!(in alloc; "B 0 {record} !{stores}\n")?;
         text.push_str(&line)?;
     }
-    text.push_str("E 0\n")?;
+    text.push_str("E 0 !0\n")?;
     Ok(text)
 }
 
@@ -161,7 +161,7 @@ fn replays_alike(rt: HostRuntime) -> Result<(), Fail> {
 fn one_reading_is_entered(rt: HostRuntime) -> Result<(), Fail> {
     let alloc = rt.alloc();
     let ran = run_serve(&rt, alloc, "F a.txt\n", NONE, 1_005)?;
-    let wanted = lines(alloc, "T 1000\n", 2)?;
+    let wanted = lines(alloc, "T 1000 !0\n", 2)?;
     assert!(rt; is_so(alloc, &ran, "0 0 5 end", &wanted)?);
     Ok(())
 }
