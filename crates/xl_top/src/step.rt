@@ -126,6 +126,7 @@ fn ended_in(replayer: &Replayer, called: Result<bool, Halt>) -> Result<bool, Hal
 }
 
 /// Enters steps in order, through one desk, up to the next restart, and tells whether one came.
+#[inline(never)]
 fn step_run<R: Wait>(
     rt: &R,
     alloc: Global,
@@ -151,6 +152,7 @@ fn step_run<R: Wait>(
 }
 
 /// Starts the server again.
+#[inline(never)]
 fn start_again(alloc: Global, replayer: Replayer) -> Result<Replayer, Replayed>
     ensures goes { IfOk result (λ r. r.house.halt ≡ None) }
     ensures made { IfOk result (λ r. AreMade (start_of r.house.head) r.house.entries r.allowed) }
@@ -179,6 +181,7 @@ fn start_again(alloc: Global, replayer: Replayer) -> Result<Replayer, Replayed>
 }
 
 /// Makes the steps in order: those up to each restart through a desk of their own, and the server's start behind it.
+// Its calls aren't inlined: with the parts of two machines side by side in its loop, LLVM takes hours over it.
 pub(crate) fn step_all<R: Wait>(
     rt: &R,
     alloc: Global,
