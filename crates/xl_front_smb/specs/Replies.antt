@@ -3,7 +3,7 @@ use Rattle.std.specs.Prelude.{◌≡◌, ℕ, min, max, ◌==◌, if◌then◌el
 use Rattle.xl_smb.specs.Heads.{number_of}
 use Rattle.xl_smb.specs.Messages.{Reply, spelling}
 use Rattle.xl_smb.specs.Places.{zeros}
-use Rattle.xl_smb.specs.Replies.{ReplyItem, Negotiate, SessionSetup, Logoff, TreeConnect, TreeDisconnect, Create, Close, Lock, Echo, OplockBreak, Error}
+use Rattle.xl_smb.specs.Replies.{ReplyItem, Negotiate, SessionSetup, Logoff, TreeConnect, TreeDisconnect, Close, Echo, OplockBreak, Error}
 use Rattle.xl_smb.specs.Sessions.{NegotiateReplyItem, SetupReplyItem}
 use Rattle.xl_smb.specs.declared.breaks.Break.TheVariants as held
 use Rattle.xl_smb.specs.declared.command.Command.{Command}
@@ -13,7 +13,9 @@ use Rattle.xl_smb.specs.declared.head.Route.TheVariants.{Tree, Async}
 use Rattle.xl_smb.specs.declared.head.SmbHead.{SmbHead}
 use Rattle.xl_smb.specs.declared.lock.CloseReply.{CloseReply}
 use Rattle.xl_smb.specs.declared.session.TreeConnectReply.{TreeConnectReply}
-use Rattle.xl_smb_locks.specs.Levels.{contexts_told, file_id, file_of, opened}
+use Rattle.xl_smb_locks.specs.Finals.{final_body, final_contexts}
+use Rattle.xl_smb_locks.specs.Levels.{file_id, file_of}
+use Rattle.xl_smb_locks.specs.declared.finals.FinalReply.TheVariants as said
 use Rattle.xl_smb_locks.specs.Statuses.{status_number, status_pending, status_success}
 use Rattle.xl_front_smb.specs.declared.told.Told.{Told}
 use Rattle.xl_front_smb.specs.declared.told.Told.TheVariants as told
@@ -86,22 +88,22 @@ closed = record { flags = 0; status = file_of 0 }
 
 -- the contexts: those of a file that is open
 abbrev pub contexts_of : Told → List ℕ
-contexts_of (told.Opened id cache) = contexts_told cache
+contexts_of (told.Opened id cache) = final_contexts (said.Opened id cache)
 contexts_of _ = []
 
 abbrev pub body_of : Told → Option ReplyItem
 body_of told.Nothing = None
-body_of (told.Failed status) = Some Error
+body_of (told.Failed status) = Some (final_body (said.Failed status))
 body_of told.Negotiated = Some (Negotiate negotiated)
 body_of (told.SetUp session) = Some (SessionSetup set_up)
 body_of told.LoggedOff = Some Logoff
 body_of (told.Connected tree) = Some (TreeConnect connected)
 body_of told.Disconnected = Some TreeDisconnect
-body_of (told.Opened id cache) = Some (Create (opened id cache))
+body_of (told.Opened id cache) = Some (final_body (said.Opened id cache))
 body_of (told.Acknowledged id level) = Some (OplockBreak (held.Oplock level (file_id id)))
 body_of (told.Answered lease) = Some (OplockBreak (held.Lease lease))
 body_of told.Closed = Some (Close closed)
-body_of told.Locked = Some Lock
+body_of told.Locked = Some (final_body said.Locked)
 body_of (told.Pending id) = Some Error
 body_of told.Echoed = Some Echo
 

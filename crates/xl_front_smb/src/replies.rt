@@ -13,7 +13,7 @@ use xl_smb::{
     Break, CloseReply, Command, NegotiateReply, Route, SessionSetupReply, SmbHead, SmbMessage,
     SmbReply, TreeConnectReply, write,
 };
-use xl_smb_locks::{PENDING, SUCCESS, contexts_told, file_id, file_of, opened};
+use xl_smb_locks::{FinalReply, PENDING, SUCCESS, contexts_told, file_id, file_of, final_body};
 
 /// The credits that are granted if so many are asked for.
 #[tactic(auto, unfolding(crate::specs::Replies::credits_for))]
@@ -131,7 +131,7 @@ fn body_of(told: Told, contexts: &[u8]) -> Option<SmbReply<'_>>
 {
     match told {
         Told::Nothing => None,
-        Told::Failed(_) => Some(SmbReply::Error),
+        Told::Failed(status) => Some(final_body(FinalReply::Failed(status), contexts)),
         Told::Negotiated => Some(SmbReply::Negotiate(negotiated())),
         Told::SetUp(_) => Some(SmbReply::SessionSetup(SessionSetupReply {
             flags: 1,
@@ -145,12 +145,12 @@ fn body_of(told: Told, contexts: &[u8]) -> Option<SmbReply<'_>>
             maximal_access: 0x001F_01FF,
         })),
         Told::Disconnected => Some(SmbReply::TreeDisconnect),
-        Told::Opened(id, cache) => Some(SmbReply::Create(opened(id, cache, contexts))),
+        Told::Opened(id, cache) => Some(final_body(FinalReply::Opened(id, cache), contexts)),
         Told::Acknowledged(id, level) => {
             Some(SmbReply::OplockBreak(Break::Oplock(level, file_id(id))))
         }
         Told::Answered(lease) => Some(SmbReply::OplockBreak(Break::Lease(lease))),
-        Told::Locked => Some(SmbReply::Lock),
+        Told::Locked => Some(final_body(FinalReply::Locked, contexts)),
         Told::Pending(_) => Some(SmbReply::Error),
         Told::Closed => Some(SmbReply::Close(CloseReply {
             flags: 0,

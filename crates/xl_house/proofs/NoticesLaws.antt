@@ -43,10 +43,10 @@ use Rattle.xl_front_nfs.specs.Recalls.{recalls}
 use Rattle.xl_front_nfs.specs.State.{FrontNfs}
 use Rattle.xl_front_smb.specs.FrontSmb.{smb_shown}
 use Rattle.xl_front_smb.specs.State.{FrontSmb}
-use Rattle.xl_smb_locks.specs.Finals.{final_reply, request_served, served_with, told_of}
+use Rattle.xl_smb_locks.specs.Finals.{concluded, final_reply, refusal_of, request_served, served_with, told_of}
 use Rattle.xl_smb_locks.specs.Levels.{lease_notice_of, notice_of, noticed, noticed_by, noticed_to, noticed_under}
 use Rattle.xl_smb_locks.proofs.NoticeLaws.{served_final}
-use Rattle.xl_smb_laws.proofs.ReplyHeadLaws.{served_carries}
+use Rattle.xl_smb_laws.proofs.ReplyHeadLaws.{final_carries}
 use Rattle.xl_nfs_laws.proofs.RecallLaws.{recall_alone, recall_exactly}
 use Rattle.xl_house.specs.Notices.{IsFinalIf, IsGrantOf, IsGrantSent, Called, Unreached, IsNews, IsNewsBy, IsNfsNews, IsNlmNews, IsNotice, Oplock, Lease, IsOneIf, IsRecallSent, Recalled, Returned, IsSmbNews, connection_by, connection_of, connection_under, reached_by}
 use Rattle.xl_house.specs.Telling.{framed, shown_by}
@@ -176,7 +176,7 @@ unasked s l party id answer none = ap (λ (o : Option Waiting). (served_with s i
 
 final_sent : (s : CoreState) (l : Lists) (party : Party) (id : ℕ) (answer : Answer) (o : Option Waiting) → waiting_of id l ≡ o → IsFinalIf id o (map (framed SmbStream) (told_of s (Served party id answer) l).0)
 final_sent s l party id answer None at = ap (λ (outs : List Out). map (framed SmbStream) outs) (unasked s l party id answer at)
-final_sent s l party id answer (Some row) at = (final_reply s l id row answer row.request, served_carries s l id row answer, ap (λ (outs : List Out). map (framed SmbStream) outs) (served_final s l party id answer row at).0)
+final_sent s l party id answer (Some row) at = (final_reply id row (concluded s row (refusal_of answer row.request) l).0, final_carries id row (concluded s row (refusal_of answer row.request) l).0, ap (λ (outs : List Out). map (framed SmbStream) outs) (served_final s l party id answer row at).0)
 
 told_news : (s : CoreState) (l : Lists) (effect : Effect) → IsSmbNews l s effect (map (framed SmbStream) (told_of s effect l).0)
 unfolding told_of

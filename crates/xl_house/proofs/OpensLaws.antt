@@ -24,7 +24,8 @@ use Rattle.xl_core.specs.declared.ask.Answer.{Answer}
 use Rattle.xl_core.specs.declared.ask.Answer.TheVariants as answers
 use Rattle.xl_core.specs.declared.ask.Effect.{Effect}
 use Rattle.xl_core.specs.declared.ask.Effect.TheVariants as effects
-use Rattle.xl_smb_locks.specs.Finals.{final_outs, locked_reply, may_stand, open_refusal, opened_outs, request_served, served_by, served_with, stood, told_of}
+use Rattle.xl_smb_locks.specs.Finals.{concluded, final_outs, may_stand, refusal_of, replied, request_served, served_with, stood, succeeded, told_of}
+use Rattle.xl_smb_locks.specs.declared.finals.FinalReply.TheVariants.{Locked}
 use Rattle.xl_smb_locks.specs.Levels.{cache_told, caching, level_held}
 use Rattle.xl_smb_locks.specs.declared.status.SmbStatus.{SmbStatus}
 use Rattle.xl_front_smb.specs.Checks.{is_open_on}
@@ -39,21 +40,21 @@ pub record StaysSo (P : Lists → Type 0) : Type 0 where
   pub same : (l m : Lists) → m.opens ≡ l.opens → m.leases ≡ l.leases → P l → P m
 
 module _ (P : Lists → Type 0) (stays : StaysSo P) where
-  stood_so : (s : CoreState) (id : ℕ) (row : Waiting) (made : Open) (stands : Bool) (l : Lists) → P l → P (stood s id row made stands l).1
-  stood_so s id row made true l so = stays.comes row.opened made l so
-  stood_so s id row made false l so = so
+  stood_so : (s : CoreState) (row : Waiting) (made : Open) (stands : Bool) (l : Lists) → P l → P (stood s row made stands l).1
+  stood_so s row made true l so = stays.comes row.opened made l so
+  stood_so s row made false l so = so
 
-  opened_so : (s : CoreState) (id : ℕ) (row : Waiting) (made : Open) (refused : Option SmbStatus) (l : Lists) → P l → P (opened_outs s id row made refused l).1
-  opened_so s id row made None l so = stood_so s id row made (may_stand row.opened made l) l so
-  opened_so s id row made (Some status) l so = so
+  succeeded_so : (s : CoreState) (row : Waiting) (r : Request) (l : Lists) → P l → P (succeeded s row r l).1
+  succeeded_so s row (request.Create made) l so = stood_so s row made (may_stand row.opened made l) l so
+  succeeded_so s row request.Lock l so = so
 
-  by_so : (s : CoreState) (id : ℕ) (row : Waiting) (answer : Answer) (r : Request) (l : Lists) → P l → P (served_by s id row answer r l).1
-  by_so s id row answer (request.Create made) l so = opened_so s id row made (open_refusal answer) l so
-  by_so s id row answer request.Lock l so = so
+  concluded_so : (s : CoreState) (row : Waiting) (refused : Option SmbStatus) (l : Lists) → P l → P (concluded s row refused l).1
+  concluded_so s row None l so = succeeded_so s row row.request l so
+  concluded_so s row (Some status) l so = so
 
   with_so : (s : CoreState) (id : ℕ) (answer : Answer) (o : Option Waiting) (l : Lists) → P l → P (served_with s id answer o l).1
   with_so s id answer None l so = so
-  with_so s id answer (Some row) l so = by_so s id row answer row.request (waiting_dropped id l) (stays.same l (waiting_dropped id l) refl refl so)
+  with_so s id answer (Some row) l so = concluded_so s row (refusal_of answer row.request) (waiting_dropped id l) (stays.same l (waiting_dropped id l) refl refl so)
 
   served_so : (s : CoreState) (id : ℕ) (answer : Answer) (l : Lists) → P l → P (request_served s id answer l).1
   unfolding request_served
@@ -93,10 +94,10 @@ asks_as w claim claims number asked owner =
     ap (λ (cs : List Claim). list_any (λ (c : Claim). same_owners c.owner (owners.Open number)) cs) asked
     ∙ ap (λ (b : Bool). b || list_any (λ (c : Claim). same_owners c.owner (owners.Open number)) claims) own
 
-pub lock_told : (f : FrontSmb) (s : CoreState) (party : Party) (id : ℕ) (row : Waiting) (claim : Claim) → waiting_of id f.state ≡ Some row → row.request ≡ request.Lock → (smb_shown f s (effects.Served party id (answers.Granted claim))).0 ≡ final_outs row (locked_reply id row)
+pub lock_told : (f : FrontSmb) (s : CoreState) (party : Party) (id : ℕ) (row : Waiting) (claim : Claim) → waiting_of id f.state ≡ Some row → row.request ≡ request.Lock → (smb_shown f s (effects.Served party id (answers.Granted claim))).0 ≡ final_outs id row Locked
 unfolding smb_shown told_of request_served
 lock_told f s party id row claim at locks =
-    ap (λ (o : Option Waiting). (served_with s id (answers.Granted claim) o f.state).0) at ∙ ap (λ (r : Request). (served_by s id row (answers.Granted claim) r (waiting_dropped id f.state)).0) locks
+    ap (λ (o : Option Waiting). (served_with s id (answers.Granted claim) o f.state).0) at ∙ ap (λ (r : Request). (replied id row (succeeded s row r (waiting_dropped id f.state))).0) locks
 
 told_as : (t : CoreState) (counter number : ℕ) (row : Open) (key : Option (List ℕ)) → cache_told (record t { counter = counter }) number row key ≡ cache_told t number row key
 unfolding cache_told level_held

@@ -28,7 +28,8 @@ use Rattle.xl_core.specs.Told.{party_protocol}
 use Rattle.xl_core.specs.declared.ask.Answer.TheVariants as answers
 use Rattle.xl_core.specs.declared.ask.Effect.{Effect}
 use Rattle.xl_core.specs.declared.ask.Effect.TheVariants as effects
-use Rattle.xl_smb_locks.specs.Finals.{final_outs, opened_reply}
+use Rattle.xl_smb_locks.specs.Finals.{final_outs}
+use Rattle.xl_smb_locks.specs.declared.finals.FinalReply.TheVariants.{Opened}
 use Rattle.xl_core.specs.Ids.{id_of}
 use Rattle.xl_smb_locks.specs.Levels.{caching}
 use Rattle.xl_smb_locks.specs.declared.levels.Caching.{Caching}
@@ -122,14 +123,14 @@ module _ (n fuel : ℕ) (exports : Exports) (f : Fronts) (s t : CoreState) (told
       refl (subst (λ (r : Request). IsUnder f.smb.state (id, row) r) locks is.under)
 
   -- what SMB's front says, in a core that is the turn's but for the numbers that were given out since
-  says : (u : CoreState) (counter : ℕ) (r : Request) → u ≡ record t { counter = counter } → row.request ≡ r → (smb_shown f.smb u (effects.Served party id (answers.Granted claim))).0 ≡ final_outs row (success_of t id row r)
+  says : (u : CoreState) (counter : ℕ) (r : Request) → u ≡ record t { counter = counter } → row.request ≡ r → (smb_shown f.smb u (effects.Served party id (answers.Granted claim))).0 ≡ final_outs id row (success_of t row r)
   says u counter (request.Create made) same makes =
       granted_reply n (rooms_of f) s t u f.smb party id row made claim good stand.awaits (granted made makes)
-      ∙ ap (λ (c : CoreState). final_outs row (opened_reply id row (id_of c row.opened) (caching c row.opened made))) same
-      ∙ ap (λ (held : Caching). final_outs row (opened_reply id row (id_of t row.opened) held)) (same_caching t counter row.opened made)
+      ∙ ap (λ (c : CoreState). final_outs id row (Opened (id_of c row.opened) (caching c row.opened made))) same
+      ∙ ap (λ (held : Caching). final_outs id row (Opened (id_of t row.opened) held)) (same_caching t counter row.opened made)
   says u counter request.Lock same locks = lock_told f.smb u party id row claim waited locks
 
-  pub is_told : (before : List Effect) × (told ≡ before ++ effects.Served party id (answers.Granted claim) ∷ []) × ((all_shown exports f t told).0 ≡ (all_shown exports f t before).0 ++ map (framed Smb) (final_outs row (success_of t id row row.request)))
+  pub is_told : (before : List Effect) × (told ≡ before ++ effects.Served party id (answers.Granted claim) ∷ []) × ((all_shown exports f t told).0 ≡ (all_shown exports f t before).0 ++ map (framed Smb) (final_outs id row (success_of t row row.request)))
   is_told =
       let x : Effect = effects.Served party id (answers.Granted claim) in
       let grant = served_grant n (rooms_of f) s t told party id claim (turn_of n (rooms_of f) s t told good turned) served in

@@ -18,7 +18,9 @@ use Rattle.xl_core.specs.State.{CoreState}
 use Rattle.xl_core.specs.declared.ask.Answer.TheVariants.{Granted}
 use Rattle.xl_core.specs.declared.ask.Effect.{Effect}
 use Rattle.xl_core.specs.declared.ask.Effect.TheVariants.{Served}
-use Rattle.xl_smb_locks.specs.Finals.{final_outs, locked_reply, opened_reply}
+use Rattle.xl_smb_locks.specs.Finals.{final_outs}
+use Rattle.xl_smb_locks.specs.declared.finals.FinalReply.{FinalReply}
+use Rattle.xl_smb_locks.specs.declared.finals.FinalReply.TheVariants.{Locked, Opened}
 use Rattle.xl_core.specs.Ids.{id_of}
 use Rattle.xl_smb_locks.specs.Levels.{caching}
 use Rattle.xl_smb_laws.specs.WaitingRequests.{AreAwaited, AreKept}
@@ -44,9 +46,9 @@ OpenStands last row claim (request.Create made) = (claim.file ≡ made.file) × 
 OpenStands last row claim request.Lock = is_open_on row.place.connection (open_of row.opened last) ≡ true
 
 -- its final reply, STATUS_SUCCESS, with what the open has of caches
-abbrev pub success_of : CoreState → ℕ → Waiting → Request → List ℕ
-success_of t id row (request.Create made) = opened_reply id row (id_of t row.opened) (caching t row.opened made)
-success_of t id row request.Lock = locked_reply id row
+abbrev pub success_of : CoreState → Waiting → Request → FinalReply
+success_of t row (request.Create made) = Opened (id_of t row.opened) (caching t row.opened made)
+success_of t row request.Lock = Locked
 
 -- The claim that the waiter of this number is granted by a turn for an SMB open: a request under that number waits for this open in
 -- the front's lists, and the open is there in the last ones. The grant is the last that the turn tells of; and what is sent for the
@@ -58,7 +60,7 @@ pub record HasItsOpen (exports : Exports) (last : Lists) (turn : TurnTaken) (par
   pub there : OpenStands last row claim row.request
   pub before : List Effect
   pub told : turn.told ≡ before ++ Served party id (Granted claim) ∷ []
-  pub sent : (turn_sent exports turn).0 ≡ (all_shown exports turn.front turn.left before).0 ++ map (framed Smb) (final_outs row (success_of turn.left id row row.request))
+  pub sent : (turn_sent exports turn).0 ≡ (all_shown exports turn.front turn.left before).0 ++ map (framed Smb) (final_outs id row (success_of turn.left row row.request))
 
 -- so it is of each claim that is granted by it to an SMB open
 abbrev pub HaveOpens : Exports → Lists → TurnTaken → Type 0

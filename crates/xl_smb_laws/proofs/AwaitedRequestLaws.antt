@@ -72,7 +72,7 @@ use Rattle.xl_core.specs.declared.ask.Who.{Who}
 use Rattle.xl_core.specs.declared.ask.Who.TheVariants as who
 use Rattle.xl_smb_locks.proofs.UnlockLaws.{any_stores, no_way}
 use Rattle.xl_smb_locks.specs.Elements.{extent_of, is_count, unlock_fault}
-use Rattle.xl_smb_locks.specs.Finals.{and_sent, cancels, dismissed, ended_with, is_cancelled, request_ended, told_of, open_refusal, opened_outs, request_served, served_with, may_stand, served_by, stood}
+use Rattle.xl_smb_locks.specs.Finals.{and_sent, cancels, concluded, dismissed, ended_with, is_cancelled, refusal_of, request_ended, told_of, request_served, served_with, may_stand, stood, succeeded}
 use Rattle.xl_smb_locks.specs.Locks.{lock_ask, lock_told, range_of, unlock_ask, unlock_next, unlock_told, unlocks}
 use Rattle.xl_smb_locks.specs.declared.locking.Locking.{Locking}
 use Rattle.xl_smb_locks.specs.declared.status.SmbStatus.{SmbStatus}
@@ -963,7 +963,7 @@ made_alone id row made l e here makes other (request.Create own) it under =
       | inl same ↦ absurd (true≢false (sym (ap (λ (k : ℕ). eqb id k) (sym (under.single (id, row) here (ap makes_open makes) (equal_from e.1.opened row.opened same))) ∙ equal_self id) ∙ other))
     ]
 
-stood_leaves : (s : CoreState) (id : ℕ) (row : Waiting) (made : Open) (stands : Bool) (l : Lists) → IsIn (id, row) l.waiting → row.request ≡ request.Create made → Leaves id l (stood s id row made stands (waiting_dropped id l)).1
+stood_leaves : (s : CoreState) (id : ℕ) (row : Waiting) (made : Open) (stands : Bool) (l : Lists) → IsIn (id, row) l.waiting → row.request ≡ request.Create made → Leaves id l (stood s row made stands (waiting_dropped id l)).1
 stood_leaves s id row made true l here makes =
     let d : Lists = waiting_dropped id l in
     let m : Lists = with_open row.opened made d in (
@@ -978,13 +978,13 @@ stood_leaves s id row made true l here makes =
     )
 stood_leaves s id row made false l here makes = only_gone id l (waiting_dropped id l) refl refl refl refl refl
 
-opened_leaves : (s : CoreState) (id : ℕ) (row : Waiting) (made : Open) (refused : Option SmbStatus) (l : Lists) → IsIn (id, row) l.waiting → row.request ≡ request.Create made → Leaves id l (opened_outs s id row made refused (waiting_dropped id l)).1
-opened_leaves s id row made None l here makes = stood_leaves s id row made (may_stand row.opened made (waiting_dropped id l)) l here makes
-opened_leaves s id row made (Some status) l here makes = only_gone id l (waiting_dropped id l) refl refl refl refl refl
+succeeded_leaves : (s : CoreState) (id : ℕ) (row : Waiting) (r : Request) (l : Lists) → IsIn (id, row) l.waiting → row.request ≡ r → Leaves id l (succeeded s row r (waiting_dropped id l)).1
+succeeded_leaves s id row request.Lock l here makes = only_gone id l (waiting_dropped id l) refl refl refl refl refl
+succeeded_leaves s id row (request.Create made) l here makes = stood_leaves s id row made (may_stand row.opened made (waiting_dropped id l)) l here makes
 
-served_leaves : (s : CoreState) (id : ℕ) (row : Waiting) (answer : Answer) (r : Request) (l : Lists) → IsIn (id, row) l.waiting → row.request ≡ r → Leaves id l (served_by s id row answer r (waiting_dropped id l)).1
-served_leaves s id row answer request.Lock l here makes = only_gone id l (waiting_dropped id l) refl refl refl refl refl
-served_leaves s id row answer (request.Create made) l here makes = opened_leaves s id row made (open_refusal answer) l here makes
+concluded_leaves : (s : CoreState) (id : ℕ) (row : Waiting) (refused : Option SmbStatus) (l : Lists) → IsIn (id, row) l.waiting → Leaves id l (concluded s row refused (waiting_dropped id l)).1
+concluded_leaves s id row None l here = succeeded_leaves s id row row.request l here refl
+concluded_leaves s id row (Some status) l here = only_gone id l (waiting_dropped id l) refl refl refl refl refl
 
 pub row_in : (id : ℕ) (es : List (ℕ × Waiting)) (row : Waiting) → lookup (nat_eq id) es ≡ Some row → IsIn (id, row) es
 row_in id [] row at = absurd (none_some at)
@@ -1000,7 +1000,7 @@ served_rows s id answer l = by (waiting_of id l) refl
   where
     by : (o : Option Waiting) → waiting_of id l ≡ o → Leaves id l (served_with s id answer o l).1
     by None e = only_gone id l l (sym (none_out (nat_eq id) l.waiting e)) refl refl refl refl
-    by (Some row) e = served_leaves s id row answer row.request l (row_in id l.waiting row e) refl
+    by (Some row) e = concluded_leaves s id row (refusal_of answer row.request) l (row_in id l.waiting row e)
 
 other_awaited : (s : CoreState) (l m : Lists) (id : ℕ) (e : ℕ × Waiting) → Leaves id l m → IsDistinct nat_eq (keys_of l.waiting) → IsIn e m.waiting → IsIn e l.waiting × (eqb id e.0 ≡ false) × (IsAwaited s l e → IsAwaited s m e)
 other_awaited s l m id e leaves distinct here =

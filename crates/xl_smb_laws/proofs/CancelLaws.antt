@@ -23,7 +23,8 @@ use Rattle.xl_core.specs.Settle.{cancel as cancel_of, told_of_one}
 use Rattle.xl_core.specs.State.{CoreState}
 use Rattle.xl_core.specs.declared.ask.Effect.{Effect}
 use Rattle.xl_core.specs.declared.ask.Effect.TheVariants.{Cancelled}
-use Rattle.xl_smb_locks.specs.Finals.{dismissed, ended_with, failed_outs, request_ended}
+use Rattle.xl_smb_locks.specs.Finals.{dismissed, ended_with, final_outs, request_ended}
+use Rattle.xl_smb_locks.specs.declared.finals.FinalReply.TheVariants.{Failed}
 use Rattle.xl_smb_locks.specs.declared.status.SmbStatus.TheVariants as statuses
 use Rattle.xl_front_smb.specs.Checks.{negotiated_by}
 use Rattle.xl_front_smb.specs.Ending.{all_dismissed}
@@ -160,17 +161,17 @@ told_is : (s : CoreState) (id : ℕ) → is_waiting id s.waiters ≡ true → (p
 unfolding cancel_of
 told_is s id waits = told_among id s.waiters waits
 
-ended_so : (id : ℕ) (l : Lists) (row : Waiting) → waiting_of id l ≡ Some row → request_ended id statuses.Cancelled l ≡ (failed_outs id row statuses.Cancelled, waiting_dropped id l)
+ended_so : (id : ℕ) (l : Lists) (row : Waiting) → waiting_of id l ≡ Some row → request_ended id statuses.Cancelled l ≡ (final_outs id row (Failed statuses.Cancelled), waiting_dropped id l)
 unfolding request_ended
 ended_so id l row found = ap (λ (o : Option Waiting). ended_with id statuses.Cancelled o l) found
 
 pub cancel_sends : (n : ℕ) (exports : Exports) (others : ℕ) (f : FrontSmb) (s : CoreState) (conn : ℕ) (bytes : List ℕ) (h : SmbHead) (client : List ℕ) (id : ℕ) (row : Waiting) → IsRequest bytes h Cancel → client_of conn f.state ≡ Some client → IsDistinct nat_eq (keys_of f.state.waiting) → request_named conn f.state h.message_id h.route ≡ Some id → waiting_of id f.state ≡ Some row → is_waiting id s.waiters ≡ true
-    → smb_step n exports others f s conn bytes ≡ (failed_outs id row statuses.Cancelled, (cancel_of s id).0, record { state = waiting_dropped id f.state }, (cancel_of s id).1)
+    → smb_step n exports others f s conn bytes ≡ (final_outs id row (Failed statuses.Cancelled), (cancel_of s id).0, record { state = waiting_dropped id f.state }, (cancel_of s id).1)
 cancel_sends n exports others f s conn bytes h client id row is known distinct named found waits =
     let t : CoreState = (cancel_of s id).1 in
     let effects : List Effect = (cancel_of s id).0 in
     let own = told_is s id waits in
-    let sent : all_dismissed effects f.state ≡ (failed_outs id row statuses.Cancelled, waiting_dropped id f.state) =
+    let sent : all_dismissed effects f.state ≡ (final_outs id row (Failed statuses.Cancelled), waiting_dropped id f.state) =
     ap (λ (es : List Effect). all_dismissed es f.state) own.1 ∙ one_dismissed own.0 id (keys_of f.state.waiting) f.state distinct (in_keys (λ (r : Waiting). covers (scope.Connection conn) r.place) f.state.waiting id (named_in conn f.state h.message_id h.route id named)) ∙ ended_so id f.state row found in
     request_comes n exports others f s conn bytes h Cancel is
     ∙ ap (λ (p : Plan). answered conn h (carried n s f.state p)) (named_plan s exports.files others f.state conn h client (Some id) known named)

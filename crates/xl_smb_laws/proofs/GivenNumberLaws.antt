@@ -37,7 +37,7 @@ use Rattle.xl_core.specs.declared.ask.Answer.{Answer}
 use Rattle.xl_core.specs.declared.ask.Answer.TheVariants as answers
 use Rattle.xl_core.specs.declared.ask.Effect.{Effect}
 use Rattle.xl_core.specs.declared.ask.Effect.TheVariants as effects
-use Rattle.xl_smb_locks.specs.Finals.{dismissed, ended_with, is_cancelled, may_stand, open_refusal, opened_outs, request_ended, request_served, served_by, served_with, stood, told_of}
+use Rattle.xl_smb_locks.specs.Finals.{concluded, dismissed, ended_with, is_cancelled, may_stand, refusal_of, request_ended, request_served, served_with, stood, succeeded, told_of}
 use Rattle.xl_smb_locks.specs.Locks.{lock_told, unlocks}
 use Rattle.xl_smb_locks.specs.declared.locking.Locking.{Locking}
 use Rattle.xl_smb_locks.specs.declared.locking.Locking.TheVariants as locking
@@ -421,17 +421,17 @@ row_given last id (e ∷ es) row all at =
       | inr other ↦ row_given last id es row all.1 (rw other at at)
     ]
 
-stood_numbered : (last : ℕ) (s : CoreState) (id : ℕ) (row : Waiting) (made : Open) (stands : Bool) (l : Lists) → row.opened ≤ last → AreNumbered last l → AreNumbered last (stood s id row made stands l).1
-stood_numbered last s id row made true l le numbered = opened_numbered last row.opened made l le numbered
-stood_numbered last s id row made false l le numbered = numbered
+stood_numbered : (last : ℕ) (s : CoreState) (row : Waiting) (made : Open) (stands : Bool) (l : Lists) → row.opened ≤ last → AreNumbered last l → AreNumbered last (stood s row made stands l).1
+stood_numbered last s row made true l le numbered = opened_numbered last row.opened made l le numbered
+stood_numbered last s row made false l le numbered = numbered
 
-made_numbered : (last : ℕ) (s : CoreState) (id : ℕ) (row : Waiting) (made : Open) (refused : Option SmbStatus) (l : Lists) → row.opened ≤ last → AreNumbered last l → AreNumbered last (opened_outs s id row made refused l).1
-made_numbered last s id row made None l le numbered = stood_numbered last s id row made (may_stand row.opened made l) l le numbered
-made_numbered last s id row made (Some refusal) l le numbered = numbered
+succeeded_numbered : (last : ℕ) (s : CoreState) (row : Waiting) (r : Request) (l : Lists) → row.opened ≤ last → AreNumbered last l → AreNumbered last (succeeded s row r l).1
+succeeded_numbered last s row (request.Create made) l le numbered = stood_numbered last s row made (may_stand row.opened made l) l le numbered
+succeeded_numbered last s row request.Lock l le numbered = numbered
 
-by_request : (last : ℕ) (s : CoreState) (id : ℕ) (row : Waiting) (answer : Answer) (r : Request) (l : Lists) → row.opened ≤ last → AreNumbered last l → AreNumbered last (served_by s id row answer r l).1
-by_request last s id row answer (request.Create made) l le numbered = made_numbered last s id row made (open_refusal answer) l le numbered
-by_request last s id row answer request.Lock l le numbered = numbered
+concluded_numbered : (last : ℕ) (s : CoreState) (row : Waiting) (refused : Option SmbStatus) (l : Lists) → row.opened ≤ last → AreNumbered last l → AreNumbered last (concluded s row refused l).1
+concluded_numbered last s row None l le numbered = succeeded_numbered last s row row.request l le numbered
+concluded_numbered last s row (Some refusal) l le numbered = numbered
 
 served_numbered : (last : ℕ) (s : CoreState) (id : ℕ) (answer : Answer) (l : Lists) → AreNumbered last l → AreNumbered last (request_served s id answer l).1
 unfolding request_served
@@ -439,7 +439,7 @@ served_numbered last s id answer l numbered = by (waiting_of id l) refl
   where
     by : (o : Option Waiting) → waiting_of id l ≡ o → AreNumbered last (served_with s id answer o l).1
     by None at = numbered
-    by (Some row) at = by_request last s id row answer row.request (waiting_dropped id l) (row_given last id l.waiting row numbered.waiting at) (dropped_numbered last id l numbered)
+    by (Some row) at = concluded_numbered last s row (refusal_of answer row.request) (waiting_dropped id l) (row_given last id l.waiting row numbered.waiting at) (dropped_numbered last id l numbered)
 
 pub shown_numbered : (last : ℕ) (f : FrontSmb) (s : CoreState) (effect : Effect) → AreNumbered last f.state → AreNumbered last (smb_shown f s effect).1.state
 unfolding smb_shown told_of

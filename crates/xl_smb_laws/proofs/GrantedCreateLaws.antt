@@ -43,7 +43,8 @@ use Rattle.xl_core.specs.declared.ask.Answer.TheVariants as answers
 use Rattle.xl_core.specs.declared.ask.Effect.{Effect}
 use Rattle.xl_core.specs.declared.ask.Effect.TheVariants as effects
 use Rattle.xl_smb_locks.proofs.NoticeLaws.{granted_stands, granted_told}
-use Rattle.xl_smb_locks.specs.Finals.{final_outs, holder_stands, may_stand, opened_reply}
+use Rattle.xl_smb_locks.specs.Finals.{final_outs, holder_stands, may_stand}
+use Rattle.xl_smb_locks.specs.declared.finals.FinalReply.TheVariants.{Opened}
 use Rattle.xl_core.specs.Ids.{id_of}
 use Rattle.xl_smb_locks.specs.Levels.{caching}
 use Rattle.xl_smb_laws.specs.WaitingRequests.{AreAwaited, AsksToOpen, IsAskerOf, IsAwaited, IsGranted, IsUnder, MayStand}
@@ -246,7 +247,7 @@ module _ (n : ℕ) (left : Rooms) (s t u : CoreState) (f : FrontSmb) (party : Pa
   unfolding smb_shown
   granted_row good all is = granted_stands u f.state party id claim row made is.waits is.makes (stands good all is).may
 
-  pub granted_reply : IsGood s → AreAwaited s f.state → IsGranted n left s t f.state party id row made claim → (smb_shown f u (effects.Served party id (answers.Granted claim))).0 ≡ final_outs row (opened_reply id row (id_of u row.opened) (caching u row.opened made))
+  pub granted_reply : IsGood s → AreAwaited s f.state → IsGranted n left s t f.state party id row made claim → (smb_shown f u (effects.Served party id (answers.Granted claim))).0 ≡ final_outs id row (Opened (id_of u row.opened) (caching u row.opened made))
   unfolding smb_shown
   granted_reply good all is = ap (λ (r : List Out × Lists). r.0) (granted_told u f.state party id claim row made is.waits is.makes (stands good all is).may)
 

@@ -15,7 +15,8 @@ use Rattle.xl_core.specs.Decide.{ask}
 use Rattle.xl_core.specs.State.{CoreState, drawn}
 use Rattle.xl_core.specs.declared.ask.Effect.{Effect}
 use Rattle.xl_wait.specs.Waiting.{no_rows}
-use Rattle.xl_smb_locks.specs.Finals.{and_sent, dismissed, ended_with, failed_reply, is_cancelled, request_ended}
+use Rattle.xl_smb_locks.specs.Finals.{and_sent, dismissed, ended_with, final_reply, is_cancelled, request_ended}
+use Rattle.xl_smb_locks.specs.declared.finals.FinalReply.TheVariants.{Failed}
 use Rattle.xl_smb_locks.specs.Locks.{lock_told}
 use Rattle.xl_smb_locks.specs.Statuses.{comes_to}
 use Rattle.xl_smb_locks.specs.declared.locking.Locking.{Locking}
@@ -30,13 +31,13 @@ use Rattle.xl_front_smb.specs.declared.told.Told.TheVariants as said
 use Rattle.xl_smb_laws.specs.Heard.{AreFinals, IfSo, IsFinalThen, IsHeard, IsHeardBy, IsOneTo, IsOwnReply}
 use Rattle.xl_smb_laws.specs.ReplyHeads.{IsReplyOf}
 use Rattle.xl_smb_laws.proofs.AwaitedRequestLaws.{Sorts, requested_sorts}
-use Rattle.xl_smb_laws.proofs.ReplyHeadLaws.{cancel_silent, failed_carries, reply_carries, silent_nothing}
+use Rattle.xl_smb_laws.proofs.ReplyHeadLaws.{cancel_silent, final_carries, reply_carries, silent_nothing}
 
 -- ---- final replies
 
 final_row : (told : List Effect) (ids : List ℕ) (id : ℕ) (l : Lists) → ((m : Lists) → AreFinals told ids m (dismissed told ids m).0) → (o : Option Waiting) → IsFinalThen (AreFinals told ids) id o l (and_sent (ended_with id Cancelled o l) (dismissed told ids)).0
 final_row told ids id l rest None = rest l
-final_row told ids id l rest (Some row) = ((ended_with id Cancelled (Some row) l).0, (dismissed told ids (waiting_dropped id l)).0, refl, (failed_reply id row Cancelled, failed_carries id row Cancelled, refl), rest (waiting_dropped id l))
+final_row told ids id l rest (Some row) = ((ended_with id Cancelled (Some row) l).0, (dismissed told ids (waiting_dropped id l)).0, refl, (final_reply id row (Failed Cancelled), final_carries id row (Failed Cancelled), refl), rest (waiting_dropped id l))
 
 final_by : (told : List Effect) (ids : List ℕ) (id : ℕ) (l : Lists) → ((m : Lists) → AreFinals told ids m (dismissed told ids m).0) → (b : Bool)
     → (let outs = (if b then and_sent (request_ended id Cancelled l) (dismissed told ids) else dismissed told ids l).0 in IfSo b (IsFinalThen (AreFinals told ids) id (waiting_of id l) l outs) (AreFinals told ids l outs))

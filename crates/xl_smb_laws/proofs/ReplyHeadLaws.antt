@@ -1,22 +1,17 @@
 -- What the headers of replies repeat.
-use Rattle.std.proofs.Common.{◌≡◌, ℕ, ◌≤◌, Bool, true, false, if◌then◌else◌, List, Option, Some, None, refl, sym, ap, arith}
+use Rattle.std.proofs.Common.{◌≡◌, ℕ, ◌≤◌, Bool, true, false, if◌then◌else◌, List, Option, Some, None, refl, sym, arith}
 use Rattle.std.specs.Prelude.{◌==◌}
 use Rattle.std.proofs.lemmas.Bool.Decides.{nat_tests}
-use Rattle.xl_smb.specs.Messages.{Reply, spelling}
-use Rattle.xl_smb.specs.Replies.{Create, Error, Lock, ReplyItem}
+use Rattle.xl_smb.specs.Replies.{ReplyItem}
 use Rattle.xl_smb.specs.declared.head.SmbHead.{SmbHead}
-use Rattle.xl_smb_state.specs.State.{Lists}
-use Rattle.xl_smb_state.specs.declared.row.Open.{Open}
 use Rattle.xl_smb_state.specs.declared.row.Request.{Request}
 use Rattle.xl_smb_state.specs.declared.row.Request.TheVariants as request
 use Rattle.xl_smb_state.specs.declared.row.Waiting.{Waiting}
 use Rattle.xl_smb_state.proofs.RowLaws.{none_some, same_Some, some_none}
-use Rattle.xl_core.specs.Ids.{id_of}
-use Rattle.xl_core.specs.State.{CoreState}
-use Rattle.xl_core.specs.declared.ask.Answer.{Answer}
-use Rattle.xl_smb_locks.specs.Finals.{command_by, failed_reply, final_head, final_lock, final_open, final_reply, lock_refusal, may_stand, open_refusal, opened_reply}
-use Rattle.xl_smb_locks.specs.Levels.{caching, opened}
+use Rattle.xl_smb_locks.specs.Finals.{command_by, final_body, final_head, final_reply, final_status}
 use Rattle.xl_smb_locks.specs.Statuses.{status_number}
+use Rattle.xl_smb_locks.specs.declared.finals.FinalReply.{FinalReply}
+use Rattle.xl_smb_locks.specs.declared.finals.FinalReply.TheVariants as saids
 use Rattle.xl_smb_locks.specs.declared.status.SmbStatus.{SmbStatus}
 use Rattle.xl_smb_locks.specs.declared.status.SmbStatus.TheVariants as status
 use Rattle.xl_front_smb.specs.Replies.{body_of, credits_for, head_by, pending_head, reply_head, reply_of, spelled, tree_id}
@@ -130,46 +125,29 @@ ends status.InvalidDeviceState = refl
 ends status.InvalidLockRange = refl
 ends status.UserSessionDeleted = refl
 
-final_carries : (id : ℕ) (row : Waiting) (command said : ℕ) (body : ReplyItem) → command ≡ command_of_request row.request → (said == 0x103) ≡ false → IsFinalOf id row (spelling (Reply (final_head id command row.header said) body))
+same_command : (r : Request) → command_by r ≡ command_of_request r
+same_command (request.Create made) = refl
+same_command request.Lock = refl
+
+over : (said : FinalReply) → (final_status said == 0x103) ≡ false
+over (saids.Failed status) = ends status
+over saids.Locked = refl
+over (saids.Opened handle told) = refl
+
+pub final_carries : (id : ℕ) (row : Waiting) (said : FinalReply) → IsFinalOf id row (final_reply id row said)
 unfolding final_head
-final_carries id row command said body is over = record {
-  head = final_head id command row.header said;
-  body = body;
+final_carries id row said = record {
+  head = final_head id (command_by row.request) row.header (final_status said);
+  body = final_body said;
   spelled = refl;
   message = refl;
   session = refl;
   charge = refl;
-  command = is;
+  command = same_command row.request;
   async = refl;
   reply = refl;
   form = refl;
   last = refl;
   credits = refl;
-  ended = over;
+  ended = over said;
 }
-
-same_command : (r : Request) → command_by r ≡ command_of_request r
-same_command (request.Create made) = refl
-same_command request.Lock = refl
-
-pub failed_carries : (id : ℕ) (row : Waiting) (said : SmbStatus) → IsFinalOf id row (failed_reply id row said)
-failed_carries id row said = final_carries id row (command_by row.request) (status_number said) Error (same_command row.request) (ends said)
-
-pub served_carries : (s : CoreState) (l : Lists) (id : ℕ) (row : Waiting) (answer : Answer) → IsFinalOf id row (final_reply s l id row answer row.request)
-served_carries s l id row answer = by row.request refl
-  where
-    locked : (o : Option SmbStatus) → row.request ≡ request.Lock → IsFinalOf id row (final_lock id row o)
-    locked None is = final_carries id row _ _ Lock (ap command_of_request (sym is)) refl
-    locked (Some said) is = failed_carries id row said
-
-    stood : (made : Open) (b : Bool) → row.request ≡ request.Create made → IsFinalOf id row (if b then opened_reply id row (id_of s row.opened) (caching s row.opened made) else failed_reply id row status.InsufficientResources)
-    stood made true is = final_carries id row _ _ (Create (opened (id_of s row.opened) (caching s row.opened made))) (ap command_of_request (sym is)) refl
-    stood made false is = failed_carries id row status.InsufficientResources
-
-    opens : (made : Open) (o : Option SmbStatus) → row.request ≡ request.Create made → IsFinalOf id row (final_open s l id row made o)
-    opens made None is = stood made (may_stand row.opened made l) is
-    opens made (Some said) is = failed_carries id row said
-
-    by : (r : Request) → row.request ≡ r → IsFinalOf id row (final_reply s l id row answer r)
-    by request.Lock is = locked (lock_refusal answer) is
-    by (request.Create made) is = opens made (open_refusal answer) is

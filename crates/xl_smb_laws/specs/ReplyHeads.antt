@@ -11,7 +11,8 @@ use Rattle.xl_smb_state.specs.declared.row.Request.{Request}
 use Rattle.xl_smb_state.specs.declared.row.Request.TheVariants as request
 use Rattle.xl_smb_state.specs.declared.row.Waiting.{Waiting}
 use Rattle.xl_core.specs.declared.ask.Effect.{Effect}
-use Rattle.xl_smb_locks.specs.Finals.{failed_outs, is_cancelled}
+use Rattle.xl_smb_locks.specs.Finals.{final_outs, is_cancelled}
+use Rattle.xl_smb_locks.specs.declared.finals.FinalReply.TheVariants.{Failed}
 use Rattle.xl_smb_locks.specs.Statuses.{status_number}
 use Rattle.xl_smb_locks.specs.declared.status.SmbStatus.TheVariants.{Cancelled}
 use Rattle.xl_front_smb.specs.Replies.{tree_id}
@@ -96,7 +97,7 @@ pub record KeepsHead (h : SmbHead) (conn : ℕ) (call : CallItem) (row : Waiting
 -- connection that it came by
 abbrev pub cancelled_outs : List Effect → List (ℕ × Waiting) → List Out
 cancelled_outs told [] = []
-cancelled_outs told (e ∷ es) = if is_cancelled e.0 told then failed_outs e.0 e.1 Cancelled ++ cancelled_outs told es else cancelled_outs told es
+cancelled_outs told (e ∷ es) = if is_cancelled e.0 told then final_outs e.0 e.1 (Failed Cancelled) ++ cancelled_outs told es else cancelled_outs told es
 
 -- the others
 abbrev pub not_cancelled : List Effect → List (ℕ × Waiting) → List (ℕ × Waiting)

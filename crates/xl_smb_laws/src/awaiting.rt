@@ -24,7 +24,8 @@ ghost use Rattle.xl_core.specs.declared.ask.Ask.{Ask};
 ghost use Rattle.xl_core.specs.declared.ask.Effect.{Effect};
 ghost use Rattle.xl_core.specs.declared.ask.Effect.TheVariants as Effect;
 ghost use Rattle.xl_plan.specs.Plans.{AllAt};
-ghost use Rattle.xl_smb_locks.specs.Finals.{final_outs, opened_reply};
+ghost use Rattle.xl_smb_locks.specs.Finals.{final_outs};
+ghost use Rattle.xl_smb_locks.specs.declared.finals.FinalReply.TheVariants.{Opened};
 ghost use Rattle.xl_core.specs.Ids.{id_of};
 ghost use Rattle.xl_smb_locks.specs.Levels.{caching};
 ghost use Rattle.xl_smb_laws.specs.WaitingRequests.{AreAwaited, AreKept, IsAwaited, IsGranted, SparesSmb, ends_wait, is_open_ask, serves_request};
@@ -76,5 +77,5 @@ pub fn granted_creates_stand()
     ensures share { (n : ℕ) (left : Rooms) (s t : CoreState) (f : FrontSmb) (party : Party) (id : ℕ) (row : Waiting) (made : Open) (claim : Claim) → IsGood s → AreAwaited s f.state → IsGranted n left s t f.state party id row made claim → (claim.owner ≡ Owner.Open row.opened) × (claim.file ≡ made.file) }
     ensures stands { (n : ℕ) (left : Rooms) (s t u : CoreState) (f : FrontSmb) (party : Party) (id : ℕ) (row : Waiting) (made : Open) (claim : Claim) → IsGood s → AreAwaited s f.state → IsGranted n left s t f.state party id row made claim → open_of row.opened (smb_shown f u (Effect.Served party id (Answer.Granted claim))).1.state ≡ Some made }
     ensures leased { (n : ℕ) (left : Rooms) (s t u : CoreState) (f : FrontSmb) (party : Party) (id : ℕ) (row : Waiting) (made : Open) (claim : Claim) → IsGood s → AreAwaited s f.state → IsGranted n left s t f.state party id row made claim → IsLeased (smb_shown f u (Effect.Served party id (Answer.Granted claim))).1.state row.opened made }
-    ensures told { (n : ℕ) (left : Rooms) (s t u : CoreState) (f : FrontSmb) (party : Party) (id : ℕ) (row : Waiting) (made : Open) (claim : Claim) → IsGood s → AreAwaited s f.state → IsGranted n left s t f.state party id row made claim → (smb_shown f u (Effect.Served party id (Answer.Granted claim))).0 ≡ final_outs row (opened_reply id row (id_of u row.opened) (caching u row.opened made)) }
+    ensures told { (n : ℕ) (left : Rooms) (s t u : CoreState) (f : FrontSmb) (party : Party) (id : ℕ) (row : Waiting) (made : Open) (claim : Claim) → IsGood s → AreAwaited s f.state → IsGranted n left s t f.state party id row made claim → (smb_shown f u (Effect.Served party id (Answer.Granted claim))).0 ≡ final_outs id row (Opened (id_of u row.opened) (caching u row.opened made)) }
 {}

@@ -2,7 +2,6 @@
 ghost use Rattle.std.specs.Prelude.{◌≡◌, ℕ, ◌==◌, true, false, List, [], ◌∷◌, ◌++◌, Some, None};
 ghost use Rattle.xl_core.specs.Good.{IsGood};
 ghost use Rattle.xl_core.specs.State.{CoreState};
-ghost use Rattle.xl_core.specs.declared.ask.Answer.{Answer};
 ghost use Rattle.xl_core.specs.declared.ask.Effect.{Effect};
 ghost use Rattle.xl_base.specs.Lists.{IsIn};
 ghost use Rattle.xl_front_smb.specs.Ending.{all_dismissed, smb_end};
@@ -14,8 +13,8 @@ ghost use Rattle.xl_smb.specs.Calls.{CallItem};
 ghost use Rattle.xl_smb.specs.declared.head.SmbHead.{SmbHead};
 ghost use Rattle.xl_smb_laws.specs.ReplyHeads.{IsFinalOf, IsReplyOf, KeepsHead, cancelled_outs, not_cancelled};
 ghost use Rattle.xl_smb_laws.specs.WaitingRequests.{AreAwaited};
-ghost use Rattle.xl_smb_locks.specs.Finals.{failed_reply, final_reply};
-ghost use Rattle.xl_smb_locks.specs.declared.status.SmbStatus.{SmbStatus};
+ghost use Rattle.xl_smb_locks.specs.Finals.{final_reply};
+ghost use Rattle.xl_smb_locks.specs.declared.finals.FinalReply.{FinalReply};
 ghost use Rattle.xl_smb_state.specs.Links.{AreDistinct};
 ghost use Rattle.xl_smb_state.specs.State.{Lists};
 ghost use Rattle.xl_smb_state.specs.declared.row.Waiting.{Waiting};
@@ -33,8 +32,7 @@ pub fn replies_repeat_their_requests()
 /// The header of a final reply is that of the request that waited, whatever becomes of it (MS-SMB2 3.3.4.2): its MessageId,
 /// session and command, and the AsyncId that STATUS_PENDING named.
 pub fn final_replies_repeat_their_requests()
-    ensures served { (s : CoreState) (l : Lists) (id : ℕ) (row : Waiting) (answer : Answer) → IsFinalOf id row (final_reply s l id row answer row.request) }
-    ensures failed { (id : ℕ) (row : Waiting) (status : SmbStatus) → IsFinalOf id row (failed_reply id row status) }
+    ensures { (id : ℕ) (row : Waiting) (said : FinalReply) → IsFinalOf id row (final_reply id row said) }
 {}
 
 /// A request is answered STATUS_PENDING exactly if a row of it comes among the requests that wait (MS-SMB2 3.3.4.2): one row,

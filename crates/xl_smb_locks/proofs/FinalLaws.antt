@@ -8,21 +8,22 @@ use Rattle.xl_base.specs.Limits.{most_message_bytes}
 use Rattle.xl_base.specs.declared.event.Out.{Out}
 use Rattle.xl_base.proofs.Members.{all_append}
 use Rattle.xl_programs.specs.Sent.{FitsFrame}
-use Rattle.xl_smb.specs.Creates.{CreateReplyItem}
 use Rattle.xl_smb.specs.Heads.{is_notice}
 use Rattle.xl_smb.specs.Messages.{ReplyStands}
 use Rattle.xl_smb.specs.Lengths.{reply_length}
-use Rattle.xl_smb.specs.Replies.{ReplyItem, Create, Lock, Error}
+use Rattle.xl_smb.specs.Replies.{ReplyItem}
 use Rattle.xl_smb.specs.declared.head.SmbHead.{SmbHead}
 use Rattle.xl_smb_state.specs.Links.{IsHolderLinked, IsOpenLinked, most_opens}
 use Rattle.xl_smb_state.specs.State.{Lists, open_of}
 use Rattle.xl_smb_state.specs.declared.row.Header.{Header}
 use Rattle.xl_smb_state.specs.declared.row.Open.{Open}
+use Rattle.xl_smb_state.specs.declared.row.Request.{Request}
+use Rattle.xl_smb_state.specs.declared.row.Request.TheVariants as request
 use Rattle.xl_core.specs.declared.ask.Effect.{Effect}
-use Rattle.xl_smb_locks.specs.Finals.{final_head, holder_stands, may_stand, request_ended, is_cancelled, dismissed}
+use Rattle.xl_smb_locks.specs.Finals.{final_head, command_by, final_status, final_contexts, final_body, FitsRequest, holder_stands, may_stand, request_ended, is_cancelled, dismissed}
 use Rattle.xl_smb.specs.Leases.{are_contexts}
-use Rattle.xl_smb_locks.specs.Levels.{contexts_told, opened}
-use Rattle.xl_smb_locks.specs.declared.levels.Caching.{Caching}
+use Rattle.xl_smb_locks.specs.declared.finals.FinalReply.{FinalReply}
+use Rattle.xl_smb_locks.specs.declared.finals.FinalReply.TheVariants as said
 use Rattle.xl_smb_locks.specs.Statuses.{status_number}
 use Rattle.xl_smb_locks.specs.declared.status.SmbStatus.{SmbStatus}
 use Rattle.xl_smb_locks.specs.declared.status.SmbStatus.TheVariants.{Cancelled}
@@ -60,41 +61,28 @@ no_notice : (id command : ℕ) (h : Header) (status : ℕ) → is_notice (final_
 unfolding is_notice final_head
 no_notice id command h status = third_fails (status == 0) (command == 18) true (h.message_id == 2 ^ 64 - 1) (h.session_id == 0) _
 
--- a reply that failed, and each that succeeded
-failing : (id command : ℕ) (h : Header) (status : SmbStatus) → ReplyStands (final_head id command h (status_number status)) Error
+stands : (id : ℕ) (r : Request) (h : Header) (said : FinalReply) → FitsRequest said r → length (final_contexts said) ≤ 56 → are_contexts (final_contexts said) ≡ true → ReplyStands (final_head id (command_by r) h (final_status said)) (final_body said)
 unfolding final_head
-failing id command h status = record { reply = refl; form = refl; no_notice = no_notice id command h (status_number status); command = fails status; has = tt }
+stands id r h (said.Failed status) fits few within = record { reply = refl; form = refl; no_notice = no_notice id (command_by r) h (status_number status); command = fails status; has = tt }
+stands id request.Lock h said.Locked fits few within = record { reply = refl; form = refl; no_notice = no_notice id 10 h 0; command = (refl, refl); has = tt }
+stands id (request.Create made) h said.Locked fits few within = absurd fits
+stands id (request.Create made) h (said.Opened handle told) fits few within = record { reply = refl; form = refl; no_notice = no_notice id 5 h 0; command = (refl, refl); has = record { contexts = omega (arith, few); within = within } }
+stands id request.Lock h (said.Opened handle told) fits few within = absurd fits
 
-locking : (id : ℕ) (h : Header) → ReplyStands (final_head id 10 h 0) Lock
-unfolding final_head
-locking id h = record { reply = refl; form = refl; no_notice = no_notice id 10 h 0; command = (refl, refl); has = tt }
+-- the header and the body as the code has them, with these contexts
+pub final_stands : (id command status : ℕ) (r : Request) (h : Header) (head : SmbHead) (said : FinalReply) (list : List ℕ) (body : ReplyItem) → head ≡ final_head id command h status → command ≡ command_by r → status ≡ final_status said → body ≡ final_body said → FitsRequest said r → list ≡ final_contexts said → length list ≤ 56 → are_contexts list ≡ true → ReplyStands head body
+final_stands id command status r h head said list body is same ends shown fits by few within =
+    let head_is : head ≡ final_head id (command_by r) h (final_status said) = is ∙ (λ i. final_head id (same i) h (ends i)) in
+    subst (λ x. ReplyStands x body) (sym head_is) (subst (λ x. ReplyStands (final_head id (command_by r) h (final_status said)) x) (sym shown) (stands id r h said fits (subst (λ (xs : List ℕ). length xs ≤ 56) by few) (ap are_contexts (sym by) ∙ within)))
 
-opening : (id : ℕ) (h : Header) (handle : ℕ) (told : Caching) → length (contexts_told told) ≤ 56 → are_contexts (contexts_told told) ≡ true → ReplyStands (final_head id 5 h 0) (Create (opened handle told))
-unfolding final_head
-opening id h handle told little within = record { reply = refl; form = refl; no_notice = no_notice id 5 h 0; command = (refl, refl); has = record { contexts = omega (arith, little); within = within } }
+little : (said : FinalReply) → length (final_contexts said) ≤ 56 → 64 + reply_length (final_body said) ≤ most_message_bytes
+little (said.Failed status) few = omega arith
+little said.Locked few = omega arith
+little (said.Opened handle told) few = omega (arith, few)
 
--- the header and the body as the code has them
-pub failed_stands : (id command : ℕ) (h : Header) (status : SmbStatus) (number : ℕ) (head : SmbHead) → head ≡ final_head id command h number → number ≡ status_number status → ReplyStands head Error
-failed_stands id command h status number head is same = subst (λ x. ReplyStands x Error) (sym (is ∙ ap (final_head id command h) same)) (failing id command h status)
-
-pub locked_stands : (id command : ℕ) (h : Header) (head : SmbHead) → head ≡ final_head id command h 0 → command ≡ 10 → ReplyStands head Lock
-locked_stands id command h head is same = subst (λ x. ReplyStands x Lock) (sym (is ∙ ap (λ (k : ℕ). final_head id k h 0) same)) (locking id h)
-
-pub opened_stands : (id command : ℕ) (h : Header) (handle : ℕ) (told : Caching) (list : List ℕ) (head : SmbHead) (r : CreateReplyItem) → head ≡ final_head id command h 0 → command ≡ 5 → r ≡ opened handle told → list ≡ contexts_told told → length list ≤ 56 → are_contexts list ≡ true → ReplyStands head (Create r)
-opened_stands id command h handle told list head r is same shown by little within =
-    subst (λ x. ReplyStands x (Create r)) (sym (is ∙ ap (λ (k : ℕ). final_head id k h 0) same)) (subst (λ x. ReplyStands (final_head id 5 h 0) (Create x)) (sym shown) (opening id h handle told (subst (λ (xs : List ℕ). length xs ≤ 56) by little) (ap are_contexts (sym by) ∙ within)))
-
--- each is short
-pub failed_little : (body : ReplyItem) → body ≡ Error → 64 + reply_length body ≤ most_message_bytes
-failed_little body is = subst (λ x. 64 + reply_length x ≤ most_message_bytes) (sym is) (omega arith)
-
-pub locked_little : (body : ReplyItem) → body ≡ Lock → 64 + reply_length body ≤ most_message_bytes
-locked_little body is = subst (λ x. 64 + reply_length x ≤ most_message_bytes) (sym is) (omega arith)
-
-pub opened_little : (handle : ℕ) (told : Caching) (list : List ℕ) (r : CreateReplyItem) → r ≡ opened handle told → list ≡ contexts_told told → length list ≤ 56 → 64 + reply_length (Create r) ≤ most_message_bytes
-opened_little handle told list r is by little =
-    let few : length (contexts_told told) ≤ 56 = subst (λ (xs : List ℕ). length xs ≤ 56) by little in
-    subst (λ x. 64 + reply_length (Create x) ≤ most_message_bytes) (sym is) (omega (arith, few))
+-- it is short
+pub final_little : (said : FinalReply) (list : List ℕ) (body : ReplyItem) → body ≡ final_body said → list ≡ final_contexts said → length list ≤ 56 → 64 + reply_length body ≤ most_message_bytes
+final_little said list body shown by few = subst (λ x. 64 + reply_length x ≤ most_message_bytes) (sym shown) (little said (subst (λ (xs : List ℕ). length xs ≤ 56) by few))
 
 -- ---- where an open may stand
 

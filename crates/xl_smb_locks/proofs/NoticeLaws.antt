@@ -1,5 +1,5 @@
 -- Who is told of a break, and of the end of a wait.
-use Rattle.std.proofs.Common.{◌≡◌, ℕ, Bool, true, false, not, ◌&&◌, if◌then◌else◌, eqb, is_some, length, List, [], ◌∷◌, ◌++◌, Option, Some, None, refl, sym, ap, subst, ◌∙◌, inl, inr}
+use Rattle.std.proofs.Common.{◌≡◌, ℕ, Bool, true, false, not, ◌&&◌, eqb, is_some, length, List, [], ◌∷◌, ◌++◌, Option, Some, None, refl, sym, ap, subst, ◌∙◌, inl, inr}
 use Rattle.std.specs.Prelude.{nat_eq, nat_lt}
 use Rattle.std.specs.Map.{lookup}
 use Rattle.std.proofs.lemmas.Bool.{cases_Bool}
@@ -25,7 +25,7 @@ use Rattle.xl_core.specs.declared.ask.Answer.{Answer}
 use Rattle.xl_core.specs.declared.ask.Answer.TheVariants as answers
 use Rattle.xl_core.specs.declared.ask.Effect.{Effect}
 use Rattle.xl_core.specs.declared.ask.Effect.TheVariants as effects
-use Rattle.xl_smb_locks.specs.Finals.{dismissed, ended_with, failed_reply, final_lock, final_open, final_outs, final_reply, holder_stands, is_cancelled, opened_reply, request_ended, lock_refusal, open_refusal, may_stand, stood, opened_outs, locked_outs, served_by, served_with, request_served, told_of, IsFinal}
+use Rattle.xl_smb_locks.specs.Finals.{concluded, dismissed, ended_with, final_outs, final_reply, holder_stands, is_cancelled, refusal_of, replied, request_ended, may_stand, stood, succeeded, served_with, request_served, told_of, IsFinal}
 use Rattle.xl_core.specs.Ids.{id_of}
 use Rattle.xl_smb_locks.specs.Levels.{caching, notice_of, lease_notice_of, noticed_by, noticed_to, noticed_under, noticed}
 use Rattle.std.specs.Prelude.{slice_get}
@@ -33,8 +33,9 @@ use Rattle.std.specs.Option.{option_and_then}
 use Rattle.xl_base.specs.declared.name.Protocol.TheVariants.{Smb}
 use Rattle.xl_names.specs.declared.name.Name.{Name}
 use Rattle.xl_names.specs.declared.name.Name.TheVariants.{SmbLease}
+use Rattle.xl_smb_locks.specs.declared.finals.FinalReply.TheVariants.{Failed, Opened}
 use Rattle.xl_smb_locks.specs.declared.status.SmbStatus.{SmbStatus}
-use Rattle.xl_smb_locks.specs.declared.status.SmbStatus.TheVariants.{Cancelled, InsufficientResources}
+use Rattle.xl_smb_locks.specs.declared.status.SmbStatus.TheVariants.{Cancelled}
 use Rattle.xl_smb_locks.proofs.FinalLaws.{stand_new}
 
 -- ---- a break
@@ -73,31 +74,26 @@ holder_same (holder.Nobody until) client id l = refl
 stand_same : (number id : ℕ) (made : Open) (l : Lists) → may_stand number made (waiting_dropped id l) ≡ may_stand number made l
 stand_same number id made l = ap (λ (b : Bool). nat_lt (length l.opens) most_opens && (not (is_some (open_of number l)) && b)) (holder_same made.holder made.client id l)
 
-stood_final : (s : CoreState) (id : ℕ) (row : Waiting) (made : Open) (stands : Bool) (l : Lists)
-    → IsFinal id row (if stands then opened_reply id row (id_of s row.opened) (caching s row.opened made) else failed_reply id row InsufficientResources) l (stood s id row made stands (waiting_dropped id l))
-stood_final s id row made true l = (refl, ap (λ (m : Lists). m.waiting) (with_keeps row.opened made (waiting_dropped id l)))
-stood_final s id row made false l = (refl, refl)
+-- what is said is as before too
+said_same : (s : CoreState) (id : ℕ) (row : Waiting) (o : Option SmbStatus) (r : Request) (l : Lists) → row.request ≡ r → IsFinal id row (final_reply id row (concluded s row o l).0) l (replied id row (concluded s row o (waiting_dropped id l)))
+said_same s id row (Some status) r l is = (refl, refl)
+said_same s id row None request.Lock l is = subst (λ (x : Request). IsFinal id row (final_reply id row (succeeded s row x l).0) l (replied id row (succeeded s row x (waiting_dropped id l)))) (sym is) (refl, refl)
+said_same s id row None (request.Create made) l is =
+    subst (λ (x : Request). IsFinal id row (final_reply id row (succeeded s row x l).0) l (replied id row (succeeded s row x (waiting_dropped id l)))) (sym is)
+    (subst (λ (b : Bool). IsFinal id row (final_reply id row (stood s row made (may_stand row.opened made l) l).0) l (replied id row (stood s row made b (waiting_dropped id l)))) (sym (stand_same row.opened id made l)) (by (may_stand row.opened made l)))
+  where
+    by : (b : Bool) → IsFinal id row (final_reply id row (stood s row made b l).0) l (replied id row (stood s row made b (waiting_dropped id l)))
+    by true = (refl, ap (λ (m : Lists). m.waiting) (with_keeps row.opened made (waiting_dropped id l)))
+    by false = (refl, refl)
 
-opened_final : (s : CoreState) (id : ℕ) (row : Waiting) (made : Open) (refused : Option SmbStatus) (l : Lists) → IsFinal id row (final_open s l id row made refused) l (opened_outs s id row made refused (waiting_dropped id l))
-opened_final s id row made None l =
-    subst (λ (b : Bool). IsFinal id row (final_open s l id row made None) l (stood s id row made b (waiting_dropped id l))) (sym (stand_same row.opened id made l)) (stood_final s id row made (may_stand row.opened made l) l)
-opened_final s id row made (Some status) l = (refl, refl)
-
-locked_final : (id : ℕ) (row : Waiting) (refused : Option SmbStatus) (l : Lists) → IsFinal id row (final_lock id row refused) l (locked_outs id row refused, waiting_dropped id l)
-locked_final id row None l = (refl, refl)
-locked_final id row (Some status) l = (refl, refl)
-
-by_request : (s : CoreState) (id : ℕ) (row : Waiting) (answer : Answer) (r : Request) (l : Lists) → IsFinal id row (final_reply s l id row answer r) l (served_by s id row answer r (waiting_dropped id l))
-by_request s id row answer (request.Create made) l = opened_final s id row made (open_refusal answer) l
-by_request s id row answer request.Lock l = locked_final id row (lock_refusal answer) l
-
-pub served_final : (s : CoreState) (l : Lists) (party : Party) (id : ℕ) (answer : Answer) (row : Waiting) → waiting_of id l ≡ Some row → IsFinal id row (final_reply s l id row answer row.request) l (told_of s (effects.Served party id answer) l)
+pub served_final : (s : CoreState) (l : Lists) (party : Party) (id : ℕ) (answer : Answer) (row : Waiting) → waiting_of id l ≡ Some row → IsFinal id row (final_reply id row (concluded s row (refusal_of answer row.request) l).0) l (told_of s (effects.Served party id answer) l)
 unfolding told_of request_served
-served_final s l party id answer row at = subst (λ (o : Option Waiting). IsFinal id row (final_reply s l id row answer row.request) l (served_with s id answer o l)) (sym at) (by_request s id row answer row.request l)
+served_final s l party id answer row at =
+    subst (λ (o : Option Waiting). IsFinal id row (final_reply id row (concluded s row (refusal_of answer row.request) l).0) l (served_with s id answer o l)) (sym at) (said_same s id row (refusal_of answer row.request) row.request l refl)
 
-pub cancelled_final : (told : List Effect) (l : Lists) (id : ℕ) (row : Waiting) → waiting_of id l ≡ Some row → is_cancelled id told ≡ true → IsFinal id row (failed_reply id row Cancelled) l (dismissed told (id ∷ []) l)
+pub cancelled_final : (told : List Effect) (l : Lists) (id : ℕ) (row : Waiting) → waiting_of id l ≡ Some row → is_cancelled id told ≡ true → IsFinal id row (final_reply id row (Failed Cancelled)) l (dismissed told (id ∷ []) l)
 unfolding request_ended
-cancelled_final told l id row at is = rw is (subst (λ (o : Option Waiting). IsFinal id row (failed_reply id row Cancelled) l ((ended_with id Cancelled o l).0 ++ [], (ended_with id Cancelled o l).1)) (sym at) (refl, refl))
+cancelled_final told l id row at is = rw is (subst (λ (o : Option Waiting). IsFinal id row (final_reply id row (Failed Cancelled)) l ((ended_with id Cancelled o l).0 ++ [], (ended_with id Cancelled o l).1)) (sym at) (refl, refl))
 
 -- and nothing for the effect that tells of it
 pub cancelled_once : (s : CoreState) (l : Lists) (party : Party) (id : ℕ) → told_of s (effects.Cancelled party id) l ≡ ([], l)
@@ -108,12 +104,12 @@ cancelled_once s l party id = refl
 
 module _ (s : CoreState) (l : Lists) (party : Party) (id : ℕ) (claim : Claim) (row : Waiting) (made : Open) where
   pub granted_told : waiting_of id l ≡ Some row → row.request ≡ request.Create made → may_stand row.opened made l ≡ true
-      → told_of s (effects.Served party id (answers.Granted claim)) l ≡ (final_outs row (opened_reply id row (id_of s row.opened) (caching s row.opened made)), with_open row.opened made (waiting_dropped id l))
+      → told_of s (effects.Served party id (answers.Granted claim)) l ≡ (final_outs id row (Opened (id_of s row.opened) (caching s row.opened made)), with_open row.opened made (waiting_dropped id l))
   unfolding told_of request_served
   granted_told at makes may =
       ap (λ (o : Option Waiting). served_with s id (answers.Granted claim) o l) at
-      ∙ ap (λ (r : Request). served_by s id row (answers.Granted claim) r (waiting_dropped id l)) makes
-      ∙ ap (λ (b : Bool). stood s id row made b (waiting_dropped id l)) (stand_same row.opened id made l ∙ may)
+      ∙ ap (λ (r : Request). replied id row (succeeded s row r (waiting_dropped id l))) makes
+      ∙ ap (λ (b : Bool). replied id row (stood s row made b (waiting_dropped id l))) (stand_same row.opened id made l ∙ may)
 
   pub granted_stands : waiting_of id l ≡ Some row → row.request ≡ request.Create made → may_stand row.opened made l ≡ true → open_of row.opened (told_of s (effects.Served party id (answers.Granted claim)) l).1 ≡ Some made
   granted_stands at makes may =

@@ -25,7 +25,7 @@ use Rattle.xl_core.specs.State.{CoreState}
 use Rattle.xl_core.specs.declared.ask.Answer.{Answer}
 use Rattle.xl_core.specs.declared.ask.Effect.{Effect}
 use Rattle.xl_core.specs.declared.ask.Effect.TheVariants as effects
-use Rattle.xl_smb_locks.specs.Finals.{ended_with, request_ended, lock_refusal, open_refusal, locked_outs, may_stand, stood, opened_outs, served_by, served_with, request_served, told_of, is_cancelled, and_sent, dismissed}
+use Rattle.xl_smb_locks.specs.Finals.{concluded, ended_with, refusal_of, replied, request_ended, may_stand, stood, succeeded, served_with, request_served, told_of, is_cancelled, and_sent, dismissed}
 use Rattle.xl_core.specs.Ids.{id_of}
 use Rattle.xl_smb_locks.specs.Levels.{noticed_by, noticed_to, noticed, notice_of, lease_notice_of, noticed_under}
 use Rattle.xl_smb_locks.proofs.FinalLaws.{stand_new}
@@ -142,10 +142,6 @@ module _ (P : ℕ → Type 0) where
 
   -- ---- a request that was served
 
-  locked_on : (id : ℕ) (row : Waiting) (refused : Option SmbStatus) → P row.place.connection → AllGo P (locked_outs id row refused)
-  locked_on id row None here = (here, tt)
-  locked_on id row (Some status) here = (here, tt)
-
   -- an open that comes is held on such a connection, and of the rest the leases alone change
   pub came_on : (number : ℕ) (row : Open) (l : Lists) → open_of number l ≡ None → HolderOn P row.holder → IsOn P l → IsOn P (with_open number row l)
   came_on number row l new there on = subst (λ (m : Lists). IsOn P m) (sym (with_keeps number row l)) (record {
@@ -154,23 +150,23 @@ module _ (P : ℕ → Type 0) where
     distinct = distinct_added number row l.opens new on.distinct;
   })
 
-  stood_on : (s : CoreState) (id : ℕ) (row : Waiting) (made : Open) (stands : Bool) (l : Lists) → may_stand row.opened made l ≡ stands → P row.place.connection → HolderOn P made.holder → IsOn P l → IsSentOn P (stood s id row made stands l)
+  stood_on : (s : CoreState) (id : ℕ) (row : Waiting) (made : Open) (stands : Bool) (l : Lists) → may_stand row.opened made l ≡ stands → P row.place.connection → HolderOn P made.holder → IsOn P l → IsSentOn P (replied id row (stood s row made stands l))
   stood_on s id row made true l may here there on = ((here, tt), came_on row.opened made l (stand_new row.opened made l may) there on)
   stood_on s id row made false l may here there on = ((here, tt), on)
 
-  opened_on : (s : CoreState) (id : ℕ) (row : Waiting) (made : Open) (refused : Option SmbStatus) (l : Lists) → P row.place.connection → HolderOn P made.holder → IsOn P l → IsSentOn P (opened_outs s id row made refused l)
-  opened_on s id row made None l here there on = stood_on s id row made (may_stand row.opened made l) l refl here there on
-  opened_on s id row made (Some status) l here there on = ((here, tt), on)
+  succeeded_on : (s : CoreState) (id : ℕ) (row : Waiting) (r : Request) (l : Lists) → P row.place.connection → MakesAt row.place.connection r → IsOn P l → IsSentOn P (replied id row (succeeded s row r l))
+  succeeded_on s id row (request.Create made) l here there on = stood_on s id row made (may_stand row.opened made l) l refl here (held_at row.place.connection made.holder here there) on
+  succeeded_on s id row request.Lock l here there on = ((here, tt), on)
 
-  served_by_on : (s : CoreState) (id : ℕ) (row : Waiting) (answer : Answer) (r : Request) (l : Lists) → P row.place.connection → MakesAt row.place.connection r → IsOn P l → IsSentOn P (served_by s id row answer r l)
-  served_by_on s id row answer (request.Create made) l here there on = opened_on s id row made (open_refusal answer) l here (held_at row.place.connection made.holder here there) on
-  served_by_on s id row answer request.Lock l here there on = (locked_on id row (lock_refusal answer) here, on)
+  concluded_on : (s : CoreState) (id : ℕ) (row : Waiting) (refused : Option SmbStatus) (l : Lists) → P row.place.connection → MakesAt row.place.connection row.request → IsOn P l → IsSentOn P (replied id row (concluded s row refused l))
+  concluded_on s id row None l here there on = succeeded_on s id row row.request l here there on
+  concluded_on s id row (Some status) l here there on = ((here, tt), on)
 
   served_with_on : (s : CoreState) (id : ℕ) (answer : Answer) (l : Lists) (o : Option Waiting) → waiting_of id l ≡ o → IsOn P l → IsSentOn P (served_with s id answer o l)
   served_with_on s id answer l None at on = (tt, on)
   served_with_on s id answer l (Some row) at on =
       let is = found_on (nat_eq id) l.waiting row at on.waiting in
-      served_by_on s id row answer row.request (waiting_dropped id l) is.0 is.1 (dropped_on id l on)
+      concluded_on s id row (refusal_of answer row.request) (waiting_dropped id l) is.0 is.1 (dropped_on id l on)
 
   served_on : (s : CoreState) (id : ℕ) (answer : Answer) (l : Lists) → IsOn P l → IsSentOn P (request_served s id answer l)
   unfolding request_served

@@ -7,7 +7,7 @@ use Rattle.xl_programs.specs.Sent.{sent_to}
 use Rattle.xl_smb.specs.Heads.{number_of}
 use Rattle.xl_smb.specs.Messages.{Reply, spelling}
 use Rattle.xl_smb.specs.Places.{zeros}
-use Rattle.xl_smb.specs.Replies.{Create, Lock, Error}
+use Rattle.xl_smb.specs.Replies.{ReplyItem, Create, Lock, Error}
 use Rattle.xl_smb.specs.declared.command.Command.TheVariants as commands
 use Rattle.xl_smb.specs.declared.head.Route.TheVariants.{Async}
 use Rattle.xl_smb.specs.declared.head.SmbHead.{SmbHead}
@@ -25,9 +25,10 @@ use Rattle.xl_core.specs.declared.ask.Answer.{Answer}
 use Rattle.xl_core.specs.declared.ask.Effect.{Effect}
 use Rattle.xl_core.specs.declared.ask.Effect.TheVariants as effects
 use Rattle.xl_core.specs.Ids.{id_of}
-use Rattle.xl_smb_locks.specs.Levels.{caching, opened, noticed}
+use Rattle.xl_smb_locks.specs.Levels.{caching, contexts_told, opened, noticed}
 use Rattle.xl_smb_locks.specs.Statuses.{comes_to, status_number, status_success}
-use Rattle.xl_smb_locks.specs.declared.levels.Caching.{Caching}
+use Rattle.xl_smb_locks.specs.declared.finals.FinalReply.{FinalReply}
+use Rattle.xl_smb_locks.specs.declared.finals.FinalReply.TheVariants.{Failed, Locked, Opened}
 use Rattle.xl_smb_locks.specs.declared.locking.Locking.{Locking}
 use Rattle.xl_smb_locks.specs.declared.locking.Locking.TheVariants as locking
 use Rattle.xl_smb_locks.specs.declared.status.SmbStatus.{SmbStatus}
@@ -56,31 +57,40 @@ abbrev pub command_by : Request → ℕ
 command_by (request.Create made) = number_of commands.Create
 command_by request.Lock = number_of commands.Lock
 
--- it failed so
-abbrev pub failed_reply : ℕ → Waiting → SmbStatus → List ℕ
-failed_reply id row status = spelling (Reply (final_head id (command_by row.request) row.header (status_number status)) Error)
+-- a request for this can be answered so
+abbrev pub FitsRequest : FinalReply → Request → Type 0
+FitsRequest (Failed status) asked = Unit {0}
+FitsRequest Locked request.Lock = Unit {0}
+FitsRequest (Opened handle told) (request.Create made) = Unit {0}
+FitsRequest said asked = ⊥
 
--- the ranges are locked
-abbrev pub locked_reply : ℕ → Waiting → List ℕ
-locked_reply id row = spelling (Reply (final_head id (number_of commands.Lock) row.header status_success) Lock)
+abbrev pub final_status : FinalReply → ℕ
+final_status (Failed status) = status_number status
+final_status said = status_success
 
--- the file is open under this id, with this said of its cache
-abbrev pub opened_reply : ℕ → Waiting → ℕ → Caching → List ℕ
-opened_reply id row handle told = spelling (Reply (final_head id (number_of commands.Create) row.header status_success) (Create (opened handle told)))
+-- the contexts: those of a file that is open
+abbrev pub final_contexts : FinalReply → List ℕ
+final_contexts (Opened handle told) = contexts_told told
+final_contexts said = []
+
+abbrev pub final_body : FinalReply → ReplyItem
+final_body (Failed status) = Error
+final_body Locked = Lock
+final_body (Opened handle told) = Create (opened handle told)
+
+abbrev pub final_reply : ℕ → Waiting → FinalReply → List ℕ
+final_reply id row said = spelling (Reply (final_head id (command_by row.request) row.header (final_status said)) (final_body said))
 
 -- it goes to the connection that the request came by
-abbrev pub final_outs : Waiting → List ℕ → List Out
-final_outs row reply = sent_to row.place.connection reply
-
-abbrev pub failed_outs : ℕ → Waiting → SmbStatus → List Out
-failed_outs id row status = final_outs row (failed_reply id row status)
+abbrev pub final_outs : ℕ → Waiting → FinalReply → List Out
+final_outs id row said = sent_to row.place.connection (final_reply id row said)
 
 -- ---- a request that failed
 
 -- what is sent, and the lists without it
 abbrev pub ended_with : ℕ → SmbStatus → Option Waiting → Lists → List Out × Lists
 ended_with id status None l = ([], l)
-ended_with id status (Some row) l = (failed_outs id row status, waiting_dropped id l)
+ended_with id status (Some row) l = (final_outs id row (Failed status), waiting_dropped id l)
 
 unfoldable pub request_ended : ℕ → SmbStatus → Lists → List Out × Lists
 request_ended id status l = ended_with id status (waiting_of id l) l
@@ -93,17 +103,13 @@ refusal_in locking.Done = None
 refusal_in (locking.Failed status) = Some status
 refusal_in (locking.Waits id) = Some InsufficientResources
 
--- why locks failed, if they did
-abbrev pub lock_refusal : Answer → Option SmbStatus
-lock_refusal answer = refusal_in (comes_to LockNotGranted answer)
+-- what stands against it is answered so
+abbrev pub denied_by : Request → SmbStatus
+denied_by (request.Create made) = SharingViolation
+denied_by request.Lock = LockNotGranted
 
--- why an open failed, if it did
-abbrev pub open_refusal : Answer → Option SmbStatus
-open_refusal answer = refusal_in (comes_to SharingViolation answer)
-
-abbrev pub locked_outs : ℕ → Waiting → Option SmbStatus → List Out
-locked_outs id row None = final_outs row (locked_reply id row)
-locked_outs id row (Some status) = failed_outs id row status
+abbrev pub refusal_of : Answer → Request → Option SmbStatus
+refusal_of answer asked = refusal_in (comes_to (denied_by asked) answer)
 
 -- who is to hold the open is there
 abbrev pub holder_stands : Holder → List ℕ → Lists → Bool
@@ -115,23 +121,26 @@ holder_stands (holder.Nobody until) client l = false
 abbrev pub may_stand : ℕ → Open → Lists → Bool
 may_stand number made l = nat_lt (length l.opens) most_opens && (not (is_some (open_of number l)) && holder_stands made.holder made.client l)
 
--- what is sent once the share of the open is granted, and the lists
-abbrev pub stood : CoreState → ℕ → Waiting → Open → Bool → Lists → List Out × Lists
-stood s id row made true l = (final_outs row (opened_reply id row (id_of s row.opened) (caching s row.opened made)), with_open row.opened made l)
-stood s id row made false l = (failed_outs id row InsufficientResources, l)
-
-abbrev pub opened_outs : CoreState → ℕ → Waiting → Open → Option SmbStatus → Lists → List Out × Lists
-opened_outs s id row made None l = stood s id row made (may_stand row.opened made l) l
-opened_outs s id row made (Some status) l = (failed_outs id row status, l)
+-- what is said once the share of the open is granted, and the lists
+abbrev pub stood : CoreState → Waiting → Open → Bool → Lists → FinalReply × Lists
+stood s row made true l = (Opened (id_of s row.opened) (caching s row.opened made), with_open row.opened made l)
+stood s row made false l = (Failed InsufficientResources, l)
 
 -- by what it waited to do
-abbrev pub served_by : CoreState → ℕ → Waiting → Answer → Request → Lists → List Out × Lists
-served_by s id row answer (request.Create made) l = opened_outs s id row made (open_refusal answer) l
-served_by s id row answer request.Lock l = (locked_outs id row (lock_refusal answer), l)
+abbrev pub succeeded : CoreState → Waiting → Request → Lists → FinalReply × Lists
+succeeded s row (request.Create made) l = stood s row made (may_stand row.opened made l) l
+succeeded s row request.Lock l = (Locked, l)
+
+abbrev pub concluded : CoreState → Waiting → Option SmbStatus → Lists → FinalReply × Lists
+concluded s row None l = succeeded s row row.request l
+concluded s row (Some status) l = (Failed status, l)
+
+abbrev pub replied : ℕ → Waiting → FinalReply × Lists → List Out × Lists
+replied id row r = (final_outs id row r.0, r.1)
 
 abbrev pub served_with : CoreState → ℕ → Answer → Option Waiting → Lists → List Out × Lists
 served_with s id answer None l = ([], l)
-served_with s id answer (Some row) l = served_by s id row answer row.request (waiting_dropped id l)
+served_with s id answer (Some row) l = replied id row (concluded s row (refusal_of answer row.request) (waiting_dropped id l))
 
 unfoldable pub request_served : CoreState → ℕ → Answer → Lists → List Out × Lists
 request_served s id answer l = served_with s id answer (waiting_of id l) l
@@ -166,22 +175,6 @@ dismissed told [] l = ([], l)
 dismissed told (id ∷ ids) l = if is_cancelled id told then and_sent (request_ended id Cancelled l) (dismissed told ids) else dismissed told ids l
 
 -- ---- what the laws say of it
-
--- the final reply to a LOCK, which failed so if it did
-abbrev pub final_lock : ℕ → Waiting → Option SmbStatus → List ℕ
-final_lock id row None = locked_reply id row
-final_lock id row (Some status) = failed_reply id row status
-
--- the final reply to a CREATE, which failed so if it did: an open that may stand is answered under its id, with what
--- it has of caches then
-abbrev pub final_open : CoreState → Lists → ℕ → Waiting → Open → Option SmbStatus → List ℕ
-final_open s l id row made None = if may_stand row.opened made l then opened_reply id row (id_of s row.opened) (caching s row.opened made) else failed_reply id row InsufficientResources
-final_open s l id row made (Some status) = failed_reply id row status
-
--- the final reply to a request that is answered so, by what it waited to do
-abbrev pub final_reply : CoreState → Lists → ℕ → Waiting → Answer → Request → List ℕ
-final_reply s l id row answer request.Lock = final_lock id row (lock_refusal answer)
-final_reply s l id row answer (request.Create made) = final_open s l id row made (open_refusal answer)
 
 -- this one final reply is sent, to the connection that the request came by, and it waits no more
 abbrev pub IsFinal : ℕ → Waiting → List ℕ → Lists → List Out × Lists → Type 0

@@ -1,11 +1,13 @@
 //! Requests that wait: their final replies.
-ghost use Rattle.std.specs.Prelude.{◌≡◌, ◌≤◌, ◌++◌, ◌<◌, length, Some, None, IfOk, OnOk, IsTrue};
+ghost use Rattle.std.specs.Prelude.{◌≡◌, true, ◌≤◌, ◌++◌, ◌<◌, length, Some, None, IfOk, OnOk, IsTrue};
 ghost use Rattle.std.specs.List.{AllByRecursion};
-ghost use Rattle.xl_base.specs.Limits.{most_message_bytes};
 ghost use Rattle.xl_programs.specs.Sent.{FitsFrame};
+ghost use Rattle.xl_smb.specs.Leases.{are_contexts};
+ghost use Rattle.xl_smb.specs.Replies.{shown_reply};
 ghost use Rattle.xl_smb_state.specs.Links.{IsHolderLinked, IsOpenLinked, most_opens};
 ghost use Rattle.xl_smb_state.specs.State.{open_of, waiting_of, waiting_dropped};
-ghost use Rattle.xl_smb_locks.specs.Finals.{final_head, command_by, failed_reply, locked_reply, opened_reply, final_outs, failed_outs, request_ended, refusal_in, locked_outs, holder_stands, may_stand, stood, opened_outs, served_by, request_served, told_of, cancels, is_cancelled, dismissed};
+ghost use Rattle.xl_smb_state.specs.declared.row.Request.TheVariants as Request;
+ghost use Rattle.xl_smb_locks.specs.Finals.{final_head, command_by, final_status, final_contexts, final_body, final_outs, request_ended, refusal_in, denied_by, holder_stands, may_stand, stood, succeeded, concluded, request_served, FitsRequest, told_of, cancels, is_cancelled, dismissed};
 ghost use Rattle.xl_smb_locks.specs.declared.status.SmbStatus.TheVariants.{Cancelled};
 
 use crate::levels::{Caching, caching_of, contexts_told, noticed, opened};
@@ -17,6 +19,17 @@ use xl_core::{Answer, Core, Effect, id_of};
 use xl_programs::sent_to;
 use xl_smb::{Command, Route, SmbHead, SmbMessage, SmbReply, write};
 use xl_smb_state::{Header, Holder, OPENS, Open, Request, SmbState, Waiting};
+
+/// What a request that waited is answered at last.
+#[derive(Clone, Copy)]
+pub enum FinalReply {
+    /// It failed.
+    Failed(SmbStatus),
+    /// The ranges are locked (LOCK).
+    Locked,
+    /// The file is open under this id, with this oplock or lease (CREATE).
+    Opened(u64, Caching),
+}
 
 /// The header of a final reply.
 #[tactic(auto, unfolding(crate::specs::Finals::final_head))]
@@ -47,72 +60,57 @@ fn command_by(request: Request) -> u16
     }
 }
 
-/// The final reply to a request that failed, without its frame.
-#[tactic(auto, using(crate::proofs::FinalLaws::failed_stands, crate::proofs::FinalLaws::failed_little))]
-fn failed_reply(
+/// The status of a final reply.
+fn status_of(said: FinalReply) -> u32
+    ensures { result ≡ final_status said }
+{
+    match said {
+        FinalReply::Failed(status) => status.number(),
+        FinalReply::Locked | FinalReply::Opened(_, _) => SUCCESS,
+    }
+}
+
+/// The contexts of a final reply: those of a file that is open.
+fn contexts_of(alloc: Global, said: FinalReply) -> Result<Vec<u8>, AllocError>
+    ensures list { IfOk result (λ list. list.items ≡ final_contexts said) }
+    ensures within { IfOk result (λ list. are_contexts list.items ≡ true) }
+    ensures little { IfOk result (λ list. length list.items ≤ 56) }
+{
+    match said {
+        FinalReply::Opened(_, told) => Ok(contexts_told(alloc, told)?),
+        _ => Ok(Vec::new(alloc)),
+    }
+}
+
+/// The body of a reply that says this, with these contexts.
+pub fn final_body(said: FinalReply, contexts: &[u8]) -> SmbReply<'_>
+    requires { contexts.now ≡ final_contexts said }
+    ensures { shown_reply result ≡ final_body said }
+{
+    match said {
+        FinalReply::Failed(_) => SmbReply::Error,
+        FinalReply::Locked => SmbReply::Lock,
+        FinalReply::Opened(handle, told) => SmbReply::Create(opened(handle, told, contexts)),
+    }
+}
+
+/// The final reply to a request that waited, to the connection that it came by, without its frame.
+#[tactic(auto, using(crate::proofs::FinalLaws::final_little))]
+fn final_outs(
     alloc: Global,
     id: u32,
     row: &Waiting,
-    status: SmbStatus,
-) -> Result<Vec<u8>, AllocError>
-    ensures reply { IfOk result (λ v. v.items ≡ failed_reply id row.now status) }
-    ensures little { IfOk result (λ v. length v.items ≤ most_message_bytes) }
-{
-    let head = final_head(id, command_by(row.request), &row.header, status.number());
-    let message = SmbMessage::Reply(head, SmbReply::Error);
-    Ok(write(alloc, &message)?)
-}
-
-/// The final reply to a LOCK whose ranges are locked.
-#[tactic(auto, using(crate::proofs::FinalLaws::locked_stands, crate::proofs::FinalLaws::locked_little))]
-fn locked_reply(alloc: Global, id: u32, row: &Waiting) -> Result<Vec<u8>, AllocError>
-    ensures reply { IfOk result (λ v. v.items ≡ locked_reply id row.now) }
-    ensures little { IfOk result (λ v. length v.items ≤ most_message_bytes) }
-{
-    let head = final_head(id, Command::Lock.number(), &row.header, SUCCESS);
-    let message = SmbMessage::Reply(head, SmbReply::Lock);
-    Ok(write(alloc, &message)?)
-}
-
-/// The final reply to a CREATE whose open is under this id, with this said of its cache.
-#[tactic(auto, using(crate::proofs::FinalLaws::opened_stands, crate::proofs::FinalLaws::opened_little))]
-fn opened_reply(
-    alloc: Global,
-    id: u32,
-    row: &Waiting,
-    handle: u64,
-    told: Caching,
-) -> Result<Vec<u8>, AllocError>
-    ensures reply { IfOk result (λ v. v.items ≡ opened_reply id row.now handle told) }
-    ensures little { IfOk result (λ v. length v.items ≤ most_message_bytes) }
-{
-    let head = final_head(id, Command::Create.number(), &row.header, SUCCESS);
-    let contexts = contexts_told(alloc, told)?;
-    let message = SmbMessage::Reply(head, SmbReply::Create(opened(handle, told, &contexts)));
-    Ok(write(alloc, &message)?)
-}
-
-/// The final reply to a request, to the connection that it came by.
-fn final_outs(alloc: Global, row: &Waiting, reply: Vec<u8>) -> Result<Sequence<Out>, AllocError>
-    requires { length reply.items ≤ most_message_bytes }
-    ensures outs { IfOk result (λ outs. outs ≡ final_outs row.now reply.items) }
-    ensures little { IfOk result (λ outs. AllByRecursion FitsFrame outs) }
-{
-    Ok(sent_to(alloc, row.place.connection, reply)?)
-}
-
-/// What is sent to a request that failed.
-fn failed_outs(
-    alloc: Global,
-    id: u32,
-    row: &Waiting,
-    status: SmbStatus,
+    said: FinalReply,
 ) -> Result<Sequence<Out>, AllocError>
-    ensures outs { IfOk result (λ outs. outs ≡ failed_outs id row.now status) }
+    requires { FitsRequest said row.now.request }
+    ensures outs { IfOk result (λ outs. outs ≡ final_outs id row.now said) }
     ensures little { IfOk result (λ outs. AllByRecursion FitsFrame outs) }
 {
-    let reply = failed_reply(alloc, id, row, status)?;
-    Ok(final_outs(alloc, row, reply)?)
+    let contexts = contexts_of(alloc, said)?;
+    let head = final_head(id, command_by(row.request), &row.header, status_of(said));
+    let message = SmbMessage::Reply(head, final_body(said, &contexts));
+    let reply = write(alloc, &message)?;
+    Ok(sent_to(alloc, row.place.connection, reply)?)
 }
 
 /// A request waits no more, and failed so: what is sent then.
@@ -129,7 +127,7 @@ fn end_request(
     let Some(row) = state.find_waiting(id) else {
         return Ok(Sequence::new(alloc));
     };
-    let outs = failed_outs(alloc, id, row, status)?;
+    let outs = final_outs(alloc, id, row, FinalReply::Failed(status))?;
     state.drop_waiting(id);
     Ok(outs)
 }
@@ -145,22 +143,13 @@ fn refusal_in(locking: Locking) -> Option<SmbStatus>
     }
 }
 
-/// What is sent to a LOCK that was served: its ranges are locked, or it failed so.
-fn locked_outs(
-    alloc: Global,
-    id: u32,
-    row: &Waiting,
-    refused: Option<SmbStatus>,
-) -> Result<Sequence<Out>, AllocError>
-    ensures outs { IfOk result (λ outs. outs ≡ locked_outs id row.now refused) }
-    ensures little { IfOk result (λ outs. AllByRecursion FitsFrame outs) }
+/// How what stands against a request is answered.
+fn denied_by(request: Request) -> SmbStatus
+    ensures { result ≡ denied_by request }
 {
-    match refused {
-        None => {
-            let reply = locked_reply(alloc, id, row)?;
-            Ok(final_outs(alloc, row, reply)?)
-        }
-        Some(status) => Ok(failed_outs(alloc, id, row, status)?),
+    match request {
+        Request::Create(_) => SmbStatus::SharingViolation,
+        Request::Lock => SmbStatus::LockNotGranted,
     }
 }
 
@@ -186,69 +175,56 @@ fn may_stand(state: &SmbState, number: u32, made: &Open) -> bool
         && holder_stands(state, made.holder, &made.client)
 }
 
-/// The share of an open is granted that a CREATE waited for: the open stands.
+/// The share of an open is granted that a CREATE waited for: the open stands, if it may.
 #[tactic(auto, using(crate::proofs::FinalLaws::stand_room, crate::proofs::FinalLaws::stand_new))]
 fn stand(
     alloc: Global,
     state: &mut SmbState,
     core: &Core,
-    id: u32,
     row: &Waiting,
     made: &Open,
-) -> Result<Sequence<Out>, AllocError>
-    ensures state { IfOk result (λ outs. stood core.now id row.now made.now (may_stand row.now.opened made.now state.old) state.old ≡ (outs, state.new)) }
-    ensures little { IfOk result (λ outs. AllByRecursion FitsFrame outs) }
+) -> Result<FinalReply, AllocError>
+    ensures state { IfOk result (λ said. stood core.now row.now made.now (may_stand row.now.opened made.now state.old) state.old ≡ (said, state.new)) }
+    ensures fits { IfOk result (λ said. FitsRequest said (Request.Create made.now)) }
 {
     if !may_stand(state, row.opened, made) {
-        return Ok(failed_outs(alloc, id, row, SmbStatus::InsufficientResources)?);
+        return Ok(FinalReply::Failed(SmbStatus::InsufficientResources));
     }
     let told = caching_of(alloc, core, row.opened, made)?;
-    let reply = opened_reply(alloc, id, row, id_of(core, row.opened), told)?;
-    let outs = final_outs(alloc, row, reply)?;
     state.open(alloc, row.opened, *made)?;
-    Ok(outs)
+    Ok(FinalReply::Opened(id_of(core, row.opened), told))
 }
 
-/// What is sent to a CREATE that was served: its open stands, or it failed so.
-fn opened_outs(
+/// What a request is answered that is granted, by what it waited to do.
+fn succeed(
     alloc: Global,
     state: &mut SmbState,
     core: &Core,
-    id: u32,
     row: &Waiting,
-    made: &Open,
-    refused: Option<SmbStatus>,
-) -> Result<Sequence<Out>, AllocError>
-    ensures state { IfOk result (λ outs. opened_outs core.now id row.now made.now refused state.old ≡ (outs, state.new)) }
-    ensures little { IfOk result (λ outs. AllByRecursion FitsFrame outs) }
+) -> Result<FinalReply, AllocError>
+    ensures state { IfOk result (λ said. succeeded core.now row.now row.now.request state.old ≡ (said, state.new)) }
+    ensures fits { IfOk result (λ said. FitsRequest said row.now.request) }
 {
-    match refused {
-        None => Ok(stand(alloc, state, core, id, row, made)?),
-        Some(status) => Ok(failed_outs(alloc, id, row, status)?),
+    match row.request {
+        Request::Create(made) => Ok(stand(alloc, state, core, row, &made)?),
+        Request::Lock => Ok(FinalReply::Locked),
     }
 }
 
-/// What is sent to a request that was served, by what it waited to do.
-fn served_by(
+/// What a request is answered at last: it failed so, or is granted.
+fn conclude(
     alloc: Global,
     state: &mut SmbState,
     core: &Core,
-    id: u32,
     row: &Waiting,
-    answer: &Answer,
-) -> Result<Sequence<Out>, AllocError>
-    ensures state { IfOk result (λ outs. served_by core.now id row.now answer.now row.now.request state.old ≡ (outs, state.new)) }
-    ensures little { IfOk result (λ outs. AllByRecursion FitsFrame outs) }
+    refused: Option<SmbStatus>,
+) -> Result<FinalReply, AllocError>
+    ensures state { IfOk result (λ said. concluded core.now row.now refused state.old ≡ (said, state.new)) }
+    ensures fits { IfOk result (λ said. FitsRequest said row.now.request) }
 {
-    match row.request {
-        Request::Create(made) => {
-            let refused = refusal_in(comes_to(SmbStatus::SharingViolation, answer));
-            Ok(opened_outs(alloc, state, core, id, row, &made, refused)?)
-        }
-        Request::Lock => {
-            let refused = refusal_in(comes_to(SmbStatus::LockNotGranted, answer));
-            Ok(locked_outs(alloc, id, row, refused)?)
-        }
+    match refused {
+        None => Ok(succeed(alloc, state, core, row)?),
+        Some(status) => Ok(FinalReply::Failed(status)),
     }
 }
 
@@ -267,8 +243,9 @@ fn serve_request(
     let Some(row) = state.take_waiting(id) else {
         return Ok(Sequence::new(alloc));
     };
-    let outs = served_by(alloc, state, core, id, &row, answer)?;
-    Ok(outs)
+    let refused = refusal_in(comes_to(denied_by(row.request), answer));
+    let said = conclude(alloc, state, core, &row, refused)?;
+    Ok(final_outs(alloc, id, &row, said)?)
 }
 
 /// What is sent for an effect of the core, in the state that it left: the notice of a break to who holds the open, or the lowest

@@ -30,9 +30,10 @@ ghost use Rattle.xl_core.specs.declared.ask.Effect.{Effect};
 ghost use Rattle.xl_core.specs.declared.ask.Effect.TheVariants as Effect;
 ghost use Rattle.xl_smb_locks.specs.Elements.{extent_of, is_exclusive, lock_fault};
 ghost use Rattle.xl_smb_locks.specs.Exactly.{what_of, element_of};
-ghost use Rattle.xl_smb_locks.specs.Finals.{dismissed, failed_reply, final_outs, final_reply, is_cancelled, may_stand, opened_reply, told_of, IsFinal};
+ghost use Rattle.xl_smb_locks.specs.Finals.{concluded, dismissed, final_outs, final_reply, is_cancelled, may_stand, refusal_of, told_of, IsFinal};
 ghost use Rattle.xl_core.specs.Ids.{id_of};
 ghost use Rattle.xl_smb_locks.specs.Levels.{caching, lease_party, notice_of, lease_notice_of, party_of};
+ghost use Rattle.xl_smb_locks.specs.declared.finals.FinalReply.TheVariants as FinalReply;
 ghost use Rattle.xl_smb_locks.specs.declared.status.SmbStatus.TheVariants as SmbStatus;
 ghost use Rattle.xl_smb_locks.specs.Locks.{lock_ask, lock_done};
 ghost use Rattle.xl_smb_locks.specs.declared.locking.Locking.TheVariants as Locking;
@@ -74,14 +75,14 @@ pub fn opens_of_a_lease_share_its_cache()
 /// and else INSUFFICIENT_RESOURCES. One that a message cancels has CANCELLED with that message, and nothing for the
 /// effect that tells of it.
 pub fn requests_have_one_final_reply()
-    ensures served { (s : CoreState) (l : Lists) (party : Party) (id : ℕ) (answer : Answer) (row : Waiting) → waiting_of id l ≡ Some row → IsFinal id row (final_reply s l id row answer row.request) l (told_of s (Effect.Served party id answer) l) }
-    ensures cancelled { (told : List Effect) (l : Lists) (id : ℕ) (row : Waiting) → waiting_of id l ≡ Some row → is_cancelled id told ≡ true → IsFinal id row (failed_reply id row SmbStatus.Cancelled) l (dismissed told (id ∷ []) l) }
+    ensures served { (s : CoreState) (l : Lists) (party : Party) (id : ℕ) (answer : Answer) (row : Waiting) → waiting_of id l ≡ Some row → IsFinal id row (final_reply id row (concluded s row (refusal_of answer row.request) l).0) l (told_of s (Effect.Served party id answer) l) }
+    ensures cancelled { (told : List Effect) (l : Lists) (id : ℕ) (row : Waiting) → waiting_of id l ≡ Some row → is_cancelled id told ≡ true → IsFinal id row (final_reply id row (FinalReply.Failed SmbStatus.Cancelled)) l (dismissed told (id ∷ []) l) }
     ensures once { (s : CoreState) (l : Lists) (party : Party) (id : ℕ) → told_of s (Effect.Cancelled party id) l ≡ ([], l) }
 {}
 
 /// A CREATE that waited and is granted has its open, if that may stand: the open is under its number, and its final
 /// reply is STATUS_SUCCESS, with what the open has of caches then (MS-SMB2 3.3.4.4, 2.2.14).
 pub fn granted_opens_stand()
-    ensures told { (s : CoreState) (l : Lists) (party : Party) (id : ℕ) (claim : Claim) (row : Waiting) (made : Open) → waiting_of id l ≡ Some row → row.request ≡ Request.Create made → may_stand row.opened made l ≡ true → told_of s (Effect.Served party id (Answer.Granted claim)) l ≡ (final_outs row (opened_reply id row (id_of s row.opened) (caching s row.opened made)), with_open row.opened made (waiting_dropped id l)) }
+    ensures told { (s : CoreState) (l : Lists) (party : Party) (id : ℕ) (claim : Claim) (row : Waiting) (made : Open) → waiting_of id l ≡ Some row → row.request ≡ Request.Create made → may_stand row.opened made l ≡ true → told_of s (Effect.Served party id (Answer.Granted claim)) l ≡ (final_outs id row (FinalReply.Opened (id_of s row.opened) (caching s row.opened made)), with_open row.opened made (waiting_dropped id l)) }
     ensures stands { (s : CoreState) (l : Lists) (party : Party) (id : ℕ) (claim : Claim) (row : Waiting) (made : Open) → waiting_of id l ≡ Some row → row.request ≡ Request.Create made → may_stand row.opened made l ≡ true → open_of row.opened (told_of s (Effect.Served party id (Answer.Granted claim)) l).1 ≡ Some made }
 {}

@@ -11,7 +11,7 @@ mod status;
 mod unlocking;
 
 pub use elements::{elements_of, is_count, lock_fault, unlocks_first};
-pub use finals::{dismiss, push_all, tell};
+pub use finals::{FinalReply, dismiss, final_body, push_all, tell};
 pub use levels::{
     Caching, cache_of, caching_of, contexts_told, file_id, file_of, lease_party, level_held,
     opened, oplock_of, party_for, party_of,
