@@ -17,6 +17,9 @@ pub mod Splits
 pub mod FittingLaws
 pub mod LawfulLaws
 pub mod RecordLaws
+pub mod TruthfulLaws
+pub mod RecoveringLaws
+pub mod CrashLaws
 pub mod ActedLaws
 pub mod SteadyLaws
 pub mod OwedLaws

@@ -84,7 +84,7 @@ own_paid : (n : ℕ) (s : Whole) (event : Event) → IsGood s.core → AllAt (Is
 own_paid n s (Tick now) good = turns_paid n s.core (tick n s.core now).1 (own_of n s (Tick now)).deeds (tick_in_turn n s.core now good)
 own_paid n s event good = free_paid n s.core (own_of n s event).deeds (all_weaker (λ d. may_do event d ≡ true) (λ d. is_clocked d ≡ false) (own_of n s event).deeds (λ d may. others_free event d refl may) ((own_row n s event).may good))
 
-deeds_paid : (n : ℕ) (s : Whole) (event : Event) → is_restart event ≡ false → IsGood (step_begun s.core) → AllAt (IsPaid n) n (step_begun s.core) (deeds n s event)
+pub deeds_paid : (n : ℕ) (s : Whole) (event : Event) → is_restart event ≡ false → IsGood (step_begun s.core) → AllAt (IsPaid n) n (step_begun s.core) (deeds n s event)
 deeds_paid n s event other good =
     let own = (own_of n (as_found s) event).deeds in
     let behind = behind_own (round_of n (as_found s) event) in

@@ -313,7 +313,7 @@ IsPaid n s (FailsStore stable) = may_store n s ≡ false
 IsPaid n s EndsGrace = may_store n s ≡ true
 IsPaid n s deed = Unit {0}
 
-deed_stores : (n : ℕ) (s : CoreState) (d : Deed) → IsGood s → IsFitDeed s d → IsPaid n s d → Stores n s (done n s d)
+pub deed_stores : (n : ℕ) (s : CoreState) (d : Deed) → IsGood s → IsFitDeed s d → IsPaid n s d → Stores n s (done n s d)
 deed_stores n s (Asks left a) good fit paid = ask_stores n left s a good fit.party
 deed_stores n s (GivesBack claim) good fit paid = Nothing (stores_same s (done n s (GivesBack claim)) (give_back_aside s claim))
 deed_stores n s (Weakens share access deny) good fit paid = Nothing (stores_same s (done n s (Weakens share access deny)) (weaken_aside s share access deny))

@@ -17,6 +17,7 @@ pub mod Entries
 pub mod Fitting
 pub mod Steady
 pub mod Recording
+pub mod Truthful
 pub mod Wished
 pub mod Breaking
 pub mod Keeping

@@ -1,5 +1,5 @@
 //! The house: the machine with its journal.
-ghost use Rattle.std.specs.Prelude.{◌≡◌, ℕ, ◌+◌, ◌-◌, ◌*◌, ◌<◌, ◌≤◌, ◌^◌, [], ◌∷◌, ◌++◌, length, drop, vec_capacity, vec_len, true, false, Ok, Err, Some, None, OnOk, OnErr, IfOk, IfErr, IfSome, ◌↔◌};
+ghost use Rattle.std.specs.Prelude.{◌≡◌, ℕ, ◌+◌, ◌-◌, ◌*◌, ◌<◌, ◌≤◌, ◌^◌, [], ◌∷◌, ◌++◌, List, length, drop, vec_capacity, vec_len, true, false, Ok, Err, Some, None, OnOk, OnErr, IfOk, IfErr, IfSome, ◌↔◌};
 ghost use Rattle.xl_base.specs.Limits.{most_numbers};
 ghost use Rattle.xl_base.specs.Outside.{Rose};
 ghost use Rattle.xl_base.specs.Serials.{Extends};
@@ -25,6 +25,8 @@ ghost use Rattle.xl_house.specs.Lawful.{Always, IsLawful, IsWaiting, IsKept, IsC
 ghost use Rattle.xl_house.specs.Machine.{step};
 ghost use Rattle.xl_house.specs.Recording.{HasKept, IsRecording, IsAdmitting};
 ghost use Rattle.xl_house.specs.Starts.{IsGiven, IsStored};
+ghost use Rattle.xl_house.specs.Truthful.{AlwaysCut, Happening, happened, NeverCollide};
+ghost use Rattle.xl_reclaims.specs.Truthful.{Before, WereHeld};
 ghost use Rattle.xl_house.specs.State.{no_fronts, times_of, start_of};
 ghost use Rattle.xl_plan.specs.Keepers.{telling};
 ghost use Rattle.xl_house.specs.Serials.{IsHistory, MayHalt};
@@ -491,6 +493,8 @@ impl<K: Keeper> House<K> {
         ensures steady { Always IsSteady (start_of result.0.head) result.0.entries }
         ensures recorded { Always IsRecording (start_of result.0.head) result.0.entries }
         ensures admitted { Always IsAdmitting (start_of result.0.head) result.0.entries }
+        ensures crashed { AlwaysCut (start_of result.0.head) result.0.entries }
+        ensures truthful { (before : Before) (more : List Happening) → WereHeld before → NeverCollide before (start_of result.0.head) (happened result.0.entries ++ more) }
         ensures parties { Always IsPartied (start_of result.0.head) result.0.entries }
         ensures waiting { Always IsWaiting (start_of result.0.head) result.0.entries }
         ensures kept_until_answered { Always IsKept (start_of result.0.head) result.0.entries }

@@ -2,7 +2,7 @@
 ghost use Rattle.std.specs.Prelude.{◌≡◌, ℕ, nat_lt, Bool, true, false, List, [], ◌∷◌, Option, Some, None, ◌==◌, find};
 ghost use Rattle.xl_base.specs.Lists.{IsIn};
 ghost use Rattle.xl_base.specs.Stable.{is_recorded};
-ghost use Rattle.xl_base.specs.declared.event.Event.TheVariants.{Message, Tick, Called};
+ghost use Rattle.xl_base.specs.declared.event.Event.TheVariants.{Message, Tick, Called, Restart};
 ghost use Rattle.xl_base.specs.declared.event.Moment.{Moment};
 ghost use Rattle.xl_base.specs.declared.event.Out.{Out};
 ghost use Rattle.xl_base.specs.declared.journal.Entry.{Entry};
@@ -58,6 +58,14 @@ ghost use Rattle.xl_front_nlm.specs.declared.grant.Grant.{Grant};
 ghost use Rattle.xl_smb_laws.specs.OpenRights.{is_held_under};
 ghost use Rattle.xl_house.specs.Owed.{own_deeds, IsOwed, AreGone};
 ghost use Rattle.xl_house.specs.Recording.{IsRecording, IsAdmitting};
+ghost use Rattle.xl_house.specs.State.{start_of};
+ghost use Rattle.xl_house.specs.Truthful.{Happening, AreLetIn, NeverCollide};
+ghost use Rattle.xl_reclaims.specs.Truthful.{Before, WereHeld, Reclaims, turns_away};
+ghost use Rattle.xl_base.specs.declared.journal.Head.{Head};
+ghost use Rattle.xl_core.specs.Deeds.{all_told_of};
+ghost use Rattle.xl_core.specs.Frames.{who_expired};
+ghost use Rattle.xl_core.specs.Standings.{recorded_as};
+ghost use Rattle.xl_core.specs.Stores.{client_name};
 ghost use Rattle.xl_base.specs.declared.event.Dest.TheVariants.{Conn};
 ghost use Rattle.xl_programs.specs.Sent.{sent_to};
 ghost use Rattle.xl_house.specs.Replying.{IsOneReply};
@@ -147,4 +155,26 @@ pub fn machines_that_tell_wrongly_are_refused()
     ensures granted_twice { (exports : Exports) (s : CoreState) (party : Party) (id : ℕ) (claim : Claim) (call : Out) → IsNlmNews exports s (Effect.Served party id (Answer.Granted claim)) (call ∷ call ∷ []) → ⊥ }
     ensures final_astray { (l : Lists) (s : CoreState) (party : Party) (id : ℕ) (answer : Answer) (row : Waiting) (other : ℕ) (bytes : List ℕ) → waiting_of id l ≡ Some row → (Conn other ≡ Conn row.place.connection → ⊥) → IsSmbNews l s (Effect.Served party id answer) (record { dest = Conn other; to = []; bytes = bytes } ∷ []) → ⊥ }
     ensures untold { (s t : CoreState) (file : ℕ) (party : Party) (kind : CacheKind) (running : Break) → held_at s (CacheOf file party) ≡ What.Cache kind None ∷ [] → held_at t (CacheOf file party) ≡ What.Cache kind (Some running) ∷ [] → AreAnnounced s t [] → ⊥ }
+{}
+
+/// A machine that tells that a client has expired, and whose record has it still, doesn't record rightly; nor does one that forgets a
+/// recorded name at a restart. One that lets a client in while grace runs whom the record lacks lets nobody in rightly; and one that
+/// turns a reclaim away has no entry that lets each in.
+#[tactic(auto, using(crate::proofs::RecoveringLaws::expired_stays_in, crate::proofs::RecoveringLaws::unrecorded_let_in, crate::proofs::RecoveringLaws::name_forgotten_in, crate::proofs::RecoveringLaws::reclaim_turned_away_in))]
+pub fn machines_that_recover_wrongly_are_refused()
+    ensures expired_stays { (n stores : ℕ) (outs : List Out) (s t : Whole) (now : Moment) (client : List ℕ) → IsIn client (who_expired (all_told_of n (found s) (own_of n (as_found s) (Tick now)).deeds)) → is_recorded (client_name client) t.core.stable.names ≡ true
+        → IsRecording n s (record { event = Tick now; stores = stores; outs = outs }) t → ⊥ }
+    ensures unrecorded { (n stores number : ℕ) (bytes : List ℕ) (outs : List Out) (s t : Whole) (left : Rooms) (a : Ask) (g : Running) (c : Claim) → deeds n s (Message number bytes) ≡ Asks left a ∷ [] → s.core.grace ≡ Some g → asks_claims a.act ≡ true
+        → is_recorded (recorded_as a.party) s.core.stable.names ≡ false → (ask n left (found s) a).0 ≡ Answer.Granted c → IsAdmitting n s (record { event = Message number bytes; stores = stores; outs = outs }) t → ⊥ }
+    ensures name_forgotten { (n stores : ℕ) (outs : List Out) (s t : Whole) (name : Recorded) → is_recorded name s.core.stable.names ≡ true → is_recorded name t.core.stable.names ≡ false → IsRecording n s (record { event = Restart; stores = stores; outs = outs }) t → ⊥ }
+    ensures turned_away { (n number : ℕ) (bytes : List ℕ) (s : Whole) (left : Rooms) (a : Ask) (answer : Answer) → deeds n s (Message number bytes) ≡ Asks left a ∷ [] → Reclaims (found s) a → (ask n left (found s) a).0 ≡ answer → turns_away answer ≡ true → AreLetIn n s (Message number bytes) → ⊥ }
+{}
+
+/// Truthful reclaims never collide, whatever happens from a start on, restarts and crashes too: while grace runs, if each reclaim since
+/// the server started told the truth, none is turned away by what is held, nor for want of its name in the record or of a grace that
+/// runs. A reclaim tells the truth if the record has its client, and what it asks for lies within what the client held, by names,
+/// just before the server stopped; or if grace ran then, before that began.
+#[tactic(auto, using(crate::proofs::TruthfulLaws::never_collide))]
+pub fn truthful_reclaims_never_collide()
+    ensures { (head : Head) (before : Before) (more : List Happening) → WereHeld before → NeverCollide before (start_of head) more }
 {}

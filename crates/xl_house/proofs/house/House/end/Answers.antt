@@ -13,6 +13,8 @@ use Rattle.xl_house.proofs.MeantLaws.{always_meant}
 use Rattle.xl_house.proofs.NotifiedLaws.{always_notified}
 use Rattle.xl_house.proofs.OrderLaws.{legal_orderly}
 use Rattle.xl_house.proofs.RecordLaws.{always_admitting, always_recording}
+use Rattle.xl_house.proofs.CrashLaws.{always_cut}
+use Rattle.xl_house.proofs.TruthfulLaws.{never_collide}
 use Rattle.xl_house.proofs.house.House.end.Goals as goal
 
 pub returns-clause-free : goal.returns-clause-free
@@ -29,6 +31,12 @@ returns-clause-recorded g c = rw c.from_vec-entries.ensures (always_recording _ 
 
 pub returns-clause-admitted : goal.returns-clause-admitted
 returns-clause-admitted g c = always_admitting _ _
+
+pub returns-clause-crashed : goal.returns-clause-crashed
+returns-clause-crashed g c = always_cut _ _
+
+pub returns-clause-truthful : goal.returns-clause-truthful
+returns-clause-truthful g c = λ before more were. never_collide _ before _ were
 
 pub returns-clause-parties : goal.returns-clause-parties
 returns-clause-parties g c = always_partied _ _
