@@ -7,6 +7,8 @@ ghost use Rattle.xl_house.specs.Lawful.{Always, IsLawful, IsWaiting, IsKept, IsC
 ghost use Rattle.xl_house.specs.Awaited.{IsServed};
 ghost use Rattle.xl_house.specs.Fitting.{IsFitting};
 ghost use Rattle.xl_house.specs.Recording.{IsAdmitting, IsRecording};
+ghost use Rattle.xl_house.specs.Truthful.{AlwaysCut, Happening, happened, NeverCollide};
+ghost use Rattle.xl_reclaims.specs.Truthful.{Before, WereHeld};
 ghost use Rattle.xl_house.specs.Steady.{IsSteady};
 ghost use Rattle.xl_house.specs.Entries.{IsWishing, IsBreaking, IsKeeping, IsPartied};
 ghost use Rattle.xl_house.specs.Owed.{IsOwed};
@@ -619,7 +621,7 @@ fn work<I: Source, O: Sink, R: Wait>(
 ///
 /// The journal that comes back has each event that was stepped, with what was sent for it. The clauses from `legal` to
 /// `served` hold for it whatever the input is, and at every status.
-#[tactic(auto, using(crate::proofs::ReplayLaws::remade_so, xl_house::proofs::MachineLaws::begun_free, xl_house::proofs::LawfulLaws::always_lawful, xl_house::proofs::LawfulLaws::always_waiting, xl_house::proofs::LawfulLaws::always_kept, xl_house::proofs::LawfulLaws::always_complete, xl_house::proofs::FittingLaws::always_fitting, xl_house::proofs::LawfulLaws::always_caused, xl_house::proofs::LawfulLaws::always_told, xl_house::proofs::SteadyLaws::always_steady, xl_house::proofs::RecordLaws::always_recording, xl_house::proofs::RecordLaws::always_admitting, xl_house::proofs::EntryLaws::always_wishing, xl_house::proofs::EntryLaws::always_breaking, xl_house::proofs::EntryLaws::always_keeping, xl_house::proofs::OwedLaws::always_owed, xl_house::proofs::ReplyingLaws::always_replied, xl_house::proofs::EntryLaws::always_partied, xl_house::proofs::AskingLaws::always_asking, xl_house::proofs::NotifiedLaws::always_notified, xl_house::proofs::MeantLaws::always_meant))]
+#[tactic(auto, using(crate::proofs::ReplayLaws::remade_so, xl_house::proofs::MachineLaws::begun_free, xl_house::proofs::LawfulLaws::always_lawful, xl_house::proofs::LawfulLaws::always_waiting, xl_house::proofs::LawfulLaws::always_kept, xl_house::proofs::LawfulLaws::always_complete, xl_house::proofs::FittingLaws::always_fitting, xl_house::proofs::LawfulLaws::always_caused, xl_house::proofs::LawfulLaws::always_told, xl_house::proofs::SteadyLaws::always_steady, xl_house::proofs::RecordLaws::always_recording, xl_house::proofs::RecordLaws::always_admitting, xl_house::proofs::CrashLaws::always_cut, xl_house::proofs::TruthfulLaws::never_collide, xl_house::proofs::EntryLaws::always_wishing, xl_house::proofs::EntryLaws::always_breaking, xl_house::proofs::EntryLaws::always_keeping, xl_house::proofs::OwedLaws::always_owed, xl_house::proofs::ReplyingLaws::always_replied, xl_house::proofs::EntryLaws::always_partied, xl_house::proofs::AskingLaws::always_asking, xl_house::proofs::NotifiedLaws::always_notified, xl_house::proofs::MeantLaws::always_meant))]
 pub fn run<
     I: Source,
     O: Sink,
@@ -727,6 +729,12 @@ pub fn run<
     // recorded: the record is the last that was stored, and no more was stored than the entry tells; a name comes into it by an ask of
     // a client that is monitored, and goes only if the client expires, or at the end of a grace in which it reclaimed nothing.
     // admitted: while grace runs a share or a lock is granted only to one who reclaims it and whose client is recorded.
+    // crashed: a crash in the midst of an event leaves the record as the stores left it that were made until then: a name comes into it
+    // only by such an ask in that event, and goes only as its client expires in it, or at the end of a grace in which it reclaimed nothing.
+    // truthful: whatever was held before the start, and whatever happens behind the last event, restarts and crashes too: while grace
+    // runs, if each reclaim since the server started told the truth, none is turned away by what is held, nor for want of its name in
+    // the record or of a grace that runs. One tells the truth if the record has its client, and what it asks for lies within what the
+    // client held, by names, just before the server stopped; or if grace ran then, before that began.
     // parties: a claim is held for a party that had something of its owner's on the file, asked for it, or waited for it.
     // waiting: those who waited go on to wait in their order, except those whom the event served, cancelled or ended.
     // kept_until_answered: while the break of a cache runs, the cache is held at its full kind, and nothing is granted
@@ -755,6 +763,8 @@ pub fn run<
     ensures steady { Always IsSteady (start_of result.journal.head) result.journal.entries }
     ensures recorded { Always IsRecording (start_of result.journal.head) result.journal.entries }
     ensures admitted { Always IsAdmitting (start_of result.journal.head) result.journal.entries }
+    ensures crashed { AlwaysCut (start_of result.journal.head) result.journal.entries }
+    ensures truthful { (before : Before) (more : List Happening) → WereHeld before → NeverCollide before (start_of result.journal.head) (happened result.journal.entries ++ more) }
     ensures parties { Always IsPartied (start_of result.journal.head) result.journal.entries }
     ensures waiting { Always IsWaiting (start_of result.journal.head) result.journal.entries }
     ensures kept_until_answered { Always IsKept (start_of result.journal.head) result.journal.entries }
