@@ -1,4 +1,4 @@
-//! Captures that are built in loops, with what their replays answer; how a house starts, and a lane and a caller over one;
+//! Captures that are built in loops, with what their replays answer; how a house starts, and starts again after a crash, and a lane and a caller over one;
 //! what is read of a capture, and what a transcript says.
 //!
 //! The cases of a text are parted by lines of two hyphens. Each is a capture, a line `=>`, and what a replay answers: its
@@ -10,7 +10,9 @@
 ghost use Rattle.std.specs.Prelude.{◌≡◌, vec_len};
 
 mod captures;
+mod crashes;
 mod grace;
+mod hostile;
 mod house;
 mod lanes;
 mod limits;

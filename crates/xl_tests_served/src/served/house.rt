@@ -41,7 +41,7 @@ fn start(
 }
 
 /// What is sent for bytes that come by connection 0; nothing if the house halts.
-fn told(
+pub(super) fn told(
     alloc: Global,
     house: &mut House<MemoryKeeper>,
     bytes: Sequence<u8>,

@@ -46,6 +46,9 @@ const UNAVAILABLE: &str = "00000002000000010000000000000000000000000000000000000
 /// No record: the client doesn't answer.
 const NOTHING: &str = "-";
 
+/// No record: the call fails.
+const FAILS: &str = "!";
+
 /// What the house exports: `a.txt`, and the address at which the caller `b` is called back.
 const EXPORTS: &[u8] = b"F a.txt\nH 62 127.0.0.1.3.4\n";
 
@@ -69,12 +72,13 @@ fn lane(alloc: Global) -> Result<MemoryLane, Fail> {
 
 /// A caller whose client answers its first call so.
 fn caller(alloc: Global, answer: &str) -> Result<MemoryCaller, Fail> {
-    let mut answers = Vec::new(alloc);
-    if answer != NOTHING {
-        let bytes = Sequence::from_vec(hex::decode(alloc, answer)?);
-        answers.push(Some(bytes))?;
+    let (mut answers, mut failing) = (Vec::new(alloc), Vec::new(alloc));
+    match answer {
+        NOTHING => {}
+        FAILS => failing.push(1)?,
+        _ => answers.push(Some(Sequence::from_vec(hex::decode(alloc, answer)?)))?,
     }
-    Ok(MemoryCaller::new(alloc, answers, Vec::new(alloc)))
+    Ok(MemoryCaller::new(alloc, answers, failing))
 }
 
 /// Whether the bytes are these in hex.
@@ -100,6 +104,7 @@ fn is_answered(alloc: Global, asked: &Asked, answer: &str) -> bool {
     match asked {
         Asked::Call(_, _, CallOutcome::Answer(bytes)) => are_hex(alloc, bytes.as_slice(), answer),
         Asked::Call(_, _, CallOutcome::Nobody) => answer == NOTHING,
+        Asked::Call(_, _, CallOutcome::Failed) => answer == FAILS,
         _ => false,
     }
 }
@@ -119,7 +124,7 @@ fn are_entered(alloc: Global, entries: &[Entry], answer: &str) -> bool {
     };
     match &entry.event {
         Event::Called(2, Some(bytes)) => are_hex(alloc, bytes.as_slice(), answer),
-        Event::Called(2, None) => answer == NOTHING,
+        Event::Called(2, None) => answer == NOTHING || answer == FAILS,
         _ => false,
     }
 }
@@ -201,6 +206,14 @@ fn leaves<R: Wait>(rt: &R, alloc: Global, answer: &str, claims: usize) -> Result
     };
     let (house, served) = serve_over_a_desk(rt, alloc, house, lane, caller, answer);
     Ok(ends_so(alloc, house, answer, claims) && served)
+}
+
+/// Whether a call that fails is over without an answer, and its client keeps the lock.
+pub(super) fn keeps_what_a_failed_call_tells_of<R: Wait>(
+    rt: &R,
+    alloc: Global,
+) -> Result<bool, Fail> {
+    leaves(rt, alloc, FAILS, 1)
 }
 
 /// A client that refuses the call that tells of its grant gives the lock up; one that doesn't answer keeps it.

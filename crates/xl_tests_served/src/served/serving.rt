@@ -14,47 +14,56 @@ use xl_base::{
 use xl_top::{Done, Outside, run};
 
 /// What a link gives: a lock, and behind its reply the unlock, as `tools/capture_from_words.py` has them.
-const LOCK: &str =
+pub(super) const LOCK: &str =
     "80000068000000010000000000000002000186b5000000040000000200000000000000000000000000000000000000000000000000000001000000016100000000000008584c4b310000000100000000000000070000000000000000000000000000000a0000000000000000";
 
-const UNLOCK: &str =
+pub(super) const UNLOCK: &str =
     "80000058000000020000000000000002000186b500000004000000040000000000000000000000000000000000000000000000016100000000000008584c4b310000000100000000000000070000000000000000000000000000000a";
 
 /// What is written of a lane with this link: the header, and a line for each event.
-const HEADER: &str = "F a.txt\nL 90000 90000 35000\nK 0\n";
+pub(super) const HEADER: &str = "F a.txt\nL 90000 90000 35000\nK 0\n";
 
 /// What a replay of that answers.
 const REPLAY: &str = "0 0 4\n\
     1 c0 800000200000000100000001000000000000000000000000000000000000000000000000\n\
     2 c0 800000200000000200000001000000000000000000000000000000000000000000000000\n";
 
-/// Which calls of each fail: numbers from 1, 0 for none.
+/// How many clients come, and which calls of each part of the outside fail: numbers from 1, 0 for none.
 #[derive(Clone, Copy)]
-struct Faults {
-    keeper: u64,
-    lane: u64,
-    sink: u64,
+pub(super) struct Faults {
+    pub peers: u64,
+    pub keeper: u64,
+    pub lane: u64,
+    pub sink: u64,
 }
 
-const NONE: Faults = Faults {
+pub(super) const NONE: Faults = Faults {
+    peers: 1,
     keeper: 0,
     lane: 0,
     sink: 0,
 };
 
-/// A lane to which one client comes.
-fn lane(alloc: Global, failing: u64) -> Result<MemoryLane, Fail> {
+/// A client that locks and, behind the reply, unlocks.
+fn peer(alloc: Global) -> Result<Peer, Fail> {
     let mut parts = VecDeque::new(alloc);
     for (after, record) in [(0, LOCK), (36, UNLOCK)] {
         let bytes = Sequence::from_vec(hex::decode(alloc, record)?);
         parts.push_back(Part { after, bytes })?;
     }
-    let peer = Peer {
+    Ok(Peer {
         kind: Kind::Rpc,
         parts,
-    };
-    let peers = VecDeque::from_array(alloc, [peer])?;
-    Ok(MemoryLane::new(alloc, peers, Vec::from_slice(alloc, &[failing])?))
+    })
+}
+
+/// A lane to which so many of them come, one after the other.
+fn lane(alloc: Global, peers: u64, failing: u64) -> Result<MemoryLane, Fail> {
+    let mut coming = VecDeque::new(alloc);
+    for _ in 0..peers {
+        coming.push_back(peer(alloc)?)?;
+    }
+    Ok(MemoryLane::new(alloc, coming, Vec::from_slice(alloc, &[failing])?))
 }
 
 /// One such lane, and a clock that reads 5 and then always the other moment.
@@ -72,16 +81,16 @@ fn outside(
     );
     let mut outside = nobody(alloc);
     outside.keeper = keeper;
-    outside.lanes.push(lane(alloc, faults.lane)?)?;
+    outside.lanes.push(lane(alloc, faults.peers, faults.lane)?)?;
     outside.clock = MemoryClock::new(alloc, Moment(5), vec![in alloc; Moment(later)]?);
     Ok(outside)
 }
 
 /// How a run of `serve` ended, and what it wrote.
 #[derive(Drop)]
-struct Ran {
-    done: Done<MemoryKeeper, MemoryLane, MemoryCaller, MemoryClock>,
-    written: Vec<u8>,
+pub(super) struct Ran {
+    pub done: Done<MemoryKeeper, MemoryLane, MemoryCaller, MemoryClock>,
+    pub written: Vec<u8>,
 }
 
 /// The words of `serve`, with 1,000 turns.
@@ -94,7 +103,7 @@ pub(super) fn serve_words(alloc: Global) -> Result<Vec<String>, Fail> {
 }
 
 /// Runs `serve` over one lane.
-fn run_serve<R: Threads + Wait + Sync>(
+pub(super) fn run_serve<R: Threads + Wait + Sync>(
     rt: &R,
     alloc: Global,
     exports: &str,
@@ -112,7 +121,7 @@ fn run_serve<R: Threads + Wait + Sync>(
 }
 
 /// The events of a link that gave so many of its records, behind the opening. The lock's caller is recorded, which is one store.
-fn lines(alloc: Global, between: &str, records: usize) -> Result<String, Fail> {
+pub(super) fn lines(alloc: Global, between: &str, records: usize) -> Result<String, Fail> {
     let mut text = format!(in alloc; "{HEADER}O rpc !0\n{between}")?;
     for (record, stores) in [(LOCK, 1), (UNLOCK, 0)].iter().take(records) {
         let line = format!(in alloc; "B 0 {record} !{stores}\n")?;
@@ -140,7 +149,7 @@ fn told(alloc: Global, ran: &Ran) -> Result<String, Fail> {
 }
 
 /// Whether a run ended so, and wrote this.
-fn is_so(alloc: Global, ran: &Ran, ended: &str, written: &str) -> Result<bool, Fail> {
+pub(super) fn is_so(alloc: Global, ran: &Ran, ended: &str, written: &str) -> Result<bool, Fail> {
     let told = told(alloc, ran)?;
     Ok(told.as_str() == ended && ran.written.as_slice() == written.as_bytes())
 }
@@ -163,54 +172,6 @@ fn one_reading_is_entered(rt: HostRuntime) -> Result<(), Fail> {
     let ran = run_serve(&rt, alloc, "F a.txt\n", NONE, 1_005)?;
     let wanted = lines(alloc, "T 1000 !0\n", 2)?;
     assert!(rt; is_so(alloc, &ran, "0 0 5 end", &wanted)?);
-    Ok(())
-}
-
-#[test]
-fn a_start_whose_record_fails_serves_nobody(rt: HostRuntime) -> Result<(), Fail> {
-    let alloc = rt.alloc();
-    for keeper in [1, 2] {
-        let faults = Faults { keeper, ..NONE };
-        let ran = run_serve(&rt, alloc, "F a.txt\n", faults, 5)?;
-        assert!(rt; is_so(alloc, &ran, "5 0 0 turns 0", HEADER)?, "{keeper}");
-    }
-    Ok(())
-}
-
-#[test]
-fn a_lane_that_fails_at_once_ends(rt: HostRuntime) -> Result<(), Fail> {
-    let alloc = rt.alloc();
-    let faults = Faults { lane: 1, ..NONE };
-    let ran = run_serve(&rt, alloc, "F a.txt\n", faults, 5)?;
-    assert!(rt; is_so(alloc, &ran, "0 0 0 failed 1", HEADER)?);
-    Ok(())
-}
-
-/// Whether a lane whose call of this number fails ends its link once so many records are entered.
-fn is_cut<R: Threads + Wait + Sync>(
-    rt: &R,
-    alloc: Global,
-    lane: u64,
-    records: usize,
-) -> Result<bool, Fail> {
-    let faults = Faults { lane, ..NONE };
-    let wanted = lines(alloc, "", records)?;
-    let ended = if records == 0 {
-        "0 0 2 end"
-    } else {
-        "0 0 3 end"
-    };
-    let ran = run_serve(rt, alloc, "F a.txt\n", faults, 5)?;
-    is_so(alloc, &ran, ended, &wanted)
-}
-
-#[test]
-fn a_lane_that_fails_ends_what_it_had(rt: HostRuntime) -> Result<(), Fail> {
-    let alloc = rt.alloc();
-    // The second call takes the lock, the third sends its reply, and the fourth takes the unlock.
-    assert!(rt;
-        is_cut(&rt, alloc, 2, 0)? && is_cut(&rt, alloc, 3, 1)? && is_cut(&rt, alloc, 4, 1)?
-    );
     Ok(())
 }
 
