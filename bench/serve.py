@@ -93,9 +93,9 @@ def fastest(port, connections, pairs):
 
 
 def serve(program, folder, lanes, turns):
-    """The program, which serves two files."""
+    """The program, which serves two files, without a record of an earlier start: no grace runs."""
     words = [program, "serve", "--rpc", str(RPC_PORT), "--smb", str(SMB_PORT), "--lanes", str(lanes)]
-    words += ["--record", os.path.join(folder, "record"), "--turns", str(turns)]
+    words += ["--record", os.path.join(tempfile.mkdtemp(dir=folder), "record"), "--turns", str(turns)]
     server = subprocess.Popen(words, stdin=subprocess.PIPE, stdout=subprocess.DEVNULL, stderr=subprocess.DEVNULL)
     server.stdin.write(b"F a\nF b\n")
     server.stdin.close()

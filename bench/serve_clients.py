@@ -222,8 +222,8 @@ def start_time(program, folder):
     """How many seconds a start takes until the ports are open and the record is stored."""
     began = time.monotonic()
     with Server(program, folder):
-        with connect(RPC_PORT) as link:
-            if not is_granted(link, 0):
+        with connect(SMB_PORT) as link:
+            if not negotiates(link):
                 sys.exit("a client of a new server isn't served")
             return time.monotonic() - began
 
@@ -242,8 +242,8 @@ def check_kills(program, folder, kills):
         before = after
         if number % 10 == 9:
             with Server(program, folder) as whole:
-                with connect(RPC_PORT) as link:
-                    if not is_granted(link, number):
+                with connect(SMB_PORT) as link:
+                    if not negotiates(link):
                         return f"kill {number}: the next start doesn't serve"
             if epoch_in(path) != before + 1:
                 return f"kill {number}: the next start didn't raise the epoch"
@@ -251,14 +251,19 @@ def check_kills(program, folder, kills):
     return None
 
 
+def check_all(program, kills):
+    """What went wrong, if something did; each check begins without a record, so that no grace runs in it."""
+    checks = [check_many, check_slow, check_call_back, lambda program, folder: check_kills(program, folder, kills)]
+    for check in checks:
+        with tempfile.TemporaryDirectory() as folder:
+            if wrong := check(program, folder):
+                return wrong
+    return None
+
+
 def main(program, kills):
     random.seed(1)
-    with tempfile.TemporaryDirectory() as folder:
-        for check in check_many, check_slow, check_call_back:
-            if wrong := check(program, folder):
-                sys.exit(wrong)
-        if wrong := check_kills(program, folder, kills):
-            sys.exit(wrong)
+    sys.exit(check_all(program, kills))
 
 
 if __name__ == "__main__":
