@@ -31,7 +31,9 @@ RPC_PORT, SMB_PORT = 7031, 7032
 EACH, HOSTILE, FULL = 500_000, 50, 1_048_576
 # Bytes of memory for each byte of a capture, and what a program takes without one.
 MOST, WITHOUT = 8, 32 * 2**20
-FEEDERS, JOURNAL_FULL, REPLY = 3, 7, 36
+JOURNAL_FULL, REPLY = 7, 36
+# Of 16 lanes of each kind one is the honest client's.
+FEEDERS, LINKS = 3, 5
 # The file of the honest client, behind those of the sessions.
 HONEST = FILES
 
@@ -79,15 +81,21 @@ def connect(port):
 
 
 class Links:
-    """The connections of a session, by their numbers in its capture."""
+    """The connections of a session, by their numbers in its capture: of each kind as many as lanes are there for. One more ends the oldest."""
 
     def __init__(self):
-        self.links = {}
+        self.links, self.kinds = {}, {}
 
     def open(self, number, kind):
-        link = connect(RPC_PORT if kind == "rpc" else SMB_PORT)
+        alike = [other for other in self.links if self.kinds[other] == kind]
+        if len(alike) == LINKS:
+            self.end(alike[0])
+        try:
+            link = connect(RPC_PORT if kind == "rpc" else SMB_PORT)
+        except (TimeoutError, ConnectionResetError):
+            return
         link.setblocking(False)
-        self.links[number] = link
+        self.links[number], self.kinds[number] = link, kind
 
     def take(self, link):
         """Takes what the server sent; whether the link is there still."""
@@ -150,7 +158,7 @@ class Feed:
                 show.event()
         except Full:
             return True
-        except OSError:
+        except ConnectionRefusedError:
             return False
         finally:
             self.links.end_all()
@@ -174,17 +182,16 @@ def take(link, count):
     return taken
 
 
-def honest_pairs():
+def honest_pairs(link):
     """Locks and unlocks a range of one's own until the server ends; how often both were granted, and what went wrong, if something did."""
-    pairs, link = 0, connect(RPC_PORT)
-    link.settimeout(10)
+    pairs = 0
     while True:
         for procedure in LOCK, UNLOCK:
             try:
                 link.sendall(record(1, procedure, HONEST + 1, 1, 0, 10, caller=b"honest"))
                 reply = take(link, REPLY)
             except TimeoutError:
-                return pairs, "an honest client isn't answered for ten seconds"
+                return pairs, f"an honest client isn't answered for ten seconds, after {pairs:,} pairs"
             except OSError:
                 reply = b""
             if not reply:
@@ -207,10 +214,13 @@ def check_server(program, folder, seed):
     server.stdin.write(("".join(lines) + f"F f{HONEST + 1}\n").encode())
     server.stdin.close()
     server.stderr.readline()
+    # It comes first, so that it has a lane.
+    honest = connect(RPC_PORT)
+    honest.settimeout(10)
     feeders = [multiprocessing.Process(target=feed, args=(f"{seed}/{number}",), daemon=True) for number in range(FEEDERS)]
     for feeder in feeders:
         feeder.start()
-    pairs, wrong = honest_pairs()
+    pairs, wrong = honest_pairs(honest)
     if wrong:
         sys.exit(f"{seed}: {wrong}")
     run = ended(server)
