@@ -3,9 +3,10 @@
 usage: soak.py PROGRAM [EVENTS]
 
 PROGRAM is xlockd. It replays captures of 500,000 events each until EVENTS (default 10,000,000) are replayed, and then serves until as many
-are entered, a server up to the end of its journal. A line tells of each run; the first that isn't as it should be is told and ends all:
+are entered, by one server after another. A line tells of each run; the first that isn't as it should be is told and ends all:
 - a replay ends with status 0;
-- a server grants the locks of an honest client up to its end, which is that of a full journal (status 7), and its capture replays;
+- a server grants each of PAIRS pairs of a lock and an unlock of an honest client, ends once its turns are done (status 0) or its journal
+  is full (7), and its capture replays. Its callers have turns of 10 ms each, so that it takes five minutes at least;
 - neither holds more memory than what it reads and its journal need, MOST bytes for each byte of the capture.
 
 What is served has the bytes of such captures, sent by some clients at once as fast as they are taken. So ids and places are others than
@@ -28,10 +29,11 @@ from make_capture import MOST_BYTES, Show, write_capture  # noqa: E402
 from xlock.world import FILES, Full, World  # noqa: E402
 
 RPC_PORT, SMB_PORT = 7031, 7032
-EACH, HOSTILE, FULL = 500_000, 50, 1_048_576
+EACH, HOSTILE = 500_000, 50
 # Bytes of memory for each byte of a capture, and what a program takes without one.
 MOST, WITHOUT = 8, 32 * 2**20
-JOURNAL_FULL, REPLY = 7, 36
+DONE, JOURNAL_FULL, REPLY = 0, 7, 36
+PAIRS, TURNS = 2_000, 30_000
 # Of 16 lanes of each kind one is the honest client's.
 FEEDERS, LINKS = 3, 5
 # The file of the honest client, behind those of the sessions.
@@ -45,20 +47,20 @@ def ended(process):
     return process.returncode, used.ru_utime + used.ru_stime, used.ru_maxrss * 1024
 
 
-def judged(what, events, size, run, wanted):
+def judged(what, events, size, run, *wanted):
     """Tells of a run, and ends all if it isn't as it should be."""
     status, seconds, memory = run
     print(f"{what}: {events:,} events, {seconds:.1f} s, {memory / 2**20:.0f} MB for {size / 2**20:.0f} MB of capture", flush=True)
-    if status != wanted:
+    if status not in wanted:
         sys.exit(f"{what} ended with status {status}")
     if memory > WITHOUT + MOST * size:
         sys.exit(f"{what} held too much memory")
 
 
-def check_replay(program, what, events, path, status=0):
+def check_replay(program, what, events, path):
     with open(path) as capture:
         run = ended(subprocess.Popen([program, "replay"], stdin=capture, stdout=subprocess.DEVNULL))
-    judged(what, events, os.path.getsize(path), run, status)
+    judged(what, events, os.path.getsize(path), run, DONE)
 
 
 def check_replays(program, folder, count):
@@ -183,9 +185,9 @@ def take(link, count):
 
 
 def honest_pairs(link):
-    """Locks and unlocks a range of one's own until the server ends; how often both were granted, and what went wrong, if something did."""
+    """Locks and unlocks a range of one's own; how often both were granted, and what went wrong, if something did."""
     pairs = 0
-    while True:
+    while pairs < PAIRS:
         for procedure in LOCK, UNLOCK:
             try:
                 link.sendall(record(1, procedure, HONEST + 1, 1, 0, 10, caller=b"honest"))
@@ -194,21 +196,21 @@ def honest_pairs(link):
                 return pairs, f"an honest client isn't answered for ten seconds, after {pairs:,} pairs"
             except OSError:
                 reply = b""
-            if not reply:
-                return pairs, None
-            if len(reply) == REPLY and reply[-4:] != bytes(4):
-                return pairs, f"an honest client is told {reply.hex()}"
+            if len(reply) != REPLY or reply[-4:] != bytes(4):
+                return pairs, f"an honest client is told {reply.hex()}, after {pairs:,} pairs"
         pairs += 1
         time.sleep(0.01)
+    link.close()
+    return pairs, None
 
 
 def check_server(program, folder, seed):
-    """Serves up to a full journal, and replays what was served."""
+    """Serves, and replays what was served: how many events these were."""
     lines = []
     World(seed, lines.append, 0, MOST_BYTES).header()
     # No record is kept from one server to the next, so none begins in grace.
     path, kept = os.path.join(folder, "served"), os.path.join(folder, f"record{seed.replace('/', '')}")
-    words = [program, "serve", "--rpc", str(RPC_PORT), "--smb", str(SMB_PORT), "--lanes", "16", "--turns", "10000000", "--record", kept]
+    words = [program, "serve", "--rpc", str(RPC_PORT), "--smb", str(SMB_PORT), "--lanes", "16", "--turns", str(TURNS), "--record", kept]
     with open(path, "wb") as captured:
         server = subprocess.Popen(words, stdin=subprocess.PIPE, stdout=captured, stderr=subprocess.PIPE)
     server.stdin.write(("".join(lines) + f"F f{HONEST + 1}\n").encode())
@@ -226,15 +228,20 @@ def check_server(program, folder, seed):
     run = ended(server)
     for feeder in feeders:
         feeder.terminate()
-    judged(f"{seed}, {pairs:,} pairs of an honest client", FULL, os.path.getsize(path), run, JOURNAL_FULL)
-    check_replay(program, f"{seed}, replayed", FULL, path)
+    with open(path) as captured:
+        events = sum(line[0] in "OBECT" for line in captured)
+    judged(f"{seed}, {pairs:,} pairs of an honest client", events, os.path.getsize(path), run, DONE, JOURNAL_FULL)
+    check_replay(program, f"{seed}, replayed", events, path)
+    return events
 
 
 def main(program, count):
     with tempfile.TemporaryDirectory() as folder:
         check_replays(program, folder, count)
-        for number in range(-(-count // FULL)):
-            check_server(program, folder, f"serve {1 + number}")
+        served, number = 0, 0
+        while served < count:
+            number += 1
+            served += check_server(program, folder, f"serve {number}")
 
 
 if __name__ == "__main__":
