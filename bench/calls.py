@@ -1,9 +1,10 @@
 """Calls of NLM, of NFSv4.0 and of SMB 2.1 in captures, and how long a replay takes."""
-import os
 import re
 import struct
 import subprocess
 import sys
+
+from links import ended
 
 TEST, LOCK, UNLOCK, FREE_ALL = 1, 2, 4, 23
 NLM, NFS = 100021, 100003
@@ -171,11 +172,10 @@ def write_capture(path, files, records, kind="rpc"):
 
 def measured(words, source):
     """The seconds of the processor and the peak of resident bytes of one run of a program on this input."""
-    program = subprocess.Popen(words, stdin=source, stdout=subprocess.DEVNULL)
-    _, status, used = os.wait4(program.pid, 0)
-    if os.waitstatus_to_exitcode(status) != 0:
-        sys.exit(f"{' '.join(words)} ended in {os.waitstatus_to_exitcode(status)}")
-    return used.ru_utime + used.ru_stime, used.ru_maxrss * 1024
+    status, seconds, memory = ended(subprocess.Popen(words, stdin=source, stdout=subprocess.DEVNULL))
+    if status != 0:
+        sys.exit(f"{' '.join(words)} ended in {status}")
+    return seconds, memory
 
 
 def replay(binary, path):

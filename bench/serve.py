@@ -9,16 +9,16 @@ times; what is told is of the fastest time.
 """
 import multiprocessing
 import os
-import socket
 import subprocess
 import sys
 import tempfile
 import time
 
+import links
 from calls import LOCK, UNLOCK, record
+from links import REPLY, Server
 
 RPC_PORT, SMB_PORT, ECHO_PORT = 7011, 7012, 7013
-REPLY = 36
 HELD = 10_000
 
 
@@ -26,9 +26,7 @@ def connect(port):
     """A connection to a port of this machine, once somebody listens there."""
     for _ in range(100):
         try:
-            link = socket.create_connection(("127.0.0.1", port))
-            link.setsockopt(socket.IPPROTO_TCP, socket.TCP_NODELAY, 1)
-            return link
+            return links.connect(port)
         except ConnectionRefusedError:
             time.sleep(0.1)
     sys.exit(f"nobody listens at port {port}")
@@ -92,16 +90,6 @@ def fastest(port, connections, pairs):
     return max(rate(port, connections, pairs) for _ in range(3))
 
 
-def serve(program, folder, lanes, turns):
-    """The program, which serves two files, without a record of an earlier start: no grace runs."""
-    words = [program, "serve", "--rpc", str(RPC_PORT), "--smb", str(SMB_PORT), "--lanes", str(lanes)]
-    words += ["--record", os.path.join(tempfile.mkdtemp(dir=folder), "record"), "--turns", str(turns)]
-    server = subprocess.Popen(words, stdin=subprocess.PIPE, stdout=subprocess.DEVNULL, stderr=subprocess.DEVNULL)
-    server.stdin.write(b"F a\nF b\n")
-    server.stdin.close()
-    return server
-
-
 def built_echo(folder):
     """The echo's program."""
     program = os.path.join(folder, "echo")
@@ -124,10 +112,9 @@ def main(program, pairs):
             echo.kill()
             echo.wait()
             for held in 0, HELD:
-                server = serve(program, folder, min(connections + 1, 16), 1_000_000)
-                hold(RPC_PORT, held)
-                told(f"serve, {held} ranges held", connections, fastest(RPC_PORT, connections, pairs))
-                server.kill()
+                with Server(program, (RPC_PORT, SMB_PORT), b"F a\nF b\n", lanes=min(connections + 1, 16)):
+                    hold(RPC_PORT, held)
+                    told(f"serve, {held} ranges held", connections, fastest(RPC_PORT, connections, pairs))
                 server.wait()
 
 

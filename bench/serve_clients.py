@@ -12,8 +12,6 @@ PROGRAM is xlockd. It says nothing where all is well, else what went wrong:
 """
 import os
 import random
-import select
-import signal
 import socket
 import struct
 import subprocess
@@ -22,64 +20,15 @@ import tempfile
 import time
 
 from calls import LOCK, NEGOTIATE, UNLOCK, message, record
+from links import REPLY, Server, connect, take
 
 RPC_PORT, SMB_PORT = 7021, 7022
-REPLY = 36
 NEGOTIATION = message(0, 0, NEGOTIATE)
 
 
-class Server:
-    """The program, which serves one file."""
-
-    def __init__(self, program, folder, lanes=2, turns=1_000_000, more=b""):
-        words = [program, "serve", "--rpc", str(RPC_PORT), "--smb", str(SMB_PORT), "--lanes", str(lanes)]
-        words += ["--record", os.path.join(folder, "record"), "--turns", str(turns)]
-        pipe = subprocess.PIPE
-        self.process = subprocess.Popen(words, stdin=pipe, stdout=pipe, stderr=pipe)
-        self.process.stdin.write(b"F a\n" + more)
-        self.process.stdin.close()
-
-    def wait_until_open(self):
-        """Waits for the line that says that the ports are open."""
-        line = self.process.stderr.readline()
-        if b"serving" not in line:
-            sys.exit(f"the server says {line!r}")
-
-    def captured(self):
-        """What it writes once its turns are done."""
-        return self.process.stdout.read()
-
-    def kill(self):
-        self.process.send_signal(signal.SIGKILL)
-        self.process.wait()
-        self.process.stdout.close()
-        self.process.stderr.close()
-
-    def __enter__(self):
-        self.wait_until_open()
-        return self
-
-    def __exit__(self, *_):
-        self.kill()
-
-
-def connect(port):
-    link = socket.create_connection(("127.0.0.1", port))
-    link.setsockopt(socket.IPPROTO_TCP, socket.TCP_NODELAY, 1)
-    return link
-
-
-def take(link, count, seconds=10):
-    """So many bytes of a link, or those that came until it was closed or the time was over."""
-    taken, end = b"", time.monotonic() + seconds
-    while len(taken) < count and time.monotonic() < end:
-        if not select.select([link], [], [], max(0, end - time.monotonic()))[0]:
-            break
-        piece = link.recv(count - len(taken))
-        if not piece:
-            break
-        taken += piece
-    return taken
+def started(program, folder, lanes=2, turns=1_000_000, more=b""):
+    """A server of one file."""
+    return Server(program, (RPC_PORT, SMB_PORT), b"F a\n" + more, folder, lanes, turns)
 
 
 def is_granted(link, number, seconds=10):
@@ -105,7 +54,7 @@ def negotiates(link, seconds=10):
 
 
 def check_many(program, folder):
-    with Server(program, folder, lanes=16):
+    with started(program, folder, lanes=16):
         callers = [connect(RPC_PORT) for _ in range(16)]
         openers = [connect(SMB_PORT) for _ in range(16)]
         for number, link in enumerate(callers):
@@ -152,7 +101,7 @@ class Flood:
 
 
 def check_slow(program, folder):
-    with Server(program, folder, lanes=4):
+    with started(program, folder, lanes=4):
         cut = connect(RPC_PORT)
         cut.sendall(record(1, LOCK, 1, 3, 3000, 10)[:50])
         silent = Flood(RPC_PORT)
@@ -192,7 +141,7 @@ def check_call_back(program, folder):
         listener.settimeout(10)
         high, low = divmod(listener.getsockname()[1], 256)
         address = f"H {b'b'.hex()} 127.0.0.1.{high}.{low}\n".encode()
-        with Server(program, folder, turns=300, more=address) as server:
+        with started(program, folder, turns=300, more=address) as server:
             holder, waiter = connect(RPC_PORT), connect(RPC_PORT)
             told = []
             for link, procedure, caller in (holder, LOCK, b"a"), (waiter, LOCK, b"b"), (holder, UNLOCK, b"a"):
@@ -221,7 +170,7 @@ def epoch_in(path):
 def start_time(program, folder):
     """How many seconds a start takes until the ports are open and the record is stored."""
     began = time.monotonic()
-    with Server(program, folder):
+    with started(program, folder):
         with connect(SMB_PORT) as link:
             if not negotiates(link):
                 sys.exit("a client of a new server isn't served")
@@ -233,15 +182,16 @@ def check_kills(program, folder, kills):
     most = start_time(program, folder)
     before = epoch_in(path)
     for number in range(kills):
-        server = Server(program, folder)
+        server = started(program, folder)
         time.sleep(random.uniform(0, most))
         server.kill()
+        server.close()
         after = epoch_in(path)
         if after not in (before, before + 1):
             return f"kill {number}: the epoch went from {before} to {after}"
         before = after
         if number % 10 == 9:
-            with Server(program, folder) as whole:
+            with started(program, folder) as whole:
                 with connect(SMB_PORT) as link:
                     if not negotiates(link):
                         return f"kill {number}: the next start doesn't serve"

@@ -15,7 +15,6 @@ those that they were made for, and more of them are nobody's.
 import multiprocessing
 import os
 import select
-import socket
 import subprocess
 import sys
 import tempfile
@@ -23,6 +22,7 @@ import time
 from pathlib import Path
 
 from calls import LOCK, UNLOCK, record
+from links import REPLY, Server, connect, ended, take
 
 sys.path.insert(0, str(Path(__file__).resolve().parent.parent / "tools"))
 from make_capture import MOST_BYTES, Show, write_capture  # noqa: E402
@@ -32,19 +32,12 @@ RPC_PORT, SMB_PORT = 7031, 7032
 EACH, HOSTILE = 500_000, 50
 # Bytes of memory for each byte of a capture, and what a program takes without one.
 MOST, WITHOUT = 8, 32 * 2**20
-DONE, JOURNAL_FULL, REPLY = 0, 7, 36
+DONE, JOURNAL_FULL = 0, 7
 PAIRS, TURNS = 2_000, 30_000
 # Of 16 lanes of each kind one is the honest client's.
 FEEDERS, LINKS = 3, 5
 # The file of the honest client, behind those of the sessions.
 HONEST = FILES
-
-
-def ended(process):
-    """How a program ended: its status, the seconds of the processor, and the most bytes of memory that it held."""
-    _, status, used = os.wait4(process.pid, 0)
-    process.returncode = os.waitstatus_to_exitcode(status)
-    return process.returncode, used.ru_utime + used.ru_stime, used.ru_maxrss * 1024
 
 
 def judged(what, events, size, run, *wanted):
@@ -76,12 +69,6 @@ def check_replays(program, folder, count):
 # ---- clients of a server
 
 
-def connect(port):
-    link = socket.create_connection(("127.0.0.1", port), 5)
-    link.setsockopt(socket.IPPROTO_TCP, socket.TCP_NODELAY, 1)
-    return link
-
-
 class Links:
     """The connections of a session, by their numbers in its capture: of each kind as many as lanes are there for. One more ends the oldest."""
 
@@ -93,7 +80,7 @@ class Links:
         if len(alike) == LINKS:
             self.end(alike[0])
         try:
-            link = connect(RPC_PORT if kind == "rpc" else SMB_PORT)
+            link = connect(RPC_PORT if kind == "rpc" else SMB_PORT, 5)
         except (TimeoutError, ConnectionResetError):
             return
         link.setblocking(False)
@@ -173,17 +160,6 @@ def feed(seed):
         number += 1
 
 
-def take(link, count):
-    """So many bytes of a link; fewer if it is closed, or if none come for ten seconds."""
-    taken = b""
-    while len(taken) < count:
-        piece = link.recv(count - len(taken))
-        if not piece:
-            break
-        taken += piece
-    return taken
-
-
 def honest_pairs(link):
     """Locks and unlocks a range of one's own; how often both were granted, and what went wrong, if something did."""
     pairs = 0
@@ -191,13 +167,11 @@ def honest_pairs(link):
         for procedure in LOCK, UNLOCK:
             try:
                 link.sendall(record(1, procedure, HONEST + 1, 1, 0, 10, caller=b"honest"))
-                reply = take(link, REPLY)
-            except TimeoutError:
-                return pairs, f"an honest client isn't answered for ten seconds, after {pairs:,} pairs"
+                reply = take(link, REPLY, 10)
             except OSError:
                 reply = b""
             if len(reply) != REPLY or reply[-4:] != bytes(4):
-                return pairs, f"an honest client is told {reply.hex()}, after {pairs:,} pairs"
+                return pairs, f"an honest client is told {reply.hex() or 'nothing'} within ten seconds, after {pairs:,} pairs"
         pairs += 1
         time.sleep(0.01)
     link.close()
@@ -208,24 +182,20 @@ def check_server(program, folder, seed):
     """Serves, and replays what was served: how many events these were."""
     lines = []
     World(seed, lines.append, 0, MOST_BYTES).header()
-    # No record is kept from one server to the next, so none begins in grace.
-    path, kept = os.path.join(folder, "served"), os.path.join(folder, f"record{seed.replace('/', '')}")
-    words = [program, "serve", "--rpc", str(RPC_PORT), "--smb", str(SMB_PORT), "--lanes", "16", "--turns", str(TURNS), "--record", kept]
+    path = os.path.join(folder, "served")
     with open(path, "wb") as captured:
-        server = subprocess.Popen(words, stdin=subprocess.PIPE, stdout=captured, stderr=subprocess.PIPE)
-    server.stdin.write(("".join(lines) + f"F f{HONEST + 1}\n").encode())
-    server.stdin.close()
-    server.stderr.readline()
+        server = Server(program, (RPC_PORT, SMB_PORT), ("".join(lines) + f"F f{HONEST + 1}\n").encode(), lanes=16, turns=TURNS, written=captured)
+    server.wait_until_open()
     # It comes first, so that it has a lane.
-    honest = connect(RPC_PORT)
-    honest.settimeout(10)
+    honest = connect(RPC_PORT, 10)
     feeders = [multiprocessing.Process(target=feed, args=(f"{seed}/{number}",), daemon=True) for number in range(FEEDERS)]
     for feeder in feeders:
         feeder.start()
     pairs, wrong = honest_pairs(honest)
     if wrong:
         sys.exit(f"{seed}: {wrong}")
-    run = ended(server)
+    run = ended(server.process)
+    server.close()
     for feeder in feeders:
         feeder.terminate()
     with open(path) as captured:

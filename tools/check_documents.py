@@ -13,6 +13,7 @@ prints a line for each of these that doesn't hold, and nothing if all do; the ex
   characters, and the page has at most 150 lines;
 - docs/DEFINITIONS.md: each definition of a table with files stands in the file that its row names, each definition of this
   repository that the contract of `run` cites is in one of these rows, and the page has at most 160 lines;
+- docs/REFUSALS.md: each row names a crate, public calls there, and clauses that each of them ensures;
 - docs/DECISIONS.md: each decision has an id, none stands twice, the comment of a definition cites each, and each id that a
   comment cites is there;
 - docs/EMBEDDING.md: each piece of Rattle stands so in crates/xl_example, and what it prints is its stdout file;
@@ -104,6 +105,26 @@ def page_faults(text, crates):
     for crate in crates.all:
         if not crate.startswith(TESTS) and "crates/" + crate != EXAMPLE and crates.promises(crate) and crate not in pages:
             yield f"{crate} has no page"
+
+
+def refusal_faults(text, crates):
+    """What is wrong in the rows of docs/REFUSALS.md: crate, calls, what they refuse, clauses."""
+    rows = 0
+    for number, cells in rows_of(text, ["crate", "call"]):
+        rows += 1
+        parts = [names_of(cells[at]) for at in (0, 1, 3)] if len(cells) == 4 else [None]
+        if None in parts or len(parts[0]) != 1:
+            yield f"line {number} is no row: a crate, calls, what they refuse, clauses"
+            continue
+        (crate,), names, clauses = parts
+        for name in names:
+            ensured = crates.ensures(crate, name) if crate in crates.all else None
+            if ensured is None:
+                yield f"line {number}: {crate} has no public function {name}"
+                continue
+            yield from (f"line {number}: {name} of {crate} ensures no clause {clause or 'without a name'}" for clause in clauses if clause not in ensured)
+    if rows == 0:
+        yield "there are no rows"
 
 
 def headline_faults(text, crates):
@@ -228,6 +249,7 @@ def faults(root):
     checks = {
         "README.md": [headline_faults, lambda text, _: cell_faults(text)],
         "docs/PROVED.md": [page_faults],
+        "docs/REFUSALS.md": [refusal_faults],
         "docs/DEFINITIONS.md": [definition_faults, headline_definition_faults],
         "docs/DECISIONS.md": [decision_faults],
         "docs/EMBEDDING.md": [embedding_faults],

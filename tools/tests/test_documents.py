@@ -53,6 +53,12 @@ PAGE = """# The top: `xl_top`
 | a keeper | `Kept::load`, `Keeper::load` | `held`, `later` |
 | others | `Kept::new`, `plain::same` | — |
 """
+REFUSALS = """# Refusals
+
+| crate | call | what it refuses, and what holds then | clause |
+|---|---|---|---|
+| `xl_top` | `run` | nothing | `free` |
+"""
 DEFINITIONS = """# Definitions
 
 | name | file | standard | what it says |
@@ -87,6 +93,10 @@ WRONG = [
     ("README.md", "\n\n## Rest", "\n" * 150 + "## Rest", "README.md: 157 lines are more than 150"),
     ("README.md", "# A", "# A\n\n| a | " + "b" * 101 + " |", "README.md: line 3 has a cell of more than 100 characters"),
     ("README.md", "docs/PROVED.md", "docs/PROOF.md", "README.md: docs/PROOF.md is linked, and isn't there"),
+    ("docs/REFUSALS.md", "`run`", "`hidden`", "docs/REFUSALS.md: line 5: xl_top has no public function hidden"),
+    ("docs/REFUSALS.md", "`free`", "`awful`", "docs/REFUSALS.md: line 5: run of xl_top ensures no clause awful"),
+    ("docs/REFUSALS.md", "`run`", "run", "docs/REFUSALS.md: line 5 is no row: a crate, calls, what they refuse, clauses"),
+    ("docs/REFUSALS.md", "| crate | call", "| crate | calls", "docs/REFUSALS.md: there are no rows"),
     ("docs/DEFINITIONS.md", "`compat`", "`compatible`", "docs/DEFINITIONS.md: line 5: crates/xl_top/specs/Top.antt doesn't define compatible"),
     ("docs/DEFINITIONS.md", "xl_top/Top", "xl_top/Tip", "docs/DEFINITIONS.md: line 5: crates/xl_top/specs/Tip.antt doesn't define compat"),
     ("docs/DEFINITIONS.md", "`compat`, ", "", "docs/DEFINITIONS.md: run cites compat, which is in no row"),
@@ -114,7 +124,7 @@ class Documents(unittest.TestCase):
         with tempfile.TemporaryDirectory() as root:
             for name, text in [
                 ("crates/xl_top/src/lib.rt", SOURCE), ("crates/xl_top/specs/Top.antt", SPECS), ("README.md", README),
-                ("docs/PROVED.md", PROVED), ("docs/proved/xl_top.md", PAGE), ("docs/DEFINITIONS.md", DEFINITIONS), ("docs/DECISIONS.md", DECISIONS),
+                ("docs/PROVED.md", PROVED), ("docs/proved/xl_top.md", PAGE), ("docs/DEFINITIONS.md", DEFINITIONS), ("docs/DECISIONS.md", DECISIONS), ("docs/REFUSALS.md", REFUSALS),
                 ("docs/EMBEDDING.md", EMBEDDING), ("docs/CAPTURE.md", CAPTURE),
                 *((f"examples/first.{ending}", first) for ending, first in FIRST.items()),
                 ("crates/xl_example/src/main.rt", "fn main() {\n    let a = 1;\n}\n"), ("crates/xl_example/stdout", "one\n"),
