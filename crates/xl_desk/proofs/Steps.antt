@@ -13,9 +13,10 @@ use Rattle.atomic_table.specs.Table.{State, step, put_back, stepped, keeps, take
 use Rattle.atomic_table.proofs.Lists.{at_set, at_snoc, set_again, set_else, set_here}
 use Rattle.xl_base.specs.declared.event.Event.{Event}
 use Rattle.xl_base.specs.declared.halt.Halt.{Halt}
+use Rattle.xl_base.specs.declared.halt.Halt.TheVariants as halt
 use Rattle.xl_base.specs.declared.journal.Entry.{Entry}
 use Rattle.xl_desk.specs.declared.view.View.{View}
-use Rattle.xl_desk.specs.Turns.{total, bit, number_of, times, all_shares, AllStand, turn_of, made_of, shares_of, times_of, Fits, opened, with_turn, stopped, without_turn, after_call, halved, half, both, looked, either_halt, spent, Is, OneTurn, Sat, HasInHand, HasTurn, Tells, Began, taken, checked, added, halted, given, seen_more, IsClosed}
+use Rattle.xl_desk.specs.Turns.{total, bit, number_of, times, all_shares, AllStand, turn_of, made_of, shares_of, times_of, Fits, opened, with_turn, stopped, without_turn, stopped_behind, after_call, halved, half, both, looked, either_halt, spent, Is, OneTurn, Sat, HasInHand, HasTurn, Tells, Began, taken, checked, glanced, added, halted, given, seen_more, IsClosed}
 use Rattle.xl_desk.specs.declared.fault.DeskErr.{DeskErr}
 use Rattle.xl_desk.specs.declared.fault.DeskErr.TheVariants.{Halted, Stopped}
 use Rattle.xl_desk.specs.Passes.{IsRooted, IsLawful, IsHalted, IsRefused}
@@ -63,6 +64,17 @@ hears_all None None halt log told one two all = tt
 hears_all None (Some reason) halt log told one two all = (refl, sym all)
 hears_all (Some first) None halt log told one two all = tt
 hears_all (Some first) (Some reason) halt log told one two all = (sym one ∙ two, sym all)
+
+-- a halt has a number, and no halt has none
+number_none : (x : Option Halt) → number_of x ≡ 0 → x ≡ None
+number_none None e = refl
+number_none (Some halt.NoMemory) e = absurd (cc e)
+number_none (Some (halt.JournalFull count)) e = absurd (cc e)
+number_none (Some (halt.StartStore count)) e = absurd (cc e)
+
+number_some : (x : Option Halt) → number_of x ≢ 0 → (reason : Halt) × (x ≡ Some reason)
+number_some None other = absurd (other refl)
+number_some (Some reason) other = (reason, refl)
 
 of_all : (x : Option Halt) (P : Type 0) → P → IfSome x (λ _. P)
 of_all None P p = tt
@@ -255,6 +267,28 @@ module _ {H O : Type 0} (history : H → List Entry) (halt_of : H → Option Hal
         unmoved s r 1 id m.1 v v at refl fits refl refl refl,
         (r.halted ∙ ap number_of (sym (fits.stops turn)), refl),
       )
+
+  pub glances : (n id : ℕ) (m : Sat H O) → Allows Rule n id m 1 (λ n. n) (glanced (step n 1 0 0 none) m)
+  glances n id m s r _ at _ =
+      let v = m.0 in
+      let fits = r.each id v at in
+      dite (ℕ_discrete (word s 1) 0)
+      (λ free. (
+        v,
+        keeps,
+        tt,
+        unmoved s r 1 id m.1 v v at refl fits refl refl refl,
+        ((λ _. (refl, none_seen v.halt r.halt fits.final (number_none r.halt (sym r.halted ∙ free)))), (λ e. absurd (e free))),
+      ))
+      (λ stops.
+      let t = number_some r.halt (λ e. stops (r.halted ∙ e)) in
+      let w : View O = stopped_behind v r.log t.0 in (
+        w,
+        keeps,
+        tt,
+        unmoved s r 1 id m.1 v w at refl record { seen = whole r.log; told = fits.told; whole = λ _. refl; stops = λ _. sym t.1; final = t.1; heard = fits.heard; ends = refl; hears = fits.hears; mine = fits.mine; based = fits.based; spent = fits.spent } refl refl refl,
+        ((λ e. absurd (stops e)), (λ _. (r.log, t.0, refl, fits.seen, subst (λ (z : Option Halt). IfSome v.halt (λ seen. z ≡ Some seen)) t.1 fits.final, some_as v.halt (v.seen ≡ r.log) (r.log ≡ v.seen) (λ e. sym e) fits.ends))),
+      ))
 
   pub halts : (n id : ℕ) (m : Sat H O) (k : ℕ) (reason : Halt) → m.0.turn ≡ true → m.0.halt ≡ None → HasInHand m (λ h. halt_of h ≡ Some reason) → k ≡ number_of (Some reason) → may_halt m.0.seen reason
       → Allows Rule n id m 1 (λ _. k) (λ _. halted halt_of (step n 1 k 0 none) m k)

@@ -92,6 +92,10 @@ module _ {O : Type 0} where
   abbrev pub stopped : View O → Halt → View O
   stopped v halt = record v { halt = Some halt }
 
+  -- the whole journal is seen, and the halt behind it
+  abbrev pub stopped_behind : View O → List Entry → Halt → View O
+  stopped_behind v log halt = record v { seen = log; halt = Some halt }
+
   abbrev pub without_turn : View O → View O
   without_turn v = record v { turn = false }
 
@@ -176,6 +180,12 @@ module _ {H O : Type 0} where
   -- the number is that of the halt in hand
   abbrev pub checked : Step (Option H) → Sat H O → ℕ → Sat H O → Type 0
   checked st m r m' = (r ≡ number_of m.0.halt) × (m' ≡ m)
+
+  -- If the number is 0 the machine isn't halted, and the seat knows no more than before. Otherwise it is halted, and the seat
+  -- sees the whole journal, and why (THREAD-4).
+  abbrev pub glanced : Step (Option H) → Sat H O → ℕ → Sat H O → Type 0
+  glanced st m r m' = (r ≡ 0 → (m' ≡ m) × (m.0.halt ≡ None))
+      × (r ≢ 0 → (log : List Entry) × (reason : Halt) × (m' ≡ (stopped_behind m.0 log reason, m.1)) × IsPrefix m.0.seen log × IfSome m.0.halt (λ seen. Some reason ≡ Some seen) × IfSome m.0.halt (λ _. log ≡ m.0.seen))
 
   -- the machine in hand has one entry more than the seat has seen
   abbrev pub added : (H → List Entry) → Step (Option H) → Sat H O → ℕ → Sat H O → Type 0

@@ -1,5 +1,5 @@
 //! The desk, and its passes.
-ghost use Rattle.std.specs.Prelude.{◌≡◌, ◌≤◌, ◌<◌, ◌+◌, ◌∷◌, [], length, Some, IfOk, IfErr};
+ghost use Rattle.std.specs.Prelude.{◌≡◌, ◌≤◌, ◌<◌, ◌+◌, ◌∷◌, [], length, Some, None, IfOk, IfErr, OnOk, OnErr};
 ghost use Rattle.xl_base.specs.Outs.{outs_to};
 ghost use Rattle.xl_desk.specs.Due.{IsFound, entries_from};
 ghost use Rattle.xl_desk.specs.Passes.{IsCalled, IsRefused, IsLawful, IsLooked, IsJoined};
@@ -7,8 +7,8 @@ ghost use Rattle.xl_desk.specs.Turns.{IsClosed, opened, halved, half, all_shares
 
 use crate::fault::DeskErr;
 use crate::outs::{Due, Found};
-use crate::plays::{Halves, InTurns, See};
-use crate::turn::{Chair, base, enter, give, number, read, search, take};
+use crate::plays::{Glance, Halves, InTurns, See};
+use crate::turn::{Chair, base, enter, give, number, read, refuse, search, take};
 use crate::view::View;
 use atomic_table::{Refused, Seat, Table};
 use std::alloc::{AllocError, Global};
@@ -173,6 +173,27 @@ impl<H: Serial> Desk<H> {
         ensures whole { pass.new.view.shares ≡ all_shares → length pass.new.view.seen ≡ pass.new.view.start + pass.new.view.made }
     {
         self.table.shared.load::<See>(&mut pass.seat, 0)
+    }
+
+    /// Whether the machine runs. It waits for the turn only to tell why the machine is halted, which is a Stopped as for `call`;
+    /// the pass has seen the whole journal then, and no more than before if the machine runs. It takes no memory.
+    pub fn check<R: Wait>(&self, rt: &R, pass: &mut Pass<H>) -> Result<(), DeskErr>
+        requires desk { pass.old.desk ≡ self.now }
+        ensures desk { pass.new.desk ≡ pass.old.desk }
+        ensures runs { OnOk result (pass.new.view.halt ≡ None) }
+        ensures same { OnOk result (pass.new.view ≡ pass.old.view) }
+        ensures lawful { OnErr result (IsLawful H.first H.lawful pass.new.view) }
+        ensures refused { IfErr result (λ e. IsRefused H.may_halt pass.old.view pass.new.view e) }
+    {
+        let top = &self.table.shared;
+        let seat = &mut pass.seat;
+        if top.load::<Glance>(seat, 1) == 0 {
+            return Ok(());
+        }
+        take(rt, top, seat);
+        let why = refuse(top, seat);
+        give(top, seat);
+        Err(why)
     }
 
     /// The first call that is due in the journal, once the turn is free, among its entries from this place on, which is as

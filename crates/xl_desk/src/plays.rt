@@ -1,5 +1,5 @@
 //! The rule of a desk's table, and its steps.
-ghost use Rattle.xl_desk.specs.Turns.{OneTurn, opened, taken, checked, added, halted, given, seen_more, halved, half, both, spent};
+ghost use Rattle.xl_desk.specs.Turns.{OneTurn, opened, taken, checked, glanced, added, halted, given, seen_more, halved, half, both, spent};
 
 use crate::view::View;
 use atomic_table::{Join, Play, Split, TableRule};
@@ -28,6 +28,13 @@ pub(crate) struct Check;
 
 impl<H: Serial> Play<Option<H>, View<H::Origin>> for Check {
     ghost then = { checked };
+}
+
+/// Looks whether the machine is halted, whoever has it.
+pub(crate) struct Glance;
+
+impl<H: Serial> Play<Option<H>, View<H::Origin>> for Glance {
+    ghost then = { glanced };
 }
 
 /// Counts an entry.

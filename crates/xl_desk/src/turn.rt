@@ -150,7 +150,7 @@ fn step<H: Serial>(
 }
 
 /// Why the machine in hand, which is halted, takes no event.
-fn refuse<H: Serial>(top: &Top<H>, seat: &mut Chair<H>) -> DeskErr
+pub(crate) fn refuse<H: Serial>(top: &Top<H>, seat: &mut Chair<H>) -> DeskErr
     requires table { seat.old.table_id ≡ top.now.table_id }
     requires turn { (h : H) × HasTurn H.history H.halt H.origin H.first seat.old.me h }
     requires halted { number_of seat.old.me.0.halt ≢ 0 }

@@ -101,3 +101,12 @@ fn a_full_machine_stops_a_caller(rt: HostRuntime) -> Result<(), Fail> {
     assert!(rt; is_told(&done.caller, &[1, 2]));
     Ok(())
 }
+
+/// A caller with no call due learns that the machine is halted before it idles.
+#[test]
+fn a_halt_stops_an_idle_caller(rt: HostRuntime) -> Result<(), Fail> {
+    let done = serve(&rt, rt.alloc(), &OpenGate, 0, 1_000_000)?;
+    assert_eq!(rt; end_of(done.end), 1_000);
+    assert!(rt; is_told(&done.caller, &[]));
+    Ok(())
+}

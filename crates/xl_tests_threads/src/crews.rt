@@ -273,3 +273,37 @@ fn an_open_link_is_sent_the_rest(rt: HostRuntime) -> Result<(), Fail> {
     assert!(rt; is_link(first.lane.links().first(), b"ab!\0", false, 0, false));
     Ok(())
 }
+
+/// Two lanes with more turns than can be done: to the first comes a peer that is quiet, to the second one that sends two messages.
+fn quiet_and_busy(alloc: Global) -> Result<Crew<MemoryLane, MemoryCaller>, AllocError>
+    ensures { IfOk result (λ crew. (vec_len crew.lanes ≤ 64) × (vec_len crew.callers ≤ 64)) }
+{
+    let quiet = peer(alloc, record(alloc, 99, b"ab")?, record(alloc, 99, b"cd")?)?;
+    let mut lanes = Vec::with_capacity(alloc, 2)?;
+    lanes.push_reserved(lane(alloc, quiet, None, 0)?);
+    lanes.push_reserved(lane(alloc, letters(alloc, b"ef", b"gh")?, None, 0)?);
+    Ok(Crew {
+        lanes,
+        callers: Vec::new(alloc),
+        turns: 1_000_000_000,
+    })
+}
+
+/// A lane whose link is quiet ends once another lane has met a full machine.
+#[test]
+fn a_halt_stops_a_quiet_lane(rt: HostRuntime) -> Result<(), Fail> {
+    let alloc = rt.alloc();
+    let crew = quiet_and_busy(alloc)?;
+    let (desk, pass) = make(alloc, 0, 3)?;
+    let readings = clock(alloc, 0, Vec::new(alloc));
+    let (_, done, _) = serve_all(&rt, alloc, &desk, &OpenGate, pass, crew, readings);
+    let done = done?;
+    let [first, second] = done.lanes.as_slice() else {
+        return Err(Fail::new("two lanes"));
+    };
+    assert_eq!(rt;
+        (end_of(first.end), end_of(second.end)),
+        (1_003u64, 1_003u64)
+    );
+    Ok(())
+}

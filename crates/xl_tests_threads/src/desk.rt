@@ -174,10 +174,14 @@ fn a_halt_is_final(rt: HostRuntime) -> Result<(), Fail> {
     let (desk, mut pass) = make(alloc, 0, 4)?;
     let mut other = desk.split(&mut pass);
     assert_eq!(rt; tick(&rt, alloc, &desk, &mut pass, &[0, 1, 2, 3]), 4);
+    assert!(rt; desk.check(&rt, &mut pass).is_ok());
     let halted = desk.call(&rt, alloc, &mut other, Event::Tick(Moment(4)));
     assert_eq!(rt; told(halted), 104);
     let stopped = desk.call(&rt, alloc, &mut pass, Event::Tick(Moment(5)));
     assert_eq!(rt; told(stopped), 204);
+    let Err(DeskErr::Stopped(Halt::JournalFull(4), 4)) = desk.check(&rt, &mut pass) else {
+        return Err(Fail::new("a halt"));
+    };
     Ok(())
 }
 

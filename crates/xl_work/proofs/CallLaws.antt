@@ -19,6 +19,8 @@ use Rattle.xl_base.specs.declared.journal.Entry.{Entry}
 use Rattle.xl_base.specs.Asking.{Calls, Idles}
 use Rattle.xl_base.specs.Telling.{Follows}
 use Rattle.xl_base.specs.declared.halt.Halt.{Halt}
+use Rattle.xl_base.specs.declared.lane_end.LaneEnd.{LaneEnd}
+use Rattle.xl_base.specs.declared.lane_end.LaneEnd.TheVariants as lane_end
 use Rattle.xl_desk.specs.declared.outs.Due.{Due}
 use Rattle.xl_desk.specs.declared.view.View.{View}
 use Rattle.xl_desk.specs.Passes.{Goes, MadeNone, IsCalled, IsLooked, IsRefused}
@@ -26,7 +28,7 @@ use Rattle.xl_desk.specs.declared.fault.DeskErr.{DeskErr}
 use Rattle.xl_desk.specs.declared.fault.DeskErr.TheVariants.{Halted, Stopped}
 use Rattle.xl_desk.specs.Due.{is_due, due_of, due_in, or_later}
 use Rattle.xl_work.specs.declared.calls.CallerPost.{CallerPost}
-use Rattle.xl_work.specs.Calls.{number, is_of_share, share_of, asked_in, Rises, called, is_called, numbers, answer_of, HasAsked, IsLast, Answers, CallerMade, AreMade, IsOnWay, IsGoing, AllLow, last_or}
+use Rattle.xl_work.specs.Calls.{number, is_of_share, share_of, asked_in, Rises, called, is_called, numbers, answer_of, HasAsked, IsLast, Answers, CallerMade, AreMade, IsOnWay, IsGoing, IsCut, AllLow, last_or}
 
 -- ---- the calls of a share, one behind the other
 
@@ -472,3 +474,11 @@ caller_grows post start first log more told told' calls made =
           (front.0 ++ map number (asked_in share parts more), sym (append_assoc (numbers calls) front.0 (map number (asked_in share parts more))) ∙ ap (λ xs. xs ++ map number (asked_in share parts more)) front.1 ∙ sym (map-append number (asked_in share parts log) (asked_in share parts more)) ∙ ap (map number) (sym both));
       asked = follows_as told told' _ _ made.asked (λ old new a. (a.0, a.1, a.2, last_still log more a.1 a.3, answers_grow post first start log more [] a.0 calls a.4));
     }
+
+-- what is cut off hasn't done all its turns
+pub cut_early : {O : Type 0} (may_halt : List Entry → Halt → Type 0) (v : View O) (end : LaneEnd) (n : ℕ) → IsCut may_halt v end → end ≡ lane_end.Turns n → ⊥
+cut_early may_halt v (lane_end.Turns m) n is same = is
+cut_early may_halt v (lane_end.Stopped reason count) n is same = absurd (cc same)
+cut_early may_halt v lane_end.NoMemory n is same = absurd (cc same)
+cut_early may_halt v lane_end.End n is same = absurd (cc same)
+cut_early may_halt v (lane_end.Failed count) n is same = absurd (cc same)

@@ -8,6 +8,7 @@ use Rattle.xl_base.specs.Telling.{Follows, OnNewest}
 use Rattle.xl_base.specs.declared.event.Kind.{Kind}
 use Rattle.xl_base.specs.declared.event.Event.{Event}
 use Rattle.xl_base.specs.declared.event.Event.TheVariants.{Open}
+use Rattle.xl_base.specs.declared.halt.Halt.{Halt}
 use Rattle.xl_base.specs.declared.journal.Entry.{Entry}
 use Rattle.xl_base.specs.declared.lane.Link.{Link}
 use Rattle.xl_base.specs.declared.lane.ReceiveOutcome.TheVariants as receive
@@ -21,7 +22,7 @@ use Rattle.xl_frame.specs.Cutting.{Cutting, fed, then_piece, unless_bad}
 use Rattle.xl_frame.specs.Frames.{Framed, frames, with_frames}
 use Rattle.xl_work.specs.declared.worker.Conn.{Conn}
 use Rattle.xl_work.specs.declared.worker.Live.{Live}
-use Rattle.xl_work.specs.Lives.{Hand, Nothing, Unopened, messages_in, is_bad, is_whole, is_fine, all_conns, still, steady, IsAt, IsSettled, IsTaken, IsClosing, IsCaught, number_in, IsLive, IsServing, IsLeft, IsLeftOpen, AreLeft, HasPlace, Serves, Carries, Loses, Tally, IsQuiet}
+use Rattle.xl_work.specs.Lives.{Hand, Nothing, Unopened, messages_in, is_bad, is_whole, is_fine, all_conns, still, steady, IsAt, IsSettled, IsTaken, IsClosing, IsCaught, number_in, IsLive, IsServing, IsLeft, IsLeftOpen, AreLeft, HasPlace, Serves, Carries, Loses, Tally, IsQuiet, IsTurnEnd}
 use Rattle.xl_work.proofs.CallLaws.{follows_as, follows_then, goes_self}
 use Rattle.xl_work.proofs.LifeLaws.{live_fed, serving_told, serving_left, serving_next, serving_done, serving_same, serving_opened, serving_over}
 
@@ -215,3 +216,14 @@ serving_begins told v = record {
     none_yet : (told : Option (List Link)) → Follows told told (λ old new. (links : List Link) × (new ≡ links ++ old) × Serves v.first v.seen links [] None Nothing [])
     none_yet None = tt
     none_yet (Some list) = ([], refl, (refl, refl))
+
+-- a turn in which a lane's turns run out is one in which the gate held it back
+pub held_back : {O : Type 0} (may_halt : List Entry → Halt → Type 0) (open_gate : Bool) (turns : ℕ) (v : View O) (before after : Tally) (end : LaneEnd) (n : ℕ) → IsTurnEnd may_halt open_gate turns v before after end → end ≡ lane_end.Turns n → open_gate ≡ false
+held_back may_halt open_gate turns v before after (lane_end.Turns m) n is same = is.1
+held_back may_halt open_gate turns v before after (lane_end.Stopped reason count) n is same = absurd (cc same)
+held_back may_halt open_gate turns v before after lane_end.NoMemory n is same = absurd (cc same)
+held_back may_halt open_gate turns v before after lane_end.End n is same = absurd (cc same)
+held_back may_halt open_gate turns v before after (lane_end.Failed count) n is same = absurd (cc same)
+
+pub part_held : (open_gate : Bool) (end : LaneEnd) (n : ℕ) → is_whole open_gate end ≡ false → end ≡ lane_end.Turns n → open_gate ≡ false
+part_held open_gate end n part is = sym (ap (is_whole open_gate) is) ∙ part

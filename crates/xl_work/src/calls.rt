@@ -1,16 +1,18 @@
 //! Callers: the calls that a journal asks for, made and answered.
-ghost use Rattle.std.specs.Prelude.{◌≡◌, ℕ, ◌<◌, ◌≤◌, ◌+◌, ◌^◌, List, Option, length, OnOk, OnErr, IfErr, IfSome};
+ghost use Rattle.std.specs.Prelude.{◌≡◌, ℕ, ◌<◌, ◌≤◌, ◌+◌, ◌^◌, List, Option, None, true, length, OnOk, OnErr, IfErr, IfSome};
 ghost use Rattle.xl_base.specs.Memory.{counted};
 ghost use Rattle.xl_base.specs.declared.caller.Asked.{Asked as TheAsked};
 ghost use Rattle.xl_base.specs.declared.event.Event.TheVariants.{Called};
+ghost use Rattle.xl_base.specs.declared.lane_end.LaneEnd.TheVariants as lane_end;
 ghost use Rattle.xl_desk.specs.declared.view.View.{View as TheView};
 ghost use Rattle.xl_work.specs.Calls.{AreMade, IsGoing, IsCut, IsEnd, number_of, answer_of};
 
+use crate::lane::end_of;
 use crate::worker::call_number;
 use std::alloc::Global;
 use std::sync::Wait;
 use xl_base::{CallOutcome, Caller, Dest, Event, Gate, LaneEnd, Sequence, Serial};
-use xl_desk::{Desk, DeskErr, Due, Found, Pass};
+use xl_desk::{Desk, Due, Found, Pass};
 
 /// What a caller is given to do.
 #[derive(Clone, Copy, Debug)]
@@ -63,7 +65,7 @@ fn answered(outcome: CallOutcome) -> Option<Option<Sequence<u8>>>
     }
 }
 
-/// One turn that the gate lets pass: the next call, or an idle if none is due. Whether a call was entered.
+/// One turn that the gate lets pass: the next call, or an idle if none is due and the machine runs. Whether a call was entered.
 fn turn<H: Serial, C: Caller, R: Wait>(
     rt: &R,
     alloc: Global,
@@ -81,6 +83,7 @@ fn turn<H: Serial, C: Caller, R: Wait>(
     ensures going { (told : Option (List TheAsked)) (before : TheView H.Origin) → IsGoing post told before (C.told calling.old.caller) pass.old.view calling.old.from calling.old.last → OnOk result (IsGoing post told before (C.told calling.new.caller) pass.new.view calling.new.from calling.new.last) }
     ensures made { (told : Option (List TheAsked)) (before : TheView H.Origin) → IsGoing post told before (C.told calling.old.caller) pass.old.view calling.old.from calling.old.last → OnErr result (AreMade post told before (C.told calling.new.caller) pass.new.view) }
     ensures asked { OnOk result (C.asked calling.new.caller ≡ counted (C.asked calling.old.caller)) }
+    ensures runs { OnOk result (pass.new.view.halt ≡ None) }
     ensures cut { IfErr result (λ end. IsCut H.may_halt pass.new.view end) }
 {
     let due = Due {
@@ -93,6 +96,9 @@ fn turn<H: Serial, C: Caller, R: Wait>(
     };
     let Found { call, at: _, end } = found;
     let Some(call) = call else {
+        if let Err(refused) = desk.check(rt, pass) {
+            return Err(end_of(refused));
+        }
         calling.caller.idle(end);
         calling.from = end;
         return Ok(false);
@@ -109,15 +115,14 @@ fn turn<H: Serial, C: Caller, R: Wait>(
             calling.last = number;
             Ok(true)
         }
-        Err(DeskErr::Halted(reason, count)) => Err(LaneEnd::Stopped(reason, count)),
-        Err(DeskErr::Stopped(reason, count)) => Err(LaneEnd::Stopped(reason, count)),
+        Err(refused) => Err(end_of(refused)),
     }
 }
 
 /// Makes a caller's calls: those that the journal asks for whose number is `share` modulo `of`, in order, each once, from the
 /// journal's first entry on (THREAD-7), in so many turns. A turn is the search for the next call and that call, an idle if
 /// none is due, or a look if the gate doesn't let it pass (THREAD-8). Turns says that all turns are done, Stopped that the
-/// machine is halted, and NoMemory that memory ran out; no other end comes.
+/// machine is halted, also if no call is due (THREAD-12), and NoMemory that memory ran out; no other end comes.
 pub fn serve_calls<H: Serial, G: Gate, C: Caller, R: Wait>(
     rt: &R,
     alloc: Global,
@@ -134,6 +139,8 @@ pub fn serve_calls<H: Serial, G: Gate, C: Caller, R: Wait>(
     ensures desk { pass.new.desk ≡ pass.old.desk }
     ensures made { AreMade post (C.told caller) pass.old.view (C.told result.caller) pass.new.view }
     ensures end { IsEnd H.may_halt (G.is_open gate.now) post.turns pass.new.view (C.asked caller) (C.asked result.caller) result.end }
+    // A caller that isn't held back does all its turns only while the machine runs.
+    ensures runs { G.is_open gate.now ≡ true → 0 < post.turns → (n : ℕ) → result.end ≡ lane_end.Turns n → pass.new.view.halt ≡ None }
 {
     let from = desk.first(rt, pass);
     let mut calling = Calling {

@@ -1,5 +1,5 @@
 //! A link that is served: what it gives is entered, and what the machine sends to it is sent.
-ghost use Rattle.std.specs.Prelude.{◌≡◌, ◌<◌, ◌≤◌, ◌^◌, ℕ, List, Option, Bool, true, option_map, OnOk, IfOk, IfErr};
+ghost use Rattle.std.specs.Prelude.{◌≡◌, ◌<◌, ◌≤◌, ◌^◌, ℕ, List, Option, None, Bool, true, option_map, OnOk, IfOk, IfErr};
 ghost use Rattle.xl_base.specs.declared.event.Event.TheVariants.{Message as TheMessage};
 ghost use Rattle.xl_base.specs.declared.lane.Link.{Link as TheLink};
 ghost use Rattle.xl_base.specs.declared.lane_end.LaneEnd.TheVariants as lane_end;
@@ -96,7 +96,34 @@ pub(crate) fn enter<H: Serial, L: Lane, R: Wait>(
     }
 }
 
-/// How a lane ends whose call was refused.
+/// Whether the machine runs, without a call. If it is halted, the link that is served is caught up before the lane ends.
+pub(crate) fn check<H: Serial, L: Lane, R: Wait>(
+    rt: &R,
+    alloc: Global,
+    desk: &Desk<H>,
+    worker: &mut Worker<H, L>,
+) -> Result<(), LaneEnd>
+    requires desk { worker.old.pass.desk ≡ desk.now }
+    requires place { HasPlace worker.old.pass.view worker.old.live }
+    ensures desk { worker.new.pass.desk ≡ worker.old.pass.desk }
+    ensures place { HasPlace worker.new.pass.view worker.new.live }
+    ensures runs { OnOk result (worker.new.pass.view.halt ≡ None) }
+    ensures same { OnOk result ((worker.new.pass.view ≡ worker.old.pass.view) × (worker.new.lane ≡ worker.old.lane) × (worker.new.live ≡ worker.old.live)) }
+    ensures rest { (worker.new.conns ≡ worker.old.conns) × (worker.new.done ≡ worker.old.done) }
+    ensures quiet { IsQuiet (tally L.asked L.lost L.faults L.ended worker.old.lane) (tally L.asked L.lost L.faults L.ended worker.new.lane) }
+    ensures left { (open_gate : Bool) (told : Option (List TheLink)) (before : TheView H.Origin) (hand : Hand) → IsServing told before (L.told worker.old.lane) worker.old.pass.view worker.old.conns.items worker.old.live hand → IfErr result (λ end. IsLeft open_gate end told before (L.told worker.new.lane) worker.new.pass.view (all_conns worker.new.conns.items worker.new.live) worker.new.live) }
+    ensures cut { IfErr result (λ end. IsCut H.may_halt worker.new.pass.view end) }
+{
+    match desk.check(rt, &mut worker.pass) {
+        Ok(()) => Ok(()),
+        Err(refused) => match catch_up(rt, alloc, desk, worker) {
+            Ok(()) => Err(end_of(refused)),
+            Err(_) => Err(LaneEnd::NoMemory),
+        },
+    }
+}
+
+/// How a lane, or a caller, ends whose call was refused.
 pub(crate) fn end_of(refused: DeskErr) -> LaneEnd
     ensures { result ≡ end_of refused }
 {

@@ -3,12 +3,13 @@ ghost use Rattle.std.specs.Prelude.{◌≡◌, ◌<◌, ◌≤◌, ◌+◌, ◌^
 ghost use Rattle.xl_base.specs.declared.event.Event.TheVariants.{Open as TheOpen, Message as TheMessage, End as TheEnd};
 ghost use Rattle.xl_base.specs.declared.event.Kind.{Kind as TheKind};
 ghost use Rattle.xl_base.specs.declared.lane.Link.{Link as TheLink};
+ghost use Rattle.xl_base.specs.declared.lane_end.LaneEnd.TheVariants as lane_end;
 ghost use Rattle.xl_desk.specs.declared.view.View.{View as TheView};
 ghost use Rattle.xl_work.specs.Lives.{Nothing, IsServing, IsServed, IsLeft, HasPlace, HasRoom, IsCaught, IsSettled, IsEmptied, IsBroken, IsTurnEnd, IsLaneEnd, IsQuiet, HasAsked, tally, all_conns};
 
 use crate::begin::begin;
 use crate::ending::end_link;
-use crate::lane::{catch_up, enter_messages};
+use crate::lane::{catch_up, check, enter_messages};
 use crate::worker::{Conn, LaneDone, LanePost, Live, Worker, is_over, unserved};
 use std::alloc::Global;
 use std::sync::Wait;
@@ -52,7 +53,8 @@ fn finish<H: Serial, G: Gate, L: Lane, R: Wait>(
     Ok(())
 }
 
-/// One turn: a wait, what it gave, and a look at the journal, of which all is sent that goes to the link.
+/// One turn: a wait, what it gave, and a look at the journal, of which all is sent that goes to the link. Another one follows only
+/// while the machine runs (THREAD-12).
 pub(crate) fn turn<H: Serial, G: Gate, L: Lane, R: Wait>(
     rt: &R,
     alloc: Global,
@@ -80,12 +82,14 @@ pub(crate) fn turn<H: Serial, G: Gate, L: Lane, R: Wait>(
     ensures passes { G.is_open gate.now ≡ true → OnOk result (worker.new.done ≡ worker.old.done + 1) }
     ensures room { OnOk result (vec_len worker.new.conns < vec_capacity worker.new.conns) }
     ensures kept { HasRoom (vec_len worker.new.conns) (vec_capacity worker.new.conns) worker.new.live }
+    ensures runs { OnOk result (worker.new.pass.view.halt ≡ None) }
     ensures asked { OnOk result (HasAsked (tally L.asked L.lost L.faults L.ended worker.old.lane) (tally L.asked L.lost L.faults L.ended worker.new.lane)) }
     ensures end { IfErr result (λ end. IsTurnEnd H.may_halt (G.is_open gate.now) post.turns worker.new.pass.view (tally L.asked L.lost L.faults L.ended worker.old.lane) (tally L.asked L.lost L.faults L.ended worker.new.lane) end) }
 {
     begin(rt, alloc, desk, gate, post, worker)?;
     enter_messages(rt, alloc, desk, gate, post, worker)?;
     finish(rt, alloc, desk, gate, post, worker)?;
+    check(rt, alloc, desk, worker)?;
     worker.done += 1;
     Ok(())
 }
@@ -110,6 +114,7 @@ fn serve<H: Serial, G: Gate, L: Lane, R: Wait>(
     ensures kept { HasRoom (vec_len worker.new.conns) (vec_capacity worker.new.conns) worker.new.live }
     ensures served { (told : Option (List TheLink)) (before : TheView H.Origin) → IsServing told before (L.told worker.old.lane) worker.old.pass.view worker.old.conns.items worker.old.live Nothing → IsLeft (G.is_open gate.now) result told before (L.told worker.new.lane) worker.new.pass.view (all_conns worker.new.conns.items worker.new.live) worker.new.live }
     ensures end { IsLaneEnd H.may_halt (G.is_open gate.now) post.turns worker.new.pass.view (tally L.asked L.lost L.faults L.ended worker.old.lane) (tally L.asked L.lost L.faults L.ended worker.new.lane) result }
+    ensures runs { G.is_open gate.now ≡ true → 0 < post.turns → (n : ℕ) → result ≡ lane_end.Turns n → worker.new.pass.view.halt ≡ None }
 {
     'turns: while worker.done < post.turns {
         if let Err(end) = turn(rt, alloc, desk, gate, post, worker) {
@@ -173,6 +178,7 @@ pub(crate) fn leave_lane<H: Serial, G: Gate, L: Lane, R: Wait>(
     ensures desk { result.0.desk ≡ pass.desk }
     ensures left { IsLeft (G.is_open gate.now) result.1.end (L.told lane) pass.view (L.told result.1.lane) result.0.view result.1.conns.items result.1.live }
     ensures end { IsLaneEnd H.may_halt (G.is_open gate.now) post.turns result.0.view (tally L.asked L.lost L.faults L.ended lane) (tally L.asked L.lost L.faults L.ended result.1.lane) result.1.end }
+    ensures runs { G.is_open gate.now ≡ true → 0 < post.turns → (n : ℕ) → result.1.end ≡ lane_end.Turns n → result.0.view.halt ≡ None }
 {
     let Ok(conns) = Vec::with_capacity(alloc, 1) else {
         return (pass, unserved(alloc, lane, LaneEnd::NoMemory));
@@ -213,6 +219,8 @@ pub fn serve_lane<H: Serial, G: Gate, L: Lane, R: Wait>(
     ensures desk { result.0.desk ≡ pass.desk }
     ensures served { IsServed (G.is_open gate.now) result.1.end (L.told lane) pass.view (L.told result.1.lane) result.0.view result.1.conns.items }
     ensures end { IsLaneEnd H.may_halt (G.is_open gate.now) post.turns result.0.view (tally L.asked L.lost L.faults L.ended lane) (tally L.asked L.lost L.faults L.ended result.1.lane) result.1.end }
+    // A lane that isn't held back does all its turns only while the machine runs.
+    ensures runs { G.is_open gate.now ≡ true → 0 < post.turns → (n : ℕ) → result.1.end ≡ lane_end.Turns n → result.0.view.halt ≡ None }
 {
     leave_lane(rt, alloc, desk, gate, pass, post, lane)
 }

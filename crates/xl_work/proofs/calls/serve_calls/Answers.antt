@@ -1,5 +1,5 @@
 use Rattle.std.proofs.Common.{◌∙◌, arith}
-use Rattle.xl_work.proofs.CallLaws.{going_begins, going_looked, going_done, longer}
+use Rattle.xl_work.proofs.CallLaws.{cut_early, going_begins, going_looked, going_done, longer}
 use Rattle.xl_work.proofs.calls.serve_calls.Goals as goal
 
 pub turns-init : goal.turns-init
@@ -8,6 +8,7 @@ turns-init g c = record {
   low = omega (arith, c.first-from.ensures.first);
   high = omega (arith, c.first-from.ensures.first);
   going = going_begins c.args.post (g.C.Caller.told c.args.caller) c.args.pass.now.view c.first-from.new.pass.view c.first-from.result c.first-from.ensures.looked c.first-from.ensures.first;
+  runs = λ _ some. absurd (omega arith);
   asked = λ _ _. omega arith;
 }
 
@@ -22,6 +23,7 @@ turns-preserved-then-not-pass g c =
       low = omega arith;
       high = omega arith;
       going = going_looked c.args.post (g.C.Caller.told c.args.caller) c.args.pass.now.view _ _ _ _ _ c.turns.invariant.going looked;
+      runs = λ open_gate. absurd (cc (c.pass.ensures.open open_gate, c.if-not-pass.true));
       asked = λ open_gate. absurd (cc (c.pass.ensures.open open_gate, c.if-not-pass.true));
     }
 
@@ -30,3 +32,6 @@ returns-in-Err-clause-made g c = c.in-Err.ensures.made (g.C.Caller.told c.args.c
 
 pub returns-clause-made : goal.returns-clause-made
 returns-clause-made g c = going_done c.args.post (g.C.Caller.told c.args.caller) c.args.pass.now.view _ _ _ _ c.turns.invariant.going
+
+pub returns-in-Err-clause-runs : goal.returns-in-Err-clause-runs
+returns-in-Err-clause-runs g c open_gate some n is = absurd (cut_early g.H.Serial.may_halt c.turn.new.pass.view c.in-Err.end n c.in-Err.ensures.cut is)

@@ -22,6 +22,7 @@ turns-init g c =
       serving = λ told before s. s;
       asked = λ _ _. omega (arith, c.requires.idle.1);
       lost = refl;
+      runs = λ some. absurd (omega (arith, c.requires.idle.1));
       later = omega arith;
       ticking = subst (λ (z : Ticks × ℕ). IsTicking (g.G.Gate.is_open c.args.gate.now) z.0 z.1 (g.T.Clock.told c.args.clock.now) c.args.timed.now.pass.view (g.T.Clock.told c.args.clock.now) c.args.timed.now.pass.view) (λ i. (sym c.requires.idle.2 i, sym c.requires.idle.1 i)) (ticking_begins (g.T.Clock.told c.args.clock.now) c.args.timed.now.pass.view (g.G.Gate.is_open c.args.gate.now));
     }
@@ -53,7 +54,11 @@ turns-preserved g c =
       serving = λ links since s. e.serving links since (inv.serving links since s);
       asked = λ is. subst (λ n. RoseBy n (g.L.Lane.asked c.args.timed.now.worker.lane) (g.L.Lane.asked c.timed_turn.new.timed.worker.lane)) (sym (e.passes is)) (rose_more c.turns.timed.worker.done (g.L.Lane.asked c.args.timed.now.worker.lane) (g.L.Lane.asked c.turns.timed.worker.lane) (g.L.Lane.asked c.timed_turn.new.timed.worker.lane) (inv.asked is) e.asked.asked);
       lost = e.asked.lost ∙ inv.lost;
+      runs = λ _. e.runs;
       later = (let one = inv.later in let two = e.asked.later in omega arith);
       ticking = ticking_done told before open_gate c.timed_turn.new.timed.ticks (c.turns.timed.worker.done + 1) c.timed_turn.new.timed.worker.done (g.T.Clock.told c.now-reading.new.self) c.timed_turn.new.timed.pass.view
           (e.ticking open_gate c.turns.timed.worker.done told (g.T.Clock.told c.turns.clock) (g.T.Clock.told c.now-reading.new.self) before inv.ticking c.now-reading.ensures.told) (λ is. sym (e.passes is));
     }
+
+pub returns-in-Err-clause-runs : goal.returns-in-Err-clause-runs
+returns-in-Err-clause-runs g c open_gate some n is = absurd (cc (open_gate, c.in-Err.ensures.held n is))
