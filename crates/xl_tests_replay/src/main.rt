@@ -7,18 +7,13 @@
 //! in `scenarios/`.
 #![tactic(auto)]
 
-ghost use Rattle.std.specs.Prelude.{◌≡◌, vec_len};
-
 use std::alloc::{AllocError, Global};
 use std::io::{self, Write};
 use std::process::ExitCode;
 use std::sync::Wait;
 use std::thread::Threads;
-use xl_base::{
-    MemoryCaller, MemoryClock, MemoryKeeper, MemoryLane, MemorySink, MemorySource, Moment, Record,
-    Source,
-};
-use xl_top::{Outside, run};
+use xl_base::{MemorySink, MemorySource};
+use xl_tests_served::ended;
 
 /// A program's words, which of its reads and writes fail, and what it reads.
 #[derive(Drop)]
@@ -57,30 +52,6 @@ fn words_of(alloc: Global, text: &str) -> Result<Vec<String>, AllocError> {
         words.push(String::from_str(alloc, word)?)?;
     }
     Ok(words)
-}
-
-/// A keeper in memory, and no lanes and callers.
-fn nobody(alloc: Global) -> Outside<MemoryKeeper, MemoryLane, MemoryCaller, MemoryClock>
-    ensures { (vec_len result.lanes ≡ 0) × (vec_len result.callers ≡ 0) }
-{
-    Outside {
-        keeper: MemoryKeeper::new(alloc, Record::new(alloc), Vec::new(alloc)),
-        lanes: Vec::new(alloc),
-        callers: Vec::new(alloc),
-        clock: MemoryClock::new(alloc, Moment(0), Vec::new(alloc)),
-    }
-}
-
-/// The status of a run, the number of the line, and how many entries its journal has.
-fn ended<I: Source, R: Threads + Wait + Sync>(
-    rt: &R,
-    alloc: Global,
-    words: &[String],
-    source: &mut I,
-    sink: &mut MemorySink,
-) -> (u8, u64, usize) {
-    let done = run(rt, alloc, words, source, sink, nobody(alloc));
-    (done.status, done.line, done.journal.entries.len())
 }
 
 /// What is told of a case.

@@ -2,7 +2,7 @@
 //! `tools/capture_from_words.py` has them.
 ghost use Rattle.std.specs.Prelude.{◌≡◌};
 
-use super::house::exports;
+use crate::exports::exports;
 use std::alloc::Global;
 use std::collections::VecDeque;
 use std::sync::Wait;
@@ -209,10 +209,7 @@ fn leaves<R: Wait>(rt: &R, alloc: Global, answer: &str, claims: usize) -> Result
 }
 
 /// Whether a call that fails is over without an answer, and its client keeps the lock.
-pub(super) fn keeps_what_a_failed_call_tells_of<R: Wait>(
-    rt: &R,
-    alloc: Global,
-) -> Result<bool, Fail> {
+pub fn keeps_what_a_failed_call_tells_of<R: Wait>(rt: &R, alloc: Global) -> Result<bool, Fail> {
     leaves(rt, alloc, FAILS, 1)
 }
 

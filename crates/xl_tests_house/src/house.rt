@@ -1,31 +1,12 @@
 //! The house: how it starts and ends.
 
+use crate::exports::exports;
 use std::alloc::{AllocError, Global};
 use std::test::Fail;
-use xl_base::{Event, Exports, Halt, Journal, Kind, MemoryKeeper, Moment, Record, Sequence};
-use xl_capture::{Capture, CaptureError, read_capture, transcript};
+use xl_base::{Event, Halt, Journal, Kind, MemoryKeeper, Moment, Record, Sequence};
+use xl_capture::transcript;
 use xl_house::{Ended, House};
 use xl_names::Names;
-
-/// What the header lines of a capture say.
-pub(super) fn exports(alloc: Global, header: &[u8]) -> Result<Exports, CaptureError> {
-    let Capture {
-        files,
-        addresses,
-        lease,
-        grace,
-        break_time,
-        stable: _,
-        steps: _,
-    } = read_capture(alloc, header)?;
-    Ok(Exports {
-        files,
-        addresses: addresses.into_sequence(),
-        lease,
-        grace,
-        break_time,
-    })
-}
 
 /// A house whose keeper holds epoch 7, and of whose calls this one fails.
 fn start(
@@ -41,7 +22,7 @@ fn start(
 }
 
 /// What is sent for bytes that come by connection 0; nothing if the house halts.
-pub(super) fn told(
+pub(crate) fn told(
     alloc: Global,
     house: &mut House<MemoryKeeper>,
     bytes: Sequence<u8>,

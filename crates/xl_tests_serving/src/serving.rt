@@ -1,7 +1,6 @@
 //! `serve` over lanes, a keeper and a clock in memory: what is written, what is handed back, and what a failure of each comes to.
 ghost use Rattle.std.specs.Prelude.{◌≡◌, IfOk, vec_len};
 
-use super::{nobody, replayed};
 use std::alloc::Global;
 use std::collections::VecDeque;
 use std::sync::Wait;
@@ -11,17 +10,18 @@ use xl_base::{
     Kind, LaneEnd, MemoryCaller, MemoryClock, MemoryKeeper, MemoryLane, MemorySink, MemorySource,
     Moment, Part, Peer, Record, Sequence,
 };
+use xl_tests_served::{nobody, replayed};
 use xl_top::{Done, Outside, run};
 
 /// What a link gives: a lock, and behind its reply the unlock, as `tools/capture_from_words.py` has them.
-pub(super) const LOCK: &str =
+pub(crate) const LOCK: &str =
     "80000068000000010000000000000002000186b5000000040000000200000000000000000000000000000000000000000000000000000001000000016100000000000008584c4b310000000100000000000000070000000000000000000000000000000a0000000000000000";
 
-pub(super) const UNLOCK: &str =
+pub(crate) const UNLOCK: &str =
     "80000058000000020000000000000002000186b500000004000000040000000000000000000000000000000000000000000000016100000000000008584c4b310000000100000000000000070000000000000000000000000000000a";
 
 /// What is written of a lane with this link: the header, and a line for each event.
-pub(super) const HEADER: &str = "F a.txt\nL 90000 90000 35000\nK 0\n";
+pub(crate) const HEADER: &str = "F a.txt\nL 90000 90000 35000\nK 0\n";
 
 /// What a replay of that answers.
 const REPLAY: &str = "0 0 4\n\
@@ -30,14 +30,14 @@ const REPLAY: &str = "0 0 4\n\
 
 /// How many clients come, and which calls of each part of the outside fail: numbers from 1, 0 for none.
 #[derive(Clone, Copy)]
-pub(super) struct Faults {
+pub(crate) struct Faults {
     pub peers: u64,
     pub keeper: u64,
     pub lane: u64,
     pub sink: u64,
 }
 
-pub(super) const NONE: Faults = Faults {
+pub(crate) const NONE: Faults = Faults {
     peers: 1,
     keeper: 0,
     lane: 0,
@@ -88,13 +88,13 @@ fn outside(
 
 /// How a run of `serve` ended, and what it wrote.
 #[derive(Drop)]
-pub(super) struct Ran {
+pub(crate) struct Ran {
     pub done: Done<MemoryKeeper, MemoryLane, MemoryCaller, MemoryClock>,
     pub written: Vec<u8>,
 }
 
 /// The words of `serve`, with 1,000 turns.
-pub(super) fn serve_words(alloc: Global) -> Result<Vec<String>, Fail> {
+pub(crate) fn serve_words(alloc: Global) -> Result<Vec<String>, Fail> {
     let mut words = Vec::new(alloc);
     for word in "xlockd serve --rpc 1 --smb 2 --record r --turns 1000".split(' ') {
         words.push(String::from_str(alloc, word)?)?;
@@ -103,7 +103,7 @@ pub(super) fn serve_words(alloc: Global) -> Result<Vec<String>, Fail> {
 }
 
 /// Runs `serve` over one lane.
-pub(super) fn run_serve<R: Threads + Wait + Sync>(
+pub(crate) fn run_serve<R: Threads + Wait + Sync>(
     rt: &R,
     alloc: Global,
     exports: &str,
@@ -121,7 +121,7 @@ pub(super) fn run_serve<R: Threads + Wait + Sync>(
 }
 
 /// The events of a link that gave so many of its records, behind the opening. The lock's caller is recorded, which is one store.
-pub(super) fn lines(alloc: Global, between: &str, records: usize) -> Result<String, Fail> {
+pub(crate) fn lines(alloc: Global, between: &str, records: usize) -> Result<String, Fail> {
     let mut text = format!(in alloc; "{HEADER}O rpc !0\n{between}")?;
     for (record, stores) in [(LOCK, 1), (UNLOCK, 0)].iter().take(records) {
         let line = format!(in alloc; "B 0 {record} !{stores}\n")?;
@@ -149,7 +149,7 @@ fn told(alloc: Global, ran: &Ran) -> Result<String, Fail> {
 }
 
 /// Whether a run ended so, and wrote this.
-pub(super) fn is_so(alloc: Global, ran: &Ran, ended: &str, written: &str) -> Result<bool, Fail> {
+pub(crate) fn is_so(alloc: Global, ran: &Ran, ended: &str, written: &str) -> Result<bool, Fail> {
     let told = told(alloc, ran)?;
     Ok(told.as_str() == ended && ran.written.as_slice() == written.as_bytes())
 }

@@ -1,6 +1,6 @@
 //! Who waits for the end of grace.
 
-use super::wrong_case;
+use crate::replays::wrong_case;
 use std::test::Fail;
 
 const MOST_WHO_WAIT: &str = "\

@@ -2,7 +2,7 @@
 
 ghost use Rattle.std.specs.Prelude.{None};
 
-use super::{replayed, wrong_case};
+use crate::replays::{replayed, wrong_case};
 use std::alloc::{AllocError, Global};
 use std::sync::Wait;
 use std::test::Fail;

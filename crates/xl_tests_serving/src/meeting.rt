@@ -2,8 +2,7 @@
 //! frames are in hex. Above each are its words, as `tools/capture_from_words.py` has them.
 ghost use Rattle.std.specs.Prelude.{◌≡◌, ◌≤◌, ◌||◌, IfOk, None, length, vec_len};
 
-use super::nobody;
-use super::serving::serve_words;
+use crate::serving::serve_words;
 use std::alloc::Global;
 use std::collections::VecDeque;
 use std::sync::Wait;
@@ -15,6 +14,7 @@ use xl_base::{
     Kind, Lane, LaneEnd, MemoryCaller, MemoryClock, MemoryKeeper, MemoryLane, MemorySink,
     MemorySource, NextOutcome, Part, Peer, ReceiveOutcome, Sequence, WriteOutcome,
 };
+use xl_tests_served::nobody;
 use xl_top::{Done, Outside, run};
 use xl_work::LaneDone;
 

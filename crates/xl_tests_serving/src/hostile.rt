@@ -1,13 +1,13 @@
 //! Hostile use in one table: what is outside fails, and peers send what is no message, or one that says more than it has.
 
-use super::lanes::keeps_what_a_failed_call_tells_of;
-use super::serving::{Faults, HEADER, LOCK, NONE, Ran, UNLOCK, is_so, lines, run_serve};
-use super::{ended, is_answered};
+use crate::serving::{Faults, HEADER, LOCK, NONE, Ran, UNLOCK, is_so, lines, run_serve};
 use std::alloc::Global;
 use std::sync::Wait;
 use std::test::Fail;
 use std::thread::Threads;
 use xl_base::{MemorySink, MemorySource};
+use xl_tests_house::keeps_what_a_failed_call_tells_of;
+use xl_tests_served::{ended, is_answered};
 
 /// What is tried, and what has to come of it.
 enum Case {
@@ -23,7 +23,7 @@ enum Case {
     Sending,
     /// A call to a client fails.
     Calling,
-    /// A capture and what its replay answers, as in `served`.
+    /// A capture and what its replay answers, as `is_answered` has them.
     Replay(&'static str),
 }
 

@@ -1,6 +1,6 @@
 //! Shares of two protocols on one file, of all accesses and denies, whichever comes first.
 
-use super::is_answered;
+use crate::replays::is_answered;
 use std::alloc::{AllocError, Global};
 use std::test::Fail;
 

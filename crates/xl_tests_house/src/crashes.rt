@@ -1,7 +1,8 @@
 //! Crashes. A house is let go in the midst of an entry: what the entry would have done is lost, except for its first stores. One that
 //! starts on the record that these left has each client reclaim what it held at the free moment before, and lets it in.
 
-use super::house::{exports, told};
+use crate::exports::exports;
+use crate::house::told;
 use std::alloc::Global;
 use std::test::Fail;
 use xl_base::{Event, Kind, MemoryKeeper, Moment, Record, Sequence};

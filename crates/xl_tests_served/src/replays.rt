@@ -1,5 +1,4 @@
-//! Captures that are built in loops, with what their replays answer; how a house starts, and starts again after a crash, and a lane and a caller over one;
-//! what is read of a capture, and what a transcript says.
+//! Replays of captures by `run`, and what they answer.
 //!
 //! The cases of a text are parted by lines of two hyphens. Each is a capture, a line `=>`, and what a replay answers: its
 //! status, the number of the line and how many entries its journal has, and behind them the transcript. A line
@@ -8,18 +7,6 @@
 //! each message stand its words, as `tools/capture_from_words.py` has them.
 
 ghost use Rattle.std.specs.Prelude.{◌≡◌, vec_len};
-
-mod captures;
-mod crashes;
-mod grace;
-mod hostile;
-mod house;
-mod lanes;
-mod limits;
-mod meeting;
-mod serving;
-mod sharing;
-mod transcripts;
 
 use std::alloc::{AllocError, Global};
 use std::fmt::Write;
@@ -32,7 +19,7 @@ use xl_base::{
 use xl_top::{Outside, run};
 
 /// A keeper in memory, and no lanes and callers.
-fn nobody(alloc: Global) -> Outside<MemoryKeeper, MemoryLane, MemoryCaller, MemoryClock>
+pub fn nobody(alloc: Global) -> Outside<MemoryKeeper, MemoryLane, MemoryCaller, MemoryClock>
     ensures { (vec_len result.lanes ≡ 0) × (vec_len result.callers ≡ 0) }
 {
     Outside {
@@ -44,7 +31,7 @@ fn nobody(alloc: Global) -> Outside<MemoryKeeper, MemoryLane, MemoryCaller, Memo
 }
 
 /// The status of a replay, the number of the line, and how many entries its journal has.
-fn ended<I: Source, R: Threads + Wait + Sync>(
+pub fn ended<I: Source, R: Threads + Wait + Sync>(
     rt: &R,
     alloc: Global,
     words: &[String],
@@ -56,7 +43,7 @@ fn ended<I: Source, R: Threads + Wait + Sync>(
 }
 
 /// What a replay of this source answers.
-fn replayed<I: Source, R: Threads + Wait + Sync>(
+pub fn replayed<I: Source, R: Threads + Wait + Sync>(
     rt: &R,
     alloc: Global,
     source: &mut I,
@@ -121,7 +108,7 @@ fn in_full(alloc: Global, lines: &str) -> Result<String, AllocError> {
 }
 
 /// Whether the capture before a case's arrow is answered by the text behind it.
-fn is_answered<R: Threads + Wait + Sync>(
+pub fn is_answered<R: Threads + Wait + Sync>(
     rt: &R,
     alloc: Global,
     case: &str,
@@ -136,7 +123,7 @@ fn is_answered<R: Threads + Wait + Sync>(
 }
 
 /// The first case that is answered otherwise than it says; nothing if there is none.
-fn wrong_case<'a, R: Threads + Wait + Sync>(
+pub fn wrong_case<'a, R: Threads + Wait + Sync>(
     rt: &R,
     alloc: Global,
     cases: &'a str,
