@@ -1,14 +1,3 @@
-pub mod CallLaws
-pub mod CountLaws
-pub mod DrawnLaws
-pub mod EnterLaws
-pub mod GroupLaws
 pub mod JobLaws
-pub mod MadeLaws
 pub mod ReadLaws
-pub mod ReplayLaws
 pub mod ServeLaws
-pub mod StepLaws
-pub mod SumLaws
-pub mod WordLaws
-pub mod WriteLaws

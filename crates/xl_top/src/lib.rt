@@ -1,14 +1,8 @@
 //! The program's top call.
 #![tactic(auto)]
 
-mod make;
-mod replay;
-mod replayer;
-mod serve;
-mod start;
-mod step;
 mod top;
-mod words;
 
-pub use top::{Done, Outside, run};
-pub use words::{Job, ParseError, Serving, parse, record_path};
+pub use top::run;
+pub use xl_serve::{Done, Outside};
+pub use xl_words::{Job, ParseError, Serving, parse, record_path};

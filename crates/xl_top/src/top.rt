@@ -1,14 +1,18 @@
 //! The program's top call.
-ghost use Rattle.std.specs.Prelude.{◌≡◌, ◌≢◌, ℕ, ◌+◌, ◌<◌, ◌≤◌, ◌^◌, [], ◌∷◌, ◌++◌, length, take, map, true, false, List, Option, Some, None, Ok, Err, OnOk, OnErr, IfOk, IfErr, IfSome, ◌↔◌, string_bytes, codes, bytes_eq, vec_len};
-ghost use Rattle.std.specs.Result.{result_ok};
+ghost use Rattle.std.specs.Prelude.{◌≡◌, ◌≢◌, ℕ, ◌+◌, ◌<◌, ◌≤◌, [], ◌++◌, length, map, true, false, List, Option, Some, None, Ok, Err, OnOk, IfOk, IfErr, IfSome, string_bytes, vec_len};
 ghost use Rattle.xl_base.specs.Outside.{Rose, Took, Ended, Added, Began};
-ghost use Rattle.xl_capture.specs.Capture.{captured, most_bytes};
+ghost use Rattle.xl_base.specs.Results.{GivesUnless};
+ghost use Rattle.xl_work.specs.Crews.{tells_caller, tells_lane};
+ghost use Rattle.xl_capture.specs.Capture.{captured, most_bytes, bad_line};
+ghost use Rattle.xl_capture.specs.Show.{shown};
+ghost use Rattle.xl_capture.specs.Summary.{granted, denied};
+ghost use Rattle.xl_capture.specs.Written.{capture_of};
+ghost use Rattle.xl_reclaims.specs.Truthful.{Before, WereHeld};
 ghost use Rattle.xl_house.specs.Lawful.{Always, IsLawful, IsWaiting, IsKept, IsComplete, IsCaused, IsTold};
 ghost use Rattle.xl_house.specs.Awaited.{IsServed};
 ghost use Rattle.xl_house.specs.Fitting.{IsFitting};
 ghost use Rattle.xl_house.specs.Recording.{IsAdmitting, IsRecording};
 ghost use Rattle.xl_house.specs.Truthful.{AlwaysCut, Happening, happened, NeverCollide};
-ghost use Rattle.xl_reclaims.specs.Truthful.{Before, WereHeld};
 ghost use Rattle.xl_house.specs.Steady.{IsSteady};
 ghost use Rattle.xl_house.specs.Entries.{IsWishing, IsBreaking, IsKeeping, IsPartied};
 ghost use Rattle.xl_house.specs.Owed.{IsOwed};
@@ -17,88 +21,34 @@ ghost use Rattle.xl_house.specs.Notified.{IsNotified};
 ghost use Rattle.xl_house.specs.Asking.{IsAsking};
 ghost use Rattle.xl_house.specs.Meant.{IsMeant};
 ghost use Rattle.xl_house.specs.Free.{AlwaysFree};
-ghost use Rattle.xl_house.specs.Housed.{Holds, Housed, is_spoiled};
+ghost use Rattle.xl_house.specs.Housed.{Holds};
 ghost use Rattle.xl_house.specs.Starts.{IsLoaded};
 ghost use Rattle.xl_house.specs.Journals.{replay, IsLegal, IsOrderly, entries_of, most_entries};
 ghost use Rattle.xl_house.specs.State.{start_of};
-ghost use Rattle.xl_top.specs.Job.{is_status, is_stepped, is_read, is_replay, is_housed, is_shown, is_show, is_made, is_idle, AddsShown, BeginsShown, capped, head_of, journal_of, no_journal, IsReplayed, IsBegun, BeginsAs, IsCutAt, IsUnstartedAt, FailsBefore, is_done, is_failed, is_full, outs_transcript, transcript_from, whole_transcript};
-ghost use Rattle.xl_capture.specs.Show.{shown};
-ghost use Rattle.xl_capture.specs.Summary.{granted, denied};
-ghost use Rattle.xl_capture.specs.Transcript.{entry_lines, transcript};
-ghost use Rattle.xl_top.specs.Made.{IsMadePart, made_journal, summary_from, whole_summary};
-ghost use Rattle.xl_base.specs.Results.{GivesUnless};
-ghost use Rattle.xl_capture.specs.Capture.{bad_line};
-ghost use Rattle.xl_capture.specs.Written.{capture_of};
-ghost use Rattle.xl_work.specs.Crews.{tells_caller, tells_lane};
-ghost use Rattle.xl_top.specs.declared.words.Serving.{Serving as TheServing};
-ghost use Rattle.xl_top.specs.Replays.{pairs_in};
-ghost use Rattle.xl_top.specs.Serve.{AreIdle, HasRoom, IsServedBy, exported, is_exported, is_refused, is_serve, is_served, is_unstarted, is_unstored};
-ghost use Rattle.xl_top.specs.Words.{job, HasFit, is_reader, is_server, most_made};
+ghost use Rattle.xl_jobs.specs.Jobs.{no_journal};
+ghost use Rattle.xl_words.specs.declared.words.Serving.{Serving as TheServing};
+ghost use Rattle.xl_words.specs.Words.{job, HasFit, is_reader, is_server};
+ghost use Rattle.xl_replay.specs.Captures.{IsReplayed, IsBegun, IsCutAt, IsUnstartedAt, FailsBefore, outs_transcript, whole_transcript};
+ghost use Rattle.xl_replay.specs.Replays.{pairs_in};
+ghost use Rattle.xl_serve.specs.Serve.{AreIdle, HasRoom, IsServedBy, is_served};
+ghost use Rattle.xl_make.specs.Made.{is_made, IsMadePart, made_journal, whole_summary};
+ghost use Rattle.xl_top.specs.Job.{is_status, is_read, is_replay, is_shown, is_show, is_idle, AddsShown, BeginsShown, capped, exported, is_exported, is_refused, is_serve};
 
-use crate::make::made_house;
-use crate::replay::replay;
-use crate::serve::{idle_lanes, serve};
-use crate::start::exports_with;
-use crate::words::{Job, ParseError, Serving, parse};
 use std::alloc::{AllocError, AllocFailed, Global};
 use std::sync::Wait;
 use std::thread::Threads;
-use xl_base::{
-    BudgetKeeper, Caller, Clock, Exports, Halt, Head, Journal, Keeper, Lane, Moment, ReadOutcome,
-    Record, Sequence, Sink, Source, WriteOutcome,
-};
-use xl_capture::{
-    Capture, CaptureError, MOST_BYTES, read_capture, read_header, show_text, summary,
-};
-use xl_house::House;
+use xl_base::{Caller, Clock, Exports, Keeper, Lane, ReadOutcome, Sink, Source, WriteOutcome};
+use xl_capture::{Capture, CaptureError, MOST_BYTES, read_capture, read_header, show_text};
+use xl_jobs::{Report, idle};
+use xl_make::make;
+use xl_replay::replay;
+use xl_serve::{Done, Outside, idle_lanes, serve};
+use xl_words::{Job, ParseError, Serving, parse};
 use xl_work::LaneDone;
-
-/// How a job ended.
-#[derive(Drop)]
-pub(crate) struct Report {
-    /// As of `Done`.
-    pub status: u8,
-    pub line: u64,
-    pub journal: Journal,
-}
-
-/// What a served machine has of the outside: the keeper of its record, the lanes of its clients, and who calls them.
-#[derive(Drop)]
-pub struct Outside<K, L, C, T> {
-    /// Where the record is kept.
-    pub keeper: K,
-    /// Where connections come from, 64 lanes at most. The first has the clock.
-    pub lanes: Vec<L>,
-    /// Who makes the calls, 64 callers at most.
-    pub callers: Vec<C>,
-    /// The clock, which the first lane reads.
-    pub clock: T,
-}
-
-/// How a run ended, and what it hands back (SERVE-1).
-#[derive(Drop)]
-pub struct Done<K, L, C, T> {
-    /// 0: the job was done to the end of the input. 1: the words ask for no job. 2: the source failed. 3: the sink
-    /// failed. 4: a line isn't in its grammar. 5: a start failed, since the record could not be loaded or stored. 6: memory ran out. 7:
-    /// an event met a full journal.
-    pub status: u8,
-    /// At status 4 the number of the first such line, counted from 1; else 0.
-    pub line: u64,
-    /// The events that were stepped, each with what was sent for it.
-    pub journal: Journal,
-    /// The keeper.
-    pub keeper: K,
-    /// The lanes, with what became of them. They may be missing at status 6 alone.
-    pub lanes: Vec<LaneDone<L>>,
-    /// The callers. They may be missing at status 6 alone.
-    pub callers: Vec<C>,
-    /// The clock.
-    pub clock: T,
-}
 
 /// Why an input was not read.
 #[derive(Clone, Copy)]
-pub(crate) enum Unread {
+enum Unread {
     NoMemory,
     Failed,
 }
@@ -139,7 +89,7 @@ fn read_more<I: Source>(
 }
 
 /// Reads the input to its end, or one byte past the most that a capture has.
-pub(crate) fn read_all<I: Source>(alloc: Global, input: &mut I) -> Result<Vec<u8>, Unread>
+fn read_all<I: Source>(alloc: Global, input: &mut I) -> Result<Vec<u8>, Unread>
     ensures took { IfOk result (λ v. Took (I.left input.old) v.items (I.left input.new)) }
     ensures most { IfOk result (λ v. length v.items ≤ most_bytes + 1) }
     ensures ended { IfOk result (λ v. length v.items ≤ most_bytes → Ended (I.left input.new)) }
@@ -157,46 +107,6 @@ pub(crate) fn read_all<I: Source>(alloc: Global, input: &mut I) -> Result<Vec<u8
         }
     }
     Ok(text)
-}
-
-/// What became of the output.
-#[derive(Clone, Copy)]
-pub(crate) enum Written {
-    All,
-    Failed,
-    NoMemory,
-}
-
-/// The journal of a house that steps no more.
-pub(crate) fn journal_in(house: House<BudgetKeeper>) -> Journal
-    ensures journal { (result.head ≡ house.head) × (result.entries ≡ house.entries) }
-    ensures legal { IsLegal (start_of result.head) result.entries }
-    ensures served { Always IsServed (start_of result.head) result.entries }
-    ensures orderly { IsOrderly [] 0 result.entries }
-    ensures most { length result.entries ≤ most_entries }
-{
-    let (journal, _) = house.end();
-    journal
-}
-
-/// The ending of a run that stepped nothing.
-pub(crate) fn idle(alloc: Global, status: u8, line: u64) -> Report
-    ensures { result ≡ record { status = status; line = line; journal = no_journal } }
-{
-    let record = Record::new(alloc);
-    let head = Head {
-        exports: exports_with(Sequence::new(alloc), Sequence::new(alloc)),
-        start: Moment(0),
-        record,
-    };
-    Report {
-        status,
-        line,
-        journal: Journal {
-            head,
-            entries: Sequence::new(alloc),
-        },
-    }
 }
 
 /// Replays the capture that a text is, and writes its transcript.
@@ -315,81 +225,6 @@ fn show_input<I: Source, O: Sink>(alloc: Global, input: &mut I, out: &mut O) -> 
         Err(Unread::NoMemory) => return idle(alloc, 6, 0),
     };
     show_given(alloc, &text, out)
-}
-
-/// Writes the summary of a house's journal.
-#[tactic(auto, using(crate::proofs::WriteLaws::began_none, crate::proofs::WriteLaws::began_all))]
-fn write_summary<O: Sink>(alloc: Global, house: &House<BudgetKeeper>, out: &mut O) -> Written
-    requires { is_spoiled house.now.halt ≡ false }
-    ensures all { result ≡ Written.All → Added (O.held out.old) (summary_from house.now.head house.now.entries) (O.held out.new) }
-    ensures began { Began (O.held out.old) (summary_from house.now.head house.now.entries) (O.held out.new) }
-    ensures failed { result ≡ Written.Failed → Rose (O.faults out.old) (O.faults out.new) }
-    ensures still { result ≢ Written.Failed → O.faults out.new ≡ O.faults out.old }
-{
-    let Ok(claims) = house.dump(alloc) else {
-        return Written::NoMemory;
-    };
-    let Ok(text) = summary(alloc, house.outs_from(0), &claims) else {
-        return Written::NoMemory;
-    };
-    match out.write(&text) {
-        WriteOutcome::Wrote => Written::All,
-        WriteOutcome::Failed => Written::Failed,
-    }
-}
-
-/// Writes the summary of a house that stepped all its calls, and gives the status.
-#[tactic(auto, using(crate::proofs::WriteLaws::began_none))]
-fn write_made<O: Sink>(alloc: Global, house: &House<BudgetKeeper>, all: bool, out: &mut O) -> u8
-    requires { all ≡ true → is_spoiled house.now.halt ≡ false }
-    ensures known { is_made result ≡ true }
-    ensures done { result ≡ 0 → all ≡ true }
-    ensures unwritten { result ≡ 3 → all ≡ true }
-    ensures written { result ≡ 0 → Added (O.held out.old) (summary_from house.now.head house.now.entries) (O.held out.new) }
-    ensures began { Began (O.held out.old) (summary_from house.now.head house.now.entries) (O.held out.new) }
-    ensures failed { result ≡ 3 → Rose (O.faults out.old) (O.faults out.new) }
-    ensures still { result ≢ 3 → O.faults out.new ≡ O.faults out.old }
-{
-    if !all {
-        return 6;
-    }
-    match write_summary(alloc, house, out) {
-        Written::All => 0,
-        Written::Failed => 3,
-        Written::NoMemory => 6,
-    }
-}
-
-/// Makes so many calls by the draws of a seed, steps them, and writes the summary of their journal.
-#[tactic(auto, using(crate::proofs::MadeLaws::same_journal, crate::proofs::MadeLaws::no_part, crate::proofs::CountLaws::journal_counts))]
-fn make<O: Sink>(alloc: Global, seed: u32, count: u32, out: &mut O) -> Report
-    requires seed { seed < 2 ^ 31 }
-    requires few { count ≤ most_made }
-    ensures known { is_made result.status ≡ true }
-    ensures line { result.line ≡ 0 }
-    ensures made { result.status ≡ 0 → result.journal ≡ made_journal seed count }
-    ensures unwritten { result.status ≡ 3 → result.journal ≡ made_journal seed count }
-    ensures numbers { result.status ≡ 0 → (length result.journal.entries ≡ count + 1) × (granted result.journal.entries + denied result.journal.entries ≡ count) }
-    ensures begun { IsMadePart seed count result.journal }
-    ensures written { result.status ≡ 0 → Added (O.held out.old) (whole_summary result.journal) (O.held out.new) }
-    ensures began { Began (O.held out.old) (whole_summary result.journal) (O.held out.new) }
-    ensures failed { result.status ≡ 3 → Rose (O.faults out.old) (O.faults out.new) }
-    ensures still { result.status ≢ 3 → O.faults out.new ≡ O.faults out.old }
-    ensures legal { IsLegal (start_of result.journal.head) result.journal.entries }
-    ensures served { Always IsServed (start_of result.journal.head) result.journal.entries }
-    ensures orderly { IsOrderly [] 0 result.journal.entries }
-    ensures most { length result.journal.entries ≤ most_entries }
-{
-    let Some((house, all)) = made_house(alloc, seed, count) else {
-        return idle(alloc, 6, 0);
-    };
-    let status = write_made(alloc, &house, all, out);
-    let journal = journal_in(house);
-    Report {
-        status,
-        line: 0,
-        journal,
-    }
 }
 
 /// The end of a run that finds no memory for the lanes.
@@ -621,7 +456,7 @@ fn work<I: Source, O: Sink, R: Wait>(
 ///
 /// The journal that comes back has each event that was stepped, with what was sent for it. The clauses from `legal` to
 /// `served` hold for it whatever the input is, and at every status.
-#[tactic(auto, using(crate::proofs::ReplayLaws::remade_so, xl_house::proofs::MachineLaws::begun_free, xl_house::proofs::LawfulLaws::always_lawful, xl_house::proofs::LawfulLaws::always_waiting, xl_house::proofs::LawfulLaws::always_kept, xl_house::proofs::LawfulLaws::always_complete, xl_house::proofs::FittingLaws::always_fitting, xl_house::proofs::LawfulLaws::always_caused, xl_house::proofs::LawfulLaws::always_told, xl_house::proofs::SteadyLaws::always_steady, xl_house::proofs::RecordLaws::always_recording, xl_house::proofs::RecordLaws::always_admitting, xl_house::proofs::CrashLaws::always_cut, xl_house::proofs::TruthfulLaws::never_collide, xl_house::proofs::EntryLaws::always_wishing, xl_house::proofs::EntryLaws::always_breaking, xl_house::proofs::EntryLaws::always_keeping, xl_house::proofs::OwedLaws::always_owed, xl_house::proofs::ReplyingLaws::always_replied, xl_house::proofs::EntryLaws::always_partied, xl_house::proofs::AskingLaws::always_asking, xl_house::proofs::NotifiedLaws::always_notified, xl_house::proofs::MeantLaws::always_meant))]
+#[tactic(auto, using(xl_replay::proofs::ReplayLaws::remade_so, xl_house::proofs::MachineLaws::begun_free, xl_house::proofs::LawfulLaws::always_lawful, xl_house::proofs::LawfulLaws::always_waiting, xl_house::proofs::LawfulLaws::always_kept, xl_house::proofs::LawfulLaws::always_complete, xl_house::proofs::FittingLaws::always_fitting, xl_house::proofs::LawfulLaws::always_caused, xl_house::proofs::LawfulLaws::always_told, xl_house::proofs::SteadyLaws::always_steady, xl_house::proofs::RecordLaws::always_recording, xl_house::proofs::RecordLaws::always_admitting, xl_house::proofs::CrashLaws::always_cut, xl_house::proofs::TruthfulLaws::never_collide, xl_house::proofs::EntryLaws::always_wishing, xl_house::proofs::EntryLaws::always_breaking, xl_house::proofs::EntryLaws::always_keeping, xl_house::proofs::OwedLaws::always_owed, xl_house::proofs::ReplyingLaws::always_replied, xl_house::proofs::EntryLaws::always_partied, xl_house::proofs::AskingLaws::always_asking, xl_house::proofs::NotifiedLaws::always_notified, xl_house::proofs::MeantLaws::always_meant))]
 pub fn run<
     I: Source,
     O: Sink,

@@ -1,5 +1,5 @@
 use Rattle.std.proofs.Common.{rules, Err, ap, sym, ◌∙◌}
-use Rattle.xl_top.specs.Serve.{exported}
+use Rattle.xl_top.specs.Job.{exported}
 use Rattle.xl_top.proofs.ServeLaws.{exported_bad, exported_whole}
 use Rattle.xl_top.proofs.top.exports_of.Goals as goal
 

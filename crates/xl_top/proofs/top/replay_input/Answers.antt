@@ -2,7 +2,8 @@
 use Rattle.std.proofs.Common.{rules, ◌≡◌, ◌∙◌, ap, sym, subst, ℕ, Result}
 use Rattle.xl_capture.specs.Capture.{captured}
 use Rattle.xl_house.specs.Journals.{most_entries}
-use Rattle.xl_top.specs.Job.{capped, FailsBefore, IsReplayed, IsBegun, IsCutAt, IsUnstartedAt}
+use Rattle.xl_replay.specs.Captures.{FailsBefore, IsReplayed, IsBegun, IsCutAt, IsUnstartedAt}
+use Rattle.xl_top.specs.Job.{capped}
 use Rattle.xl_capture.specs.declared.capture.Capture.{Capture}
 use Rattle.xl_top.proofs.JobLaws.{only_starts}
 use Rattle.xl_top.proofs.ReadLaws.{read_whole}

@@ -3,7 +3,7 @@ use Rattle.std.proofs.Common.{List, ℕ, Option, sym, subst, arith}
 use Rattle.xl_base.specs.Outside.{Began}
 use Rattle.xl_capture.specs.Written.{capture_of}
 use Rattle.xl_top.proofs.ServeLaws.{starved_unexported, starved_unserved}
-use Rattle.xl_top.proofs.WriteLaws.{began_none}
+use Rattle.xl_jobs.proofs.WriteLaws.{began_none}
 use Rattle.xl_top.proofs.top.run.Goals as goal
 
 pub returns-clause-exported : goal.returns-clause-exported

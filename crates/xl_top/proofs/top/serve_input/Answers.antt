@@ -1,5 +1,5 @@
 use Rattle.xl_top.proofs.ServeLaws.{concluded_stepped}
-use Rattle.xl_top.proofs.WriteLaws.{began_none}
+use Rattle.xl_jobs.proofs.WriteLaws.{began_none}
 use Rattle.xl_top.proofs.top.serve_input.Goals as goal
 
 pub returns-in-Ok-clause-idle : goal.returns-in-Ok-clause-idle

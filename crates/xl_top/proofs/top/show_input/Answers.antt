@@ -3,7 +3,7 @@ use Rattle.std.proofs.Common.{◌≡◌, ◌∙◌, ap, sym}
 use Rattle.xl_capture.specs.Show.{shown}
 use Rattle.xl_top.specs.Job.{capped}
 use Rattle.xl_top.proofs.ReadLaws.{shown_whole}
-use Rattle.xl_top.proofs.WriteLaws.{adds_as, begins_as}
+use Rattle.xl_top.proofs.JobLaws.{adds_as, begins_as}
 use Rattle.xl_top.proofs.top.show_input.Goals as goal
 
 pub returns-clause-written : goal.returns-clause-written

@@ -1,0 +1,8 @@
+//! What the jobs share: a house over a keeper in memory, and how a job ends.
+#![tactic(auto)]
+
+mod endings;
+mod starts;
+
+pub use endings::{Report, Written, idle, journal_in};
+pub use starts::{exports_with, start};

@@ -1,0 +1,3 @@
+pub mod CaptureLaws
+pub mod EnterLaws
+pub mod ReplayLaws
