@@ -1,12 +1,14 @@
 -- What several reads took.
-use Rattle.std.proofs.Common.{◌≡◌, ℕ, ◌+◌, ◌≤◌, inl, inr, List, ◌++◌, length, take, Option, Some, None, sym, ap, subst, ◌∙◌, append_assoc, arith}
+use Rattle.std.proofs.Common.{◌≡◌, ℕ, ◌+◌, ◌≤◌, inl, inr, List, ◌++◌, length, take, Option, Some, None, sym, ap, subst, ◌∙◌, append_assoc, length-append, arith}
 use Rattle.std.proofs.Math.Seq.{take-append_seam}
 use Rattle.std.proofs.lemmas.Bool.{cases_lt}
-use Rattle.std.proofs.lemmas.List.{append-nil, take_all}
-use Rattle.xl_base.specs.Outside.{Took, Ended}
+use Rattle.std.proofs.lemmas.List.{append-nil, length-take-le, take_all}
+use Rattle.xl_base.specs.Outside.{Took, Ended, Reads}
+use Rattle.xl_base.specs.declared.source.ReadOutcome.{ReadOutcome}
+use Rattle.xl_base.specs.declared.source.ReadOutcome.TheVariants.{Got, End, Failed}
 use Rattle.xl_capture.specs.Capture.{most_bytes, captured}
 use Rattle.xl_capture.specs.Show.{shown}
-use Rattle.xl_top.specs.Job.{capped}
+use Rattle.xl_top.specs.Job.{capped, TookMost}
 
 -- what was taken before, and what one read takes
 pub took_more : (whole old new : Option (List ℕ)) (before more : List ℕ) → Took whole before old → Took old more new → Took whole (before ++ more) new
@@ -41,3 +43,28 @@ read_whole left new all v told took most ended = ap captured (whole left new all
 
 pub shown_whole : (left new : Option (List ℕ)) (all v : List ℕ) → left ≡ Some all → Took left v new → length v ≤ most_bytes + 1 → (length v ≤ most_bytes → Ended new) → shown (capped all) ≡ shown v
 shown_whole left new all v told took most ended = ap shown (whole left new all v told took most ended)
+
+-- ---- how many bytes were taken
+
+-- nothing was
+pub most_same : (n : ℕ) (old new : Option (List ℕ)) → new ≡ old → TookMost n old new
+most_same n None new same = tt
+most_same n (Some left) new same = subst (λ (z : Option (List ℕ)). TookMost n (Some left) z) (sym same) (omega arith)
+
+pub most_taken : (n : ℕ) (old new : Option (List ℕ)) (v : List ℕ) → Took old v new → length v ≤ n → TookMost n old new
+most_taken n None new v took few = tt
+most_taken n (Some left) None v took few = took
+most_taken n (Some left) (Some rest) v took few = omega (arith, few, ap length took, length-append v rest)
+
+-- a read takes no more than its buffer holds
+pub most_read : (outcome : ReadOutcome) (buffer : List ℕ) (old new : Option (List ℕ)) → Reads outcome buffer old new → TookMost (length buffer) old new
+most_read (Got n) buffer old new read = most_taken (length buffer) old new (take n buffer) read.2 (omega (arith, read.1, length-take-le n buffer read.1))
+most_read End buffer old new read = most_same (length buffer) old new read.1
+most_read Failed buffer old new read = most_same (length buffer) old new read
+
+-- and some more behind what was taken
+pub most_behind : (m n : ℕ) (old mid new : Option (List ℕ)) (v : List ℕ) → Took old v mid → TookMost m mid new → length v + m ≤ n → TookMost n old new
+most_behind m n None mid new v took most few = tt
+most_behind m n (Some left) None new v took most few = absurd took
+most_behind m n (Some left) (Some rest) None v took most few = most
+most_behind m n (Some left) (Some rest) (Some new) v took most few = omega (arith, few, most, ap length took, length-append v rest)

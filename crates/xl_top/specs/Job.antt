@@ -1,5 +1,5 @@
 -- What the ending of a run says.
-use Rattle.std.specs.Prelude.{ℕ, ◌+◌, Bool, ◌==◌, ◌||◌, List, take, Option, Result, Ok, Err}
+use Rattle.std.specs.Prelude.{ℕ, ◌+◌, ◌≤◌, Bool, ◌==◌, ◌||◌, List, length, take, Option, Some, None, Result, Ok, Err}
 use Rattle.xl_base.specs.Outside.{Added, Began}
 use Rattle.xl_base.specs.declared.journal.Exports.{Exports}
 use Rattle.xl_capture.specs.Capture.{most_bytes}
@@ -47,6 +47,12 @@ is_exported n = n == 5 || is_served n
 -- what is read of an input: at most one byte past the most of a capture
 abbrev pub capped : List ℕ → List ℕ
 capped input = take (most_bytes + 1) input
+
+-- at most so many bytes were taken from what was left, if that is told
+abbrev pub TookMost : ℕ → Option (List ℕ) → Option (List ℕ) → Type 0
+TookMost n None new = Unit {0}
+TookMost n (Some left) None = ⊥
+TookMost n (Some left) (Some rest) = length left ≤ n + length rest
 
 -- what a text of header lines exports, or the number of the first line that is none, or isn't in its grammar
 abbrev pub exported_by : Result Capture ℕ → Result Exports ℕ

@@ -32,7 +32,7 @@ ghost use Rattle.xl_replay.specs.Captures.{IsReplayed, IsBegun, IsCutAt, IsUnsta
 ghost use Rattle.xl_replay.specs.Replays.{pairs_in};
 ghost use Rattle.xl_serve.specs.Serve.{AreIdle, HasRoom, IsServedBy, is_served};
 ghost use Rattle.xl_make.specs.Made.{is_made, IsMadePart, made_journal, whole_summary};
-ghost use Rattle.xl_top.specs.Job.{is_status, is_read, is_replay, is_shown, is_show, is_idle, AddsShown, BeginsShown, capped, exported, is_exported, is_refused, is_serve};
+ghost use Rattle.xl_top.specs.Job.{is_status, is_read, is_replay, is_shown, is_show, is_idle, AddsShown, BeginsShown, capped, TookMost, exported, is_exported, is_refused, is_serve};
 
 use std::alloc::{AllocError, AllocFailed, Global};
 use std::sync::Wait;
@@ -63,7 +63,7 @@ fn chunk(alloc: Global) -> Result<Vec<u8>, AllocError>
 }
 
 /// Reads once, and adds the bytes to the text. False says that nothing is left.
-#[tactic(auto, using(crate::proofs::ReadLaws::took_more))]
+#[tactic(auto, using(crate::proofs::ReadLaws::took_more, crate::proofs::ReadLaws::most_read))]
 fn read_more<I: Source>(
     input: &mut I,
     text: &mut Vec<u8>,
@@ -73,6 +73,7 @@ fn read_more<I: Source>(
     ensures took { (whole : Option (List ℕ)) → Took whole text.old.items (I.left input.old) → OnOk result (Took whole text.new.items (I.left input.new)) }
     ensures more { result ≡ Ok true → (length text.old.items < length text.new.items) × (length text.new.items ≤ length text.old.items + length buffer.old) }
     ensures ended { result ≡ Ok false → (text.new.items ≡ text.old.items) × Ended (I.left input.new) }
+    ensures most_read { TookMost (length buffer.old) (I.left input.old) (I.left input.new) }
     ensures failed { result ≡ Err Unread.Failed → Rose (I.faults input.old) (I.faults input.new) }
     ensures still { result ≢ Err Unread.Failed → I.faults input.new ≡ I.faults input.old }
 {
@@ -89,9 +90,11 @@ fn read_more<I: Source>(
 }
 
 /// Reads the input to its end, or one byte past the most that a capture has.
+#[tactic(auto, using(crate::proofs::ReadLaws::most_same, crate::proofs::ReadLaws::most_taken, crate::proofs::ReadLaws::most_behind))]
 fn read_all<I: Source>(alloc: Global, input: &mut I) -> Result<Vec<u8>, Unread>
     ensures took { IfOk result (λ v. Took (I.left input.old) v.items (I.left input.new)) }
     ensures most { IfOk result (λ v. length v.items ≤ most_bytes + 1) }
+    ensures most_read { TookMost (most_bytes + 1) (I.left input.old) (I.left input.new) }
     ensures ended { IfOk result (λ v. length v.items ≤ most_bytes → Ended (I.left input.new)) }
     ensures failed { result ≡ Err Unread.Failed → Rose (I.faults input.old) (I.faults input.new) }
     ensures still { result ≢ Err Unread.Failed → I.faults input.new ≡ I.faults input.old }
@@ -148,6 +151,7 @@ fn replay_input<I: Source, O: Sink, R: Wait>(
     out: &mut O,
 ) -> Report
     ensures known { is_replay result.status ≡ true }
+    ensures most_read { TookMost (most_bytes + 1) (I.left input.old) (I.left input.new) }
     ensures read { result.status ≡ 2 → Rose (I.faults input.old) (I.faults input.new) }
     ensures read_still { result.status ≢ 2 → I.faults input.new ≡ I.faults input.old }
     ensures write { result.status ≡ 3 → Rose (O.faults out.old) (O.faults out.new) }
@@ -208,6 +212,7 @@ fn show_given<O: Sink>(alloc: Global, text: &[u8], out: &mut O) -> Report
 fn show_input<I: Source, O: Sink>(alloc: Global, input: &mut I, out: &mut O) -> Report
     ensures known { is_show result.status ≡ true }
     ensures nothing { result.journal ≡ no_journal }
+    ensures most_read { TookMost (most_bytes + 1) (I.left input.old) (I.left input.new) }
     ensures read { result.status ≡ 2 → Rose (I.faults input.old) (I.faults input.new) }
     ensures read_still { result.status ≢ 2 → I.faults input.new ≡ I.faults input.old }
     ensures write { result.status ≡ 3 → Rose (O.faults out.old) (O.faults out.new) }
@@ -283,6 +288,7 @@ fn exports_in(alloc: Global, text: &[u8]) -> Result<Exports, CaptureError>
 fn exports_of<I: Source>(alloc: Global, input: &mut I) -> Result<Exports, Report>
     ensures idle { IfErr result (λ r. (r.journal ≡ no_journal) × (is_refused r.status ≡ true)) }
     ensures line { IfErr result (λ r. r.status ≢ 4 → r.line ≡ 0) }
+    ensures most_read { TookMost (most_bytes + 1) (I.left input.old) (I.left input.new) }
     ensures read { IfErr result (λ r. r.status ≡ 2 → Rose (I.faults input.old) (I.faults input.new)) }
     ensures read_still { IfErr result (λ r. r.status ≢ 2 → I.faults input.new ≡ I.faults input.old) }
     ensures still { OnOk result (I.faults input.new ≡ I.faults input.old) }
@@ -324,6 +330,7 @@ fn serve_input<
     requires few { (vec_len outside.0.lanes ≤ 64) × (vec_len outside.0.callers ≤ 64) }
     ensures known { is_serve result.status ≡ true }
     ensures line { result.status ≢ 4 → result.line ≡ 0 }
+    ensures most_read { TookMost (most_bytes + 1) (I.left input.old) (I.left input.new) }
     ensures read { result.status ≡ 2 → Rose (I.faults input.old) (I.faults input.new) }
     ensures read_still { result.status ≢ 2 → I.faults input.new ≡ I.faults input.old }
     ensures failed { result.status ≡ 3 → Rose (O.faults out.old) (O.faults out.new) }
@@ -389,6 +396,7 @@ fn serving_in(asked: Result<Job, ParseError>) -> Option<Serving>
 }
 
 /// Does a job that serves nobody. Memory ran out before at the words of an error other than `Usage`.
+#[tactic(auto, using(crate::proofs::ReadLaws::most_same))]
 fn work<I: Source, O: Sink, R: Wait>(
     rt: &R,
     alloc: Global,
@@ -403,6 +411,7 @@ fn work<I: Source, O: Sink, R: Wait>(
     requires alone { IfOk asked (λ j. is_server (Some j) ≡ false) }
     ensures known { is_status result.status ≡ true }
     ensures words { (result.status ≡ 1 → job (map string_bytes words.now) ≡ None) × (job (map string_bytes words.now) ≡ None → result.status ≢ 6 → result.status ≡ 1) }
+    ensures most_read { TookMost (most_bytes + 1) (I.left input.old) (I.left input.new) }
     ensures read { result.status ≡ 2 → Rose (I.faults input.old) (I.faults input.new) }
     ensures read_still { result.status ≢ 2 → I.faults input.new ≡ I.faults input.old }
     ensures write { result.status ≡ 3 → Rose (O.faults out.old) (O.faults out.new) }
@@ -456,7 +465,7 @@ fn work<I: Source, O: Sink, R: Wait>(
 ///
 /// The journal that comes back has each event that was stepped, with what was sent for it. The clauses from `legal` to
 /// `served` hold for it whatever the input is, and at every status.
-#[tactic(auto, using(xl_replay::proofs::ReplayLaws::remade_so, xl_house::proofs::MachineLaws::begun_free, xl_house::proofs::LawfulLaws::always_lawful, xl_house::proofs::LawfulLaws::always_waiting, xl_house::proofs::LawfulLaws::always_kept, xl_house::proofs::LawfulLaws::always_complete, xl_house::proofs::FittingLaws::always_fitting, xl_house::proofs::LawfulLaws::always_caused, xl_house::proofs::LawfulLaws::always_told, xl_house::proofs::SteadyLaws::always_steady, xl_house::proofs::RecordLaws::always_recording, xl_house::proofs::RecordLaws::always_admitting, xl_house::proofs::CrashLaws::always_cut, xl_house::proofs::TruthfulLaws::never_collide, xl_house::proofs::EntryLaws::always_wishing, xl_house::proofs::EntryLaws::always_breaking, xl_house::proofs::EntryLaws::always_keeping, xl_house::proofs::OwedLaws::always_owed, xl_house::proofs::ReplyingLaws::always_replied, xl_house::proofs::EntryLaws::always_partied, xl_house::proofs::AskingLaws::always_asking, xl_house::proofs::NotifiedLaws::always_notified, xl_house::proofs::MeantLaws::always_meant))]
+#[tactic(auto, using(crate::proofs::ReadLaws::most_same, xl_replay::proofs::ReplayLaws::remade_so, xl_house::proofs::MachineLaws::begun_free, xl_house::proofs::LawfulLaws::always_lawful, xl_house::proofs::LawfulLaws::always_waiting, xl_house::proofs::LawfulLaws::always_kept, xl_house::proofs::LawfulLaws::always_complete, xl_house::proofs::FittingLaws::always_fitting, xl_house::proofs::LawfulLaws::always_caused, xl_house::proofs::LawfulLaws::always_told, xl_house::proofs::SteadyLaws::always_steady, xl_house::proofs::RecordLaws::always_recording, xl_house::proofs::RecordLaws::always_admitting, xl_house::proofs::CrashLaws::always_cut, xl_house::proofs::TruthfulLaws::never_collide, xl_house::proofs::EntryLaws::always_wishing, xl_house::proofs::EntryLaws::always_breaking, xl_house::proofs::EntryLaws::always_keeping, xl_house::proofs::OwedLaws::always_owed, xl_house::proofs::ReplyingLaws::always_replied, xl_house::proofs::EntryLaws::always_partied, xl_house::proofs::AskingLaws::always_asking, xl_house::proofs::NotifiedLaws::always_notified, xl_house::proofs::MeantLaws::always_meant))]
 pub fn run<
     I: Source,
     O: Sink,
@@ -477,8 +486,10 @@ pub fn run<
     ensures known { is_status result.status ≡ true }
 
     // The status is 1 exactly if the words name no job, unless memory runs out. The source failed exactly if the status is 2.
-    // The sink failed if it is 3; it may have failed if it is 5 or 7, and did not at any other status.
+    // The sink failed if it is 3; it may have failed if it is 5 or 7, and did not at any other status. Of the source no more is read
+    // than the most bytes of a capture and one.
     ensures words { (result.status ≡ 1 → job (map string_bytes words.now) ≡ None) × (job (map string_bytes words.now) ≡ None → result.status ≢ 6 → result.status ≡ 1) }
+    ensures most_read { TookMost (most_bytes + 1) (I.left input.old) (I.left input.new) }
     ensures read { result.status ≡ 2 → Rose (I.faults input.old) (I.faults input.new) }
     ensures read_still { result.status ≢ 2 → I.faults input.new ≡ I.faults input.old }
     ensures write { result.status ≡ 3 → Rose (O.faults out.old) (O.faults out.new) }
