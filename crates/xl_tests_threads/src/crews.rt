@@ -60,6 +60,39 @@ impl Gate for MeetingGate {
     }
 }
 
+/// A gate that holds the calls of callers, whose places are behind those of two lanes, until the lanes have asked for so many calls. It
+/// says no if it looked in vain.
+#[derive(Drop)]
+struct LanesFirst {
+    calls: u64,
+    asked: AtomicU64,
+}
+
+impl LanesFirst {
+    /// Looks until the lanes have asked for all their calls; whether they have.
+    fn waits(&self) -> bool {
+        for _ in 0..MOST_LOOKS {
+            if self.asked.load(Ordering::SeqCst) >= self.calls {
+                return true;
+            }
+            thread::yield_now();
+        }
+        false
+    }
+}
+
+impl Gate for LanesFirst {
+    ghost is_open = { λ _. false };
+
+    fn pass(&self, call: u64, _turns: u64) -> bool {
+        if call < 8_589_934_592 {
+            self.asked.fetch_add(1, Ordering::SeqCst);
+            return true;
+        }
+        self.waits()
+    }
+}
+
 /// Serves a crew over a machine; the crew, and the machine with its entries. None comes if memory runs out.
 fn serve<R: Threads + Wait + Sync, G: Gate + Sync>(
     rt: &R,
@@ -221,13 +254,18 @@ fn two_and_two(alloc: Global) -> Result<Crew<MemoryLane, MemoryCaller>, AllocErr
     })
 }
 
-/// Each of two callers makes the calls of its share, and no others.
+/// Each of two callers makes the calls of its share, and no others. They begin once each lane has asked for its opening, its two
+/// messages and its end, so that all calls are in the journal.
 #[test]
 fn callers_share_the_calls(rt: HostRuntime) -> Result<(), Fail> {
     let alloc = rt.alloc();
+    let gate = LanesFirst {
+        calls: 8,
+        asked: AtomicU64::new(0),
+    };
     let crew = two_and_two(alloc)?;
     let readings = clock(alloc, 0, Vec::new(alloc));
-    let (done, machine) = serve(&rt, alloc, &OpenGate, crew, readings)?;
+    let (done, machine) = serve(&rt, alloc, &gate, crew, readings)?;
     let [first, second] = done.callers.as_slice() else {
         return Err(Fail::new("two callers"));
     };
