@@ -30,7 +30,8 @@ SHORT_LIST = {
     ("xl_replay", "ended_in"): "the house is spoiled, which it is for want of memory alone",
     ("xl_replay", "step_run"): "there is no room for the desk",
     ("xl_serve", "serve_desk"): "the same",
-    ("xl_work", "enter"): "a call was refused: the look behind it fails for memory alone",
+    ("xl_work", "check"): "the machine is halted: the look behind that fails for memory alone",
+    ("xl_work", "enter"): "the same behind a call that was refused",
     ("xl_work", "enter_tick"): "the same of the clock's reading",
     ("xl_work", "turn"): "the outcome of a call without an answer, none of a caller that had no memory",
 }
