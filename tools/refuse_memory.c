@@ -4,6 +4,7 @@
 #include <stdio.h>
 #include <stdlib.h>
 #include <string.h>
+#include <sys/syscall.h>
 #include <unistd.h>
 
 extern void *__libc_malloc(size_t size);
@@ -30,7 +31,13 @@ __attribute__((destructor)) static void tell(void) {
     int file = path ? open(path, O_WRONLY | O_CREAT | O_TRUNC, 0600) : -1;
     if (file >= 0) {
         snprintf(text, sizeof text, "%ld", calls);
-        if (write(file, text, strlen(text)) < 0) _exit(1);
+        if (write(file, text, strlen(text)) < 0) syscall(SYS_exit_group, 1);
         close(file);
     }
+}
+
+/* A program that ends so runs no destructor. */
+void _exit(int status) {
+    tell();
+    for (;;) syscall(SYS_exit_group, status);
 }
