@@ -5,8 +5,8 @@ usage: soak.py PROGRAM [EVENTS]
 PROGRAM is xlockd. It replays captures of 500,000 events each until EVENTS (default 10,000,000) are replayed, and then serves until as many
 are entered, by one server after another. A line tells of each run; the first that isn't as it should be is told and ends all:
 - a replay ends with status 0;
-- a server grants each of PAIRS pairs of a lock and an unlock of an honest client, ends once its turns are done (status 0) or its journal
-  is full (7), and its capture replays. Its callers have turns of 10 ms each, so that it takes five minutes at least;
+- a server grants each of PAIRS pairs of a lock and an unlock of an honest client, ends once its journal is full (status 7), and its capture
+  replays;
 - neither holds more memory than what it reads and its journal need, MOST bytes for each byte of the capture.
 
 What is served has the bytes of such captures, sent by some clients at once as fast as they are taken. So ids and places are others than
@@ -33,7 +33,7 @@ EACH, HOSTILE = 500_000, 50
 # Bytes of memory for each byte of a capture, and what a program takes without one.
 MOST, WITHOUT = 8, 32 * 2**20
 DONE, JOURNAL_FULL = 0, 7
-PAIRS, TURNS = 2_000, 30_000
+PAIRS = 2_000
 # Of 16 lanes of each kind one is the honest client's.
 FEEDERS, LINKS = 3, 5
 # The file of the honest client, behind those of the sessions.
@@ -184,7 +184,7 @@ def check_server(program, folder, seed):
     World(seed, lines.append, 0, MOST_BYTES).header()
     path = os.path.join(folder, "served")
     with open(path, "wb") as captured:
-        server = Server(program, (RPC_PORT, SMB_PORT), ("".join(lines) + f"F f{HONEST + 1}\n").encode(), lanes=16, turns=TURNS, written=captured)
+        server = Server(program, (RPC_PORT, SMB_PORT), ("".join(lines) + f"F f{HONEST + 1}\n").encode(), lanes=16, written=captured)
     server.wait_until_open()
     # It comes first, so that it has a lane.
     honest = connect(RPC_PORT, 10)
@@ -200,7 +200,7 @@ def check_server(program, folder, seed):
         feeder.terminate()
     with open(path) as captured:
         events = sum(line[0] in "OBECT" for line in captured)
-    judged(f"{seed}, {pairs:,} pairs of an honest client", events, os.path.getsize(path), run, DONE, JOURNAL_FULL)
+    judged(f"{seed}, {pairs:,} pairs of an honest client", events, os.path.getsize(path), run, JOURNAL_FULL)
     check_replay(program, f"{seed}, replayed", events, path)
     return events
 
