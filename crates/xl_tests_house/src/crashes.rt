@@ -1,8 +1,7 @@
 //! Crashes. A house is let go in the midst of an entry: what the entry would have done is lost, except for its first stores. One that
 //! starts on the record that these left has each client reclaim what it held at the free moment before, and lets it in.
 
-use crate::exports::exports;
-use crate::house::told;
+use crate::exports::{exports, told};
 use std::alloc::Global;
 use std::test::Fail;
 use xl_base::{Event, Kind, MemoryKeeper, Moment, Record, Sequence};
@@ -195,16 +194,12 @@ fn is_cut_so(
     }
 }
 
-/// Three clients, and each cut of what they do.
-#[test]
-fn reclaims_after_each_cut(rt: HostRuntime) -> Result<(), Fail> {
-    assert!(rt; is_cut_so(rt.alloc(), &RUN, 5, &CUTS)?);
-    Ok(())
+/// Whether three clients, who hold a share and ranges of NFS version 4, a range of NLM and a share, recover from each cut of what they do.
+pub fn clients_recover(alloc: Global) -> Result<bool, Fail> {
+    is_cut_so(alloc, &RUN, 5, &CUTS)
 }
 
-/// A client alone whose lease ends.
-#[test]
-fn reclaims_around_an_expiry(rt: HostRuntime) -> Result<(), Fail> {
-    assert!(rt; is_cut_so(rt.alloc(), &[SETS_UP, OPENS, LOCKS], 3, &ALONE)?);
-    Ok(())
+/// Whether a client alone whose lease ends recovers from a cut before the store of its expiry, and is turned away behind it.
+pub fn expired_client_recovers(alloc: Global) -> Result<bool, Fail> {
+    is_cut_so(alloc, &[SETS_UP, OPENS, LOCKS], 3, &ALONE)
 }

@@ -1,12 +1,10 @@
 //! The house: how it starts and ends.
 
-use crate::exports::exports;
-use std::alloc::{AllocError, Global};
+use crate::exports::{exports, told};
+use std::alloc::Global;
 use std::test::Fail;
 use xl_base::{Event, Halt, Journal, Kind, MemoryKeeper, Moment, Record, Sequence};
-use xl_capture::transcript;
 use xl_house::{Ended, House};
-use xl_names::Names;
 
 /// A house whose keeper holds epoch 7, and of whose calls this one fails.
 fn start(
@@ -19,18 +17,6 @@ fn start(
     stable.set_epoch(7);
     let keeper = MemoryKeeper::new(alloc, stable, failing);
     Ok(House::start(alloc, exports, keeper, Moment(5)))
-}
-
-/// What is sent for bytes that come by connection 0; nothing if the house halts.
-pub(crate) fn told(
-    alloc: Global,
-    house: &mut House<MemoryKeeper>,
-    bytes: Sequence<u8>,
-) -> Result<Vec<u8>, AllocError> {
-    match house.step(alloc, Event::Message(0, bytes)) {
-        Ok(place) => transcript(alloc, house.outs_from(place), &[], &Names::new(alloc)),
-        Err(_) => Ok(Vec::new(alloc)),
-    }
 }
 
 /// Readings of the clock, each with a record that comes behind it and its reply. SETCLIENTID gives a clientid of epoch

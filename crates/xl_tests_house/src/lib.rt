@@ -1,10 +1,9 @@
 #![tactic(auto)]
 //! Tests of the texts of captures and transcripts, and of the house: how it starts, what is reclaimed after a crash, and how a
-//! lane and a caller serve it. What a call that fails comes to is public, for the table of hostile use.
+//! lane and a caller serve it. What a call that fails comes to, and what a crash leaves, is public, for the table of hostile use.
 
 #[cfg(test)]
 mod captures;
-#[cfg(test)]
 mod crashes;
 mod exports;
 #[cfg(test)]
@@ -13,4 +12,5 @@ mod lanes;
 #[cfg(test)]
 mod transcripts;
 
+pub use crashes::{clients_recover, expired_client_recovers};
 pub use lanes::keeps_what_a_failed_call_tells_of;

@@ -1,4 +1,5 @@
-//! Hostile use in one table: what is outside fails, and peers send what is no message, or one that says more than it has.
+//! Hostile use in one table: what is outside fails, the server crashes, and peers send what is no message, or one that says more than it
+//! has.
 
 use crate::serving::{Faults, HEADER, LOCK, NONE, Ran, UNLOCK, is_so, lines, run_serve};
 use std::alloc::Global;
@@ -6,7 +7,7 @@ use std::sync::Wait;
 use std::test::Fail;
 use std::thread::Threads;
 use xl_base::{MemorySink, MemorySource};
-use xl_tests_house::keeps_what_a_failed_call_tells_of;
+use xl_tests_house::{clients_recover, expired_client_recovers, keeps_what_a_failed_call_tells_of};
 use xl_tests_served::{ended, is_answered};
 
 /// What is tried, and what has to come of it.
@@ -23,11 +24,15 @@ enum Case {
     Sending,
     /// A call to a client fails.
     Calling,
+    /// A crash around the store of an expiry of the one client that is recorded.
+    Expiry,
+    /// A crash behind each store of what three clients do: those who held something reclaim it.
+    Crash,
     /// A capture and what its replay answers, as `is_answered` has them.
     Replay(&'static str),
 }
 
-const CASES: [(&str, Case); 17] = [
+const CASES: [(&str, Case); 19] = [
     ("the first reading fails", Case::Reading(1)),
     ("the second reading fails", Case::Reading(2)),
     ("a writing fails", Case::Writing),
@@ -47,6 +52,8 @@ const CASES: [(&str, Case); 17] = [
     ),
     ("a reply isn't sent", Case::Sending),
     ("a call fails", Case::Calling),
+    ("a crash around the store of an expiry", Case::Expiry),
+    ("a crash behind each store", Case::Crash),
     (
         "a record of 65,537 bytes",
         Case::Replay("O rpc\nB 0 80010001\nB 0 00\n=>\n0 0 2\n"),
@@ -243,6 +250,8 @@ fn holds<R: Threads + Wait + Sync>(rt: &R, alloc: Global, case: &Case) -> Result
         Case::Lane(lane, ended, lines) => goes_on(rt, alloc, *lane, ended, lines),
         Case::Sending => is_cut_short(rt, alloc),
         Case::Calling => keeps_what_a_failed_call_tells_of(rt, alloc),
+        Case::Expiry => expired_client_recovers(alloc),
+        Case::Crash => clients_recover(alloc),
         Case::Replay(case) => Ok(is_answered(rt, alloc, case)?),
     }
 }
