@@ -1,9 +1,9 @@
 -- The files that are noted as unsettled, and who is called by them.
-use Rattle.std.proofs.Common.{◌≡◌, ℕ, zero, suc, ◌+◌, ◌-◌, ◌<◌, Bool, true, false, not, ◌&&◌, ◌||◌, ◌==◌, nat_lt, inl, inr, List, [], ◌∷◌, ◌++◌, Option, Some, None, ◌⊎◌, slice_get, get_or, drop, length, IfSome, is_some, if◌then◌else◌, refl, sym, ap, subst, ◌∙◌, arith}
+use Rattle.std.proofs.Common.{◌≡◌, ℕ, zero, suc, ◌+◌, ◌-◌, ◌<◌, ◌≤◌, Bool, true, false, not, ◌&&◌, ◌||◌, ◌==◌, nat_lt, inl, inr, List, [], ◌∷◌, ◌++◌, Option, Some, None, ◌⊎◌, slice_get, get_or, drop, length, IfSome, is_some, if◌then◌else◌, refl, sym, ap, subst, ◌∙◌, arith}
 use Rattle.std.specs.List.{AllByRecursion, filter, list_any}
 use Rattle.std.proofs.lemmas.Bool.{cases_Bool, both_ways, or_parts, eqb-true, eq-eqb}
 use Rattle.std.proofs.lemmas.Bool.Decides.{nat_tests}
-use Rattle.std.proofs.lemmas.List.{append_assoc, drop_more}
+use Rattle.std.proofs.lemmas.List.{append_assoc, drop_all, drop_more}
 use Rattle.xl_base.specs.Lists.{IsIn}
 use Rattle.xl_base.specs.declared.event.Moment.{Moment}
 use Rattle.xl_base.proofs.Members.{all_in, all_from, in_filter_from}
@@ -14,7 +14,7 @@ use Rattle.xl_matrix.specs.declared.claim.Rwd.{Rwd}
 use Rattle.xl_table.specs.Flat.{removed}
 use Rattle.xl_table.specs.Leaving.{goes, IsNextLeft}
 use Rattle.xl_table.specs.declared.leaver.Leaver.{Leaver}
-use Rattle.xl_wait.specs.Waiting.{first_file, is_file, files_of, waits_on, places_from, places_on}
+use Rattle.xl_wait.specs.Waiting.{first_file, is_file, waits_on, waiting_on}
 use Rattle.xl_wait.specs.declared.waiter.Waiter.{Waiter}
 use Rattle.xl_core.specs.State.{CoreState, Aside}
 use Rattle.xl_core.proofs.AsideLaws.{with_aside}
@@ -22,7 +22,7 @@ use Rattle.xl_core.specs.Good.{IsGood, IsWaiter, IsPled, is_held_up, of_first, h
 use Rattle.xl_core.specs.BreakAnswers.{ack}
 use Rattle.xl_core.specs.Ticks.{advanced, behind_told, in_turn}
 use Rattle.xl_core.specs.Settle.{called_of, first_called, waits_with, give_back, weaken, departed}
-use Rattle.xl_core.specs.Unsettled.{is_among, only_file, with_file, may_change, left_by_ask, first_free, called_at, IsWider, Notes, NotesLeft, IsHeldUp, AreHeldUp}
+use Rattle.xl_core.specs.Unsettled.{is_among, only_file, with_file, may_change, left_by_ask, IsWider, Notes, NotesLeft, IsHeldUp, AreHeldUp}
 use Rattle.xl_core.specs.declared.ask.Answer.{Answer}
 use Rattle.xl_core.specs.declared.ask.Ask.{Ask}
 use Rattle.xl_core.specs.declared.ask.Effect.{Effect}
@@ -244,37 +244,6 @@ left_up u v s leaver notes all = λ calm.
 
 -- ---- who is called
 
--- one waits on this file, and isn't held up
-abbrev is_free : CoreState → ℕ → Waiter → Bool
-is_free s file w = is_file file (first_file w.asked) && not (holds_up [] s w w.asked)
-
--- the first such, of whom the first has this place
-abbrev free_from : CoreState → ℕ → ℕ → List Waiter → Option ℕ
-free_from s file n [] = None
-free_from s file n (w ∷ ws) = if is_free s file w then Some n else free_from s file (n + 1) ws
-
--- these wait from this place on
-abbrev IsTail : CoreState → ℕ → List Waiter → Type 0
-IsTail s n ws = (i : ℕ) → slice_get s.waiters (n + i) ≡ slice_get ws i
-
-tail_first : (s : CoreState) (n : ℕ) (w : Waiter) (ws : List Waiter) → IsTail s n (w ∷ ws) → slice_get s.waiters n ≡ Some w
-tail_first s n w ws tail = let at : n ≡ n + 0 = omega arith in ap (λ (k : ℕ). slice_get s.waiters k) at ∙ tail 0
-
-tail_rest : (s : CoreState) (n : ℕ) (w : Waiter) (ws : List Waiter) → IsTail s n (w ∷ ws) → IsTail s (n + 1) ws
-tail_rest s n w ws tail i = let at : n + 1 + i ≡ n + suc i = omega arith in ap (λ (k : ℕ). slice_get s.waiters k) at ∙ tail (suc i)
-
-free_on : (s : CoreState) (file n : ℕ) (ws : List Waiter) → IsTail s n ws → first_free s (places_from n file (files_of ws)) ≡ free_from s file n ws
-free_on s file n [] tail = refl
-free_on s file n (w ∷ ws) tail =
-    let behind = free_on s file (n + 1) ws (tail_rest s n w ws tail) in
-    elim (cases_Bool (is_file file (first_file w.asked))) [
-      | inr off ↦ rw off behind
-      | inl on ↦ elim (cases_Bool (holds_up [] s w w.asked)) [
-        | inl up ↦ rw (on, tail_first s n w ws tail, up) behind
-        | inr free ↦ rw (on, tail_first s n w ws tail, free) refl
-      ]
-    ]
-
 -- who waits before them has no part in who is called of these
 called_alike : (s : CoreState) (earlier before ws : List Waiter) → first_called s earlier ws ≡ first_called s before ws
 called_alike s earlier before [] = refl
@@ -308,24 +277,57 @@ free_one s file w pled up free = by w.asked pled up free where
 calm_if_free : (s : CoreState) (w : Waiter) → holds_up [] s w w.asked ≡ false → is_some s.grace ≡ false
 calm_if_free s w free = (or_parts (is_some s.grace) (of_first (λ c. is_held_up [] s w c) w.asked) free).0
 
-called_from : (s : CoreState) (file n : ℕ) (earlier ws : List Waiter) → IsTail s n ws → AllByRecursion (IsWaiter s.names s.counter) ws → (is_some s.grace ≡ false → AreUp (Files (file ∷ [])) s ws) → called_at s (free_from s file n ws) ≡ first_called s earlier ws
-called_from s file n earlier [] tail are all = refl
-called_from s file n earlier (w ∷ ws) tail are all =
+-- who is called of those on the one unsettled file is called of all
+called_among : (s : CoreState) (file : ℕ) (ws : List Waiter) → AllByRecursion (IsWaiter s.names s.counter) ws → (is_some s.grace ≡ false → AreUp (Files (file ∷ [])) s ws) → first_called s [] (waiting_on file ws) ≡ first_called s [] ws
+called_among s file [] are all = refl
+called_among s file (w ∷ ws) are all =
+    let behind : first_called s [] (waiting_on file ws) ≡ first_called s [] ws = called_among s file ws are.1 (λ calm. (all calm).1) in
     elim (cases_Bool (holds_up [] s w w.asked)) [
       | inl up ↦ elim (cases_Bool (is_file file (first_file w.asked))) [
-        | inl on ↦ rw (on, up) (called_from s file (n + 1) (earlier ++ w ∷ []) ws (tail_rest s n w ws tail) are.1 (λ calm. (all calm).1))
-        | inr off ↦ rw (off, up) (called_from s file (n + 1) (earlier ++ w ∷ []) ws (tail_rest s n w ws tail) are.1 (λ calm. (all calm).1))
+        | inl on ↦ rw on (called_onward s w (waiting_on file ws) up ∙ behind ∙ sym (called_onward s w ws up))
+        | inr off ↦ rw off (behind ∙ sym (called_onward s w ws up))
       ]
-      | inr free ↦ rw (free_one s file w are.0.2 (all (calm_if_free s w free)).0 free, free, tail_first s n w ws tail) refl
+      | inr free ↦ rw (free_one s file w are.0.2 (all (calm_if_free s w free)).0 free, free) refl
     ]
 
-pub called_on : (s : CoreState) (file : ℕ) (place : Option ℕ) (called : Option Called) → IsGood s → AreHeldUp (Files (file ∷ [])) s → place ≡ first_free s (places_on file (files_of s.waiters)) → called ≡ called_at s place → called ≡ first_called s [] s.waiters
+pub called_on : (s : CoreState) (file : ℕ) → IsGood s → AreHeldUp (Files (file ∷ [])) s → first_called s [] (waiting_on file s.waiters) ≡ first_called s [] s.waiters
 unfolding AreHeldUp
-called_on s file place called good all at is =
-    is ∙ ap (λ (p : Option ℕ). called_at s p) (at ∙ free_on s file 0 s.waiters all_stand) ∙ called_from s file 0 [] s.waiters all_stand good.waiters (λ calm. each_up (Files (file ∷ [])) s [] s.waiters (all calm))
-  where
-    all_stand : IsTail s 0 s.waiters
-    all_stand i = let at : 0 + i ≡ i = omega arith in ap (λ (k : ℕ). slice_get s.waiters k) at
+called_on s file good all = called_among s file s.waiters good.waiters (λ calm. each_up (Files (file ∷ [])) s [] s.waiters (all calm))
+
+-- of these the next stands there
+stands_next : (ws : List Waiter) (i : ℕ) (w : Waiter) → slice_get ws i ≡ Some w → drop i ws ≡ w ∷ drop (suc i) ws
+stands_next [] i w is = absurd (cc is)
+stands_next (x ∷ xs) zero w is = let same : x ≡ w = cc is in ap (λ (v : Waiter). v ∷ xs) same
+stands_next (x ∷ xs) (suc i) w is = stands_next xs i w is
+
+none_next : (ws : List Waiter) (i : ℕ) → slice_get ws i ≡ None → drop i ws ≡ []
+none_next [] zero is = refl
+none_next [] (suc i) is = refl
+none_next (x ∷ xs) zero is = absurd (cc is)
+none_next (x ∷ xs) (suc i) is = none_next xs i is
+
+-- the next of them is held up, so who is called stands behind it; or isn't, and is called; or there is none
+pub on_past : (s : CoreState) (ws : List Waiter) (i : ℕ) (w : Waiter) → slice_get ws i ≡ Some w → holds_up [] s w w.asked ≡ true → first_called s [] (drop i ws) ≡ first_called s [] ws → first_called s [] (drop (i + 1) ws) ≡ first_called s [] ws
+on_past s ws i w is up so_far =
+    let next : suc i ≡ i + 1 = omega arith in
+    ap (λ (k : ℕ). first_called s [] (drop k ws)) (sym next) ∙ sym (called_onward s w (drop (suc i) ws) up) ∙ ap (first_called s []) (sym (stands_next ws i w is)) ∙ so_far
+
+pub on_free : (s : CoreState) (ws : List Waiter) (i : ℕ) (w : Waiter) → slice_get ws i ≡ Some w → holds_up [] s w w.asked ≡ false → first_called s [] (drop i ws) ≡ first_called s [] ws → Some (called_of s w) ≡ first_called s [] ws
+on_free s ws i w is free so_far =
+    let here : first_called s [] (w ∷ drop (suc i) ws) ≡ Some (called_of s w) = rw free refl in
+    sym here ∙ ap (first_called s []) (sym (stands_next ws i w is)) ∙ so_far
+
+few_on : (file : ℕ) (ws : List Waiter) → length (waiting_on file ws) ≤ length ws
+few_on file [] = omega arith
+few_on file (w ∷ ws) =
+    let rest = few_on file ws in
+    elim (cases_Bool (is_file file (first_file w.asked))) [ inl on ↦ rw on (omega (arith, rest)) | inr off ↦ rw off (omega (arith, rest)) ]
+
+pub on_none : (s : CoreState) (ws : List Waiter) (i : ℕ) → slice_get ws i ≡ None → first_called s [] (drop i ws) ≡ first_called s [] ws → None ≡ first_called s [] ws
+on_none s ws i is so_far = ap (first_called s []) (sym (none_next ws i is)) ∙ so_far
+
+pub on_end : (s : CoreState) (file i : ℕ) (ws : List Waiter) → length ws ≤ i → first_called s [] (drop i (waiting_on file ws)) ≡ first_called s [] (waiting_on file ws) → None ≡ first_called s [] (waiting_on file ws)
+on_end s file i ws far so_far = (let few = few_on file ws in ap (first_called s []) (sym (drop_all i (waiting_on file ws) (omega (arith, few, far))))) ∙ so_far
 
 -- ---- what a reading of the clock tells
 

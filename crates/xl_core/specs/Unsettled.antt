@@ -1,6 +1,6 @@
 -- What is kept beside the state, so that not all who wait are looked at after each change: the files on which someone may
 -- wait whom nothing blocks.
-use Rattle.std.specs.Prelude.{◌≡◌, ℕ, Bool, true, false, ◌==◌, if◌then◌else◌, List, [], ◌∷◌, Option, Some, None, is_some, slice_get, take}
+use Rattle.std.specs.Prelude.{◌≡◌, ℕ, Bool, true, false, ◌==◌, if◌then◌else◌, List, [], ◌∷◌, Option, Some, None, is_some}
 use Rattle.std.specs.List.{AllByRecursion, list_any}
 use Rattle.xl_matrix.specs.declared.claim.Claim.{Claim}
 use Rattle.xl_table.specs.Leaving.{goes}
@@ -8,9 +8,7 @@ use Rattle.xl_table.specs.declared.leaver.Leaver.{Leaver}
 use Rattle.xl_wait.specs.Waiting.{waits_on}
 use Rattle.xl_wait.specs.declared.waiter.Waiter.{Waiter}
 use Rattle.xl_core.specs.State.{CoreState}
-use Rattle.xl_core.specs.Good.{AllBehind, is_held_up, holds_up}
-use Rattle.xl_core.specs.Settle.{called_of}
-use Rattle.xl_core.specs.declared.settling.Called.{Called}
+use Rattle.xl_core.specs.Good.{AllBehind, is_held_up}
 use Rattle.xl_core.specs.declared.ask.Act.{Act}
 use Rattle.xl_core.specs.declared.ask.Act.TheVariants.{Share, Ranges, Test, Unlock, Wish}
 use Rattle.xl_core.specs.declared.ask.Answer.{Answer}
@@ -77,24 +75,6 @@ abbrev pub is_none : Unsettled → Bool
 is_none (Files []) = true
 is_none (Files (file ∷ files)) = false
 is_none All = false
-
--- the first of these places where nobody waits who is held up behind those before it
-abbrev pub stays_up : List Waiter → CoreState → Option Waiter → Bool
-stays_up earlier s None = true
-stays_up earlier s (Some w) = holds_up earlier s w w.asked
-
-abbrev pub first_free : CoreState → List ℕ → Option ℕ
-first_free s [] = None
-first_free s (p ∷ ps) = if stays_up (take p s.waiters) s (slice_get s.waiters p) then first_free s ps else Some p
-
--- who waits at this place, as it is called
-abbrev pub called_waiter : CoreState → Option Waiter → Option Called
-called_waiter s None = None
-called_waiter s (Some w) = Some (called_of s w)
-
-abbrev pub called_at : CoreState → Option ℕ → Option Called
-called_at s None = None
-called_at s (Some place) = called_waiter s (slice_get s.waiters place)
 
 -- the first of these is so, if there is one
 abbrev pub IsOfFirst : (Claim → Type 0) → List Claim → Type 0

@@ -1,10 +1,11 @@
 //! Whose turn comes, and what it gets.
-ghost use Rattle.std.specs.Prelude.{◌≡◌, ◌+◌, ◌<◌, ◌^◌, ℕ, false, List, [], ◌∷◌, Ok, None, is_some, option_copied, option_map, IfOk, OnOk};
+ghost use Rattle.std.specs.Prelude.{◌≡◌, ◌+◌, ◌<◌, ◌^◌, ℕ, false, List, [], ◌∷◌, Ok, None, is_some, option_map, IfOk, OnOk};
 ghost use Rattle.xl_base.specs.Limits.{numbers_left};
+ghost use Rattle.xl_wait.specs.Waiting.{waiting_on};
 ghost use Rattle.xl_wait.specs.declared.waiter.Waiter.{Waiter};
 ghost use Rattle.xl_core.specs.Good.{AllBehind, holds_back, is_held_up, holds_up, IsGood};
 ghost use Rattle.xl_core.specs.Settle.{plea_again, all_of, turned, settle, called_of, first_called};
-ghost use Rattle.xl_core.specs.Unsettled.{stays_up, first_free, called_at, IsHeldUp, AreHeldUp};
+ghost use Rattle.xl_core.specs.Unsettled.{IsHeldUp, AreHeldUp};
 ghost use Rattle.xl_core.specs.declared.unsettled.Unsettled.TheVariants.{Files};
 ghost use Rattle.xl_core.specs.State.{MayBe, GoesOn};
 ghost use Rattle.xl_core.specs.Stores.{HandsOn};
@@ -121,30 +122,6 @@ fn holds_up(
     is_up(alloc, parts, waiter)
 }
 
-/// Whether nobody waits at this place of the queue, or one who is held up.
-fn stays_up(alloc: Global, parts: &Parts, waiter: Option<&Waiter>) -> Result<bool, AllocError>
-    requires calm { is_some parts.now.grace ≡ false }
-    ensures { IfOk result (λ b. b ≡ stays_up [] (state_of parts.now) (option_copied waiter.entry)) }
-{
-    match waiter {
-        Some(waiter) => is_up(alloc, parts, waiter),
-        None => Ok(true),
-    }
-}
-
-/// The first of these places where one waits who isn't held up.
-fn first_free(alloc: Global, parts: &Parts, places: &[usize]) -> Result<Option<usize>, AllocError>
-    requires calm { is_some parts.now.grace ≡ false }
-    ensures { IfOk result (λ at. at ≡ first_free (state_of parts.now) places.now) }
-{
-    for place in places {
-        if !stays_up(alloc, parts, parts.queue.at(*place))? {
-            return Ok(Some(*place));
-        }
-    }
-    Ok(None)
-}
-
 /// The waiter, as it is called.
 fn called_of(alloc: Global, parts: &Parts, waiter: &Waiter) -> Result<Called, AllocError>
     ensures { IfOk result (λ called. called ≡ called_of (state_of parts.now) waiter.now) }
@@ -158,32 +135,30 @@ fn called_of(alloc: Global, parts: &Parts, waiter: &Waiter) -> Result<Called, Al
     })
 }
 
-/// Who waits at this place, as it is called.
-fn called_at(
-    alloc: Global,
-    parts: &Parts,
-    place: Option<usize>,
-) -> Result<Option<Called>, AllocError>
-    ensures { IfOk result (λ called. called ≡ called_at (state_of parts.now) place) }
+/// The first who waits on this file and isn't held up.
+fn first_on(alloc: Global, parts: &Parts, file: u32) -> Result<Option<Called>, AllocError>
+    requires calm { is_some parts.now.grace ≡ false }
+    ensures { IfOk result (λ called. called ≡ first_called (state_of parts.now) [] (waiting_on file parts.now.queue)) }
 {
-    let Some(place) = place else {
-        return Ok(None);
-    };
-    match parts.queue.at(place) {
-        Some(waiter) => Ok(Some(called_of(alloc, parts, waiter)?)),
-        None => Ok(None),
+    'waiters: for count in 0..parts.queue.len() {
+        let Some(waiter) = parts.queue.nth_on(file, count) else {
+            return Ok(None);
+        };
+        if !is_up(alloc, parts, waiter)? {
+            return Ok(Some(called_of(alloc, parts, waiter)?));
+        }
     }
+    Ok(None)
 }
 
-/// The first who isn't held up, if this is the one unsettled file: the first such in its queue.
+/// The first who isn't held up, if this is the one unsettled file: the first such of those who wait on it.
 fn called_on(alloc: Global, parts: &Parts, file: u32) -> Result<Option<Called>, AllocError>
     requires calm { is_some parts.now.grace ≡ false }
     requires good { IsGood (state_of parts.now) }
     requires held_up { AreHeldUp (Files (file ∷ [])) (state_of parts.now) }
     ensures { IfOk result (λ called. called ≡ first_called (state_of parts.now) [] parts.now.queue) }
 {
-    let place = first_free(alloc, parts, parts.queue.on(file))?;
-    let called = called_at(alloc, parts, place)?;
+    let called = first_on(alloc, parts, file)?;
     Ok(called)
 }
 

@@ -1,5 +1,5 @@
 -- The queues of the files on which some wait, as one comes and as one leaves.
-use Rattle.std.proofs.Common.{◌≡◌, ◌≢◌, ℕ, zero, suc, ◌+◌, ◌<◌, ◌==◌, ◌||◌, Bool, true, false, nat_lt, List, [], ◌∷◌, ◌++◌, map, take, drop, Option, Some, None, is_some, length, get_or, set, refl, sym, ap, subst, ◌∙◌, inl, inr, arith}
+use Rattle.std.proofs.Common.{◌≡◌, ◌≢◌, ℕ, zero, suc, ◌+◌, ◌-◌, ◌<◌, ◌≤◌, ◌==◌, ◌||◌, Bool, true, false, nat_lt, List, [], ◌∷◌, ◌++◌, map, take, drop, Option, Some, None, is_some, slice_get, length, get_or, set, refl, sym, ap, subst, ◌∙◌, inl, inr, arith}
 use Rattle.std.proofs.lemmas.Bool.{cases_Bool, both_ways, eq-eqb}
 use Rattle.std.proofs.lemmas.Bool.Decides.{nat_tests}
 use Rattle.std.proofs.lemmas.List.{map-append, take-map, drop-map}
@@ -9,7 +9,7 @@ use Rattle.std.specs.List.{list_any, remove}
 use Rattle.std.specs.Map.{lookup}
 use Rattle.std.specs.Option.{option_map, unwrap_or}
 use Rattle.std.specs.Ordering.{is_eq, nat_cmp}
-use Rattle.xl_wait.specs.Waiting.{first_file, files_of, is_file, waits_on, places_from, places_on, places_in, nearer, closed_up, one_more, NoneEmpty, AreQueued}
+use Rattle.xl_wait.specs.Waiting.{first_file, files_of, is_file, waits_on, waiting_on, places_from, places_in, nearer, closed_up, one_more, passed, NoneEmpty, AreQueued}
 use Rattle.xl_wait.specs.declared.waiter.Waiter.{Waiter}
 
 files_entered : (ws : List Waiter) (w : Waiter) → files_of (ws ++ w ∷ []) ≡ files_of ws ++ first_file w.asked ∷ []
@@ -56,22 +56,22 @@ come_from n file (f ∷ fs) own =
       | inr e ↦ rw e behind
     ]
 
-pub queued_in : (old new : BTreeMap ℕ (List ℕ)) (ws vs : List Waiter) (w : Waiter) (place : ℕ) → AreQueued old (files_of ws) → place ≡ length ws → ((file : ℕ) → places_in new file ≡ places_in old file ++ one_more file (first_file w.asked) place) → (NoneEmpty old → NoneEmpty new) → vs ≡ ws ++ w ∷ [] → AreQueued new (files_of vs)
-queued_in old new ws vs w place queued at more filled is = (places, filled queued.1)
+pub queued_in : (first : ℕ) (old new : BTreeMap ℕ (List ℕ)) (ws vs : List Waiter) (w : Waiter) (place : ℕ) → AreQueued first old (files_of ws) → place ≡ first + length ws → ((file : ℕ) → places_in new file ≡ places_in old file ++ one_more file (first_file w.asked) place) → (NoneEmpty old → NoneEmpty new) → vs ≡ ws ++ w ∷ [] → AreQueued first new (files_of vs)
+queued_in first old new ws vs w place queued at more filled is = (places, filled queued.1)
   where
-    here : place ≡ 0 + length (files_of ws)
+    here : place ≡ first + length (files_of ws)
     here = omega (arith, at, as_many ws)
 
-    places : (file : ℕ) → places_in new file ≡ places_on file (files_of vs)
+    places : (file : ℕ) → places_in new file ≡ places_from first file (files_of vs)
     places file =
         more file
         ∙ (λ i. queued.0 file i ++ one_more file (first_file w.asked) (here i))
-        ∙ sym (come_from 0 file (files_of ws) (first_file w.asked))
-        ∙ ap (λ (fs : List (Option ℕ)). places_on file fs) (sym (files_entered ws w) ∙ ap files_of (sym is))
+        ∙ sym (come_from first file (files_of ws) (first_file w.asked))
+        ∙ ap (λ (fs : List (Option ℕ)). places_from first file fs) (sym (files_entered ws w) ∙ ap files_of (sym is))
 
 -- after an error they stand as they stood
-pub queued_still : (old new : BTreeMap ℕ (List ℕ)) (ws vs : List Waiter) → AreQueued old (files_of ws) → ((file : ℕ) → places_in new file ≡ places_in old file) → (NoneEmpty old → NoneEmpty new) → vs ≡ ws → AreQueued new (files_of vs)
-queued_still old new ws vs queued stay filled same = ((λ file. stay file ∙ queued.0 file ∙ ap (λ (us : List Waiter). places_on file (files_of us)) (sym same)), filled queued.1)
+pub queued_still : (first : ℕ) (old new : BTreeMap ℕ (List ℕ)) (ws : List Waiter) → AreQueued first old (files_of ws) → ((file : ℕ) → places_in new file ≡ places_in old file) → (NoneEmpty old → NoneEmpty new) → AreQueued first new (files_of ws)
+queued_still first old new ws queued stay filled = ((λ file. stay file ∙ queued.0 file), filled queued.1)
 
 -- ---- one leaves
 
@@ -138,27 +138,34 @@ was_empty : (o : Option (List ℕ)) (g : List ℕ → List ℕ) → option_map g
 was_empty None g is none = absurd (both_ways false refl (ap is_some is))
 was_empty (Some ps) g is none = ap (λ (qs : List ℕ). Some qs) none
 
-pub queued_out : (old new : BTreeMap ℕ (List ℕ)) (ws vs : List Waiter) (w : Waiter) (at : ℕ) → AreQueued old (files_of ws) → at < length ws → w ≡ get_or ws at w → ((file : ℕ) → places_in new file ≡ closed_up at (places_in old file))
-    → ((file : ℕ) → get nat_cmp new file ≡ Some [] → (is_file file (first_file w.asked) ≡ false) × (option_map (closed_up at) (get nat_cmp old file) ≡ Some [])) → vs ≡ remove ws at → AreQueued new (files_of vs)
-queued_out old new ws vs w at queued h who left empty is = (places, filled)
+pub queued_out : (first : ℕ) (old new : BTreeMap ℕ (List ℕ)) (ws vs : List Waiter) (w : Waiter) (at : ℕ) → AreQueued first old (files_of ws) → at < length ws → w ≡ get_or ws at w → ((file : ℕ) → places_in new file ≡ closed_up (first + at) (places_in old file))
+    → ((file : ℕ) → get nat_cmp new file ≡ Some [] → (is_file file (first_file w.asked) ≡ false) × (option_map (closed_up (first + at)) (get nat_cmp old file) ≡ Some [])) → vs ≡ remove ws at → AreQueued first new (files_of vs)
+queued_out first old new ws vs w at queued h who left empty is = (places, filled)
   where
-    here : at ≡ 0 + at
-    here = omega arith
-
-    places : (file : ℕ) → places_in new file ≡ places_on file (files_of vs)
+    places : (file : ℕ) → places_in new file ≡ places_from first file (files_of vs)
     places file =
         left file
-        ∙ ap (λ (ps : List ℕ). closed_up at ps) (queued.0 file)
-        ∙ ap (λ (k : ℕ). closed_up k (places_on file (files_of ws))) here
-        ∙ sym (leave_from 0 file at (files_of ws) (omega (arith, h, as_many ws)))
-        ∙ ap (λ (fs : List (Option ℕ)). places_on file fs) (sym (files_left ws at) ∙ ap files_of (sym is))
+        ∙ ap (λ (ps : List ℕ). closed_up (first + at) ps) (queued.0 file)
+        ∙ sym (leave_from first file at (files_of ws) (omega (arith, h, as_many ws)))
+        ∙ ap (λ (fs : List (Option ℕ)). places_from first file fs) (sym (files_left ws at) ∙ ap files_of (sym is))
 
     filled : (file : ℕ) → get nat_cmp new file ≢ Some []
     filled file none =
-        let gone : (is_file file (first_file w.asked) ≡ false) × (option_map (closed_up at) (get nat_cmp old file) ≡ Some []) = empty file none in
-        let after : waits_on file vs ≡ false = sym (some_from 0 file (files_of vs)) ∙ ap (λ (ps : List ℕ). nat_lt 0 (length ps)) (sym (places file) ∙ ap (λ (o : Option (List ℕ)). unwrap_or o []) none) in
+        let gone : (is_file file (first_file w.asked) ≡ false) × (option_map (closed_up (first + at)) (get nat_cmp old file) ≡ Some []) = empty file none in
+        let after : waits_on file vs ≡ false = sym (some_from first file (files_of vs)) ∙ ap (λ (ps : List ℕ). nat_lt 0 (length ps)) (sym (places file) ∙ ap (λ (o : Option (List ℕ)). unwrap_or o []) none) in
         let before : waits_on file ws ≡ false = sym (still_waits file ws at w h who gone.0) ∙ ap (λ (us : List Waiter). waits_on file us) (sym is) ∙ after in
-        queued.1 file (was_empty (get nat_cmp old file) (closed_up at) gone.1 (queued.0 file ∙ no_places (places_on file (files_of ws)) (some_from 0 file (files_of ws) ∙ before)))
+        queued.1 file (was_empty (get nat_cmp old file) (closed_up (first + at)) gone.1 (queued.0 file ∙ no_places (places_from first file (files_of ws)) (some_from first file (files_of ws) ∙ before)))
+
+-- the first leaves
+pub queued_past : (first : ℕ) (old new : BTreeMap ℕ (List ℕ)) (w : Waiter) (ws : List Waiter) → AreQueued first old (files_of (w ∷ ws)) → ((file : ℕ) → places_in new file ≡ passed file (first_file w.asked) (places_in old file)) → (NoneEmpty old → NoneEmpty new) → AreQueued (first + 1) new (files_of ws)
+queued_past first old new w ws queued left filled = ((λ file. left file ∙ ap (λ (ps : List ℕ). passed file (first_file w.asked) ps) (queued.0 file) ∙ behind file), filled queued.1)
+  where
+    behind : (file : ℕ) → passed file (first_file w.asked) (places_from first file (files_of (w ∷ ws))) ≡ places_from (first + 1) file (files_of ws)
+    behind file = elim (cases_Bool (is_file file (first_file w.asked))) [ inl on ↦ rw on refl | inr off ↦ rw off refl ]
+
+-- a file's queue without its first stays one, if it isn't empty
+pub none_left : (old mid new : BTreeMap ℕ (List ℕ)) (own : ℕ) → ((file : ℕ) → is_file file (Some own) ≡ false → get nat_cmp mid file ≡ get nat_cmp old file) → ((file : ℕ) → get nat_cmp new file ≡ Some [] → (is_file file (Some own) ≡ false) × (get nat_cmp mid file ≡ Some [])) → NoneEmpty old → NoneEmpty new
+none_left old mid new own others empty filled file none = let gone = empty file none in filled file (sym (others file gone.0) ∙ gone.1)
 
 -- something is done to the first i of these, and not to the others
 abbrev pub done_to : (g : ℕ → ℕ) (i : ℕ) (xs : List ℕ) → List ℕ
@@ -197,5 +204,56 @@ closed_all old new at is file =
 
 -- ---- someone waits
 
-pub some_queued : (queues : BTreeMap ℕ (List ℕ)) (ws : List Waiter) (file : ℕ) → AreQueued queues (files_of ws) → nat_lt 0 (length (places_in queues file)) ≡ waits_on file ws
-some_queued queues ws file queued = ap (λ (ps : List ℕ). nat_lt 0 (length ps)) (queued.0 file) ∙ some_from 0 file (files_of ws)
+pub some_queued : (first : ℕ) (queues : BTreeMap ℕ (List ℕ)) (ws : List Waiter) (file : ℕ) → AreQueued first queues (files_of ws) → nat_lt 0 (length (places_in queues file)) ≡ waits_on file ws
+some_queued first queues ws file queued = ap (λ (ps : List ℕ). nat_lt 0 (length ps)) (queued.0 file) ∙ some_from first file (files_of ws)
+
+-- who has the place that stands behind so many others in a file's queue waits on the file behind as many
+abbrev IsNth : ℕ → ℕ → ℕ → ℕ → List Waiter → Type 0
+IsNth n file k p ws = (n ≤ p) × (slice_get ws (p - n) ≡ slice_get (waiting_on file ws) k)
+
+-- behind one more
+one_behind : (n p : ℕ) (w : Waiter) (ws : List Waiter) (found : Option Waiter) → (n + 1 ≤ p) × (slice_get ws (p - (n + 1)) ≡ found) → (n ≤ p) × (slice_get (w ∷ ws) (p - n) ≡ found)
+one_behind n p w ws found rest =
+    let far : p - n ≡ suc (p - (n + 1)) = omega (arith, rest.0) in
+    (omega (arith, rest.0), ap (λ (q : ℕ). slice_get (w ∷ ws) q) far ∙ rest.1)
+
+first_has : (n p : ℕ) (w : Waiter) (ws : List Waiter) → Some n ≡ Some p → (n ≤ p) × (slice_get (w ∷ ws) (p - n) ≡ Some w)
+first_has n p w ws is =
+    let same : n ≡ p = cc is in
+    let none : p - n ≡ 0 = omega (arith, same) in
+    (omega (arith, same), ap (λ (q : ℕ). slice_get (w ∷ ws) q) none)
+
+nth_some : (n file k p : ℕ) (ws : List Waiter) → slice_get (places_from n file (files_of ws)) k ≡ Some p → IsNth n file k p ws
+nth_some n file k p [] is = absurd (cc is)
+nth_some n file zero p (w ∷ ws) is =
+    elim (cases_Bool (is_file file (first_file w.asked))) [
+      | inl on ↦ rw on (first_has n p w ws (rw on at is))
+      | inr off ↦ rw off (one_behind n p w ws (slice_get (waiting_on file ws) zero) (nth_some (n + 1) file zero p ws (rw off at is)))
+    ]
+nth_some n file (suc k) p (w ∷ ws) is =
+    elim (cases_Bool (is_file file (first_file w.asked))) [
+      | inl on ↦ rw on (one_behind n p w ws (slice_get (waiting_on file ws) k) (nth_some (n + 1) file k p ws (rw on at is)))
+      | inr off ↦ rw off (one_behind n p w ws (slice_get (waiting_on file ws) (suc k)) (nth_some (n + 1) file (suc k) p ws (rw off at is)))
+    ]
+
+nth_none : (n file k : ℕ) (ws : List Waiter) → slice_get (places_from n file (files_of ws)) k ≡ None → slice_get (waiting_on file ws) k ≡ None
+nth_none n file k [] none = refl
+nth_none n file zero (w ∷ ws) none =
+    elim (cases_Bool (is_file file (first_file w.asked))) [
+      | inl on ↦ absurd (cc (rw on at none))
+      | inr off ↦ rw off (nth_none (n + 1) file zero ws (rw off at none))
+    ]
+nth_none n file (suc k) (w ∷ ws) none =
+    elim (cases_Bool (is_file file (first_file w.asked))) [
+      | inl on ↦ rw on (nth_none (n + 1) file k ws (rw on at none))
+      | inr off ↦ rw off (nth_none (n + 1) file (suc k) ws (rw off at none))
+    ]
+
+-- the one who waits behind so many others
+abbrev pub nth_at : ℕ → List Waiter → Option ℕ → Option Waiter
+nth_at first ws None = None
+nth_at first ws (Some p) = slice_get ws (p - first)
+
+pub nth_queued : (first : ℕ) (queues : BTreeMap ℕ (List ℕ)) (ws : List Waiter) (file k : ℕ) (place : Option ℕ) → AreQueued first queues (files_of ws) → place ≡ slice_get (places_in queues file) k → nth_at first ws place ≡ slice_get (waiting_on file ws) k
+nth_queued first queues ws file k None queued is = sym (nth_none first file k ws (ap (λ (ps : List ℕ). slice_get ps k) (sym (queued.0 file)) ∙ sym is))
+nth_queued first queues ws file k (Some p) queued is = (nth_some first file k p ws (ap (λ (ps : List ℕ). slice_get ps k) (sym (queued.0 file)) ∙ sym is)).1

@@ -1,2 +1,3 @@
 mod FileLaws
+mod LineLaws
 mod PassLaws

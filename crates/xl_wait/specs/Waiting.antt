@@ -1,5 +1,5 @@
 -- The list of those who wait, in order of arrival.
-use Rattle.std.specs.Prelude.{◌≡◌, ◌≢◌, ℕ, ◌+◌, ◌-◌, nat_lt, Bool, true, false, not, ◌==◌, List, [], ◌∷◌, map, Option, Some, None, if◌then◌else◌}
+use Rattle.std.specs.Prelude.{◌≡◌, ◌≢◌, ℕ, ◌+◌, ◌-◌, nat_lt, Bool, true, false, not, ◌==◌, List, [], ◌∷◌, drop, map, Option, Some, None, if◌then◌else◌}
 use Rattle.std.specs.BTreeMap.{BTreeMap, get}
 use Rattle.std.specs.List.{filter, list_any}
 use Rattle.std.specs.Option.{unwrap_or}
@@ -59,6 +59,10 @@ abbrev pub is_file : ℕ → Option ℕ → Bool
 is_file file None = false
 is_file file (Some own) = own == file
 
+-- those who wait on this file, in order of arrival
+abbrev pub waiting_on : ℕ → List Waiter → List Waiter
+waiting_on file ws = filter (λ w. is_file file (first_file w.asked)) ws
+
 -- someone waits on this file
 abbrev pub waits_on : ℕ → List Waiter → Bool
 waits_on file ws = list_any (is_file file) (files_of ws)
@@ -67,10 +71,6 @@ waits_on file ws = list_any (is_file file) (files_of ws)
 abbrev pub places_from : ℕ → ℕ → List (Option ℕ) → List ℕ
 places_from n file [] = []
 places_from n file (f ∷ fs) = if is_file file f then n ∷ places_from (n + 1) file fs else places_from (n + 1) file fs
-
--- a file's queue: the places of those who wait on it, in order of arrival
-abbrev pub places_on : ℕ → List (Option ℕ) → List ℕ
-places_on file fs = places_from 0 file fs
 
 -- a queue once the one at this place is gone: those behind it stand one place nearer
 abbrev pub nearer : ℕ → ℕ → ℕ
@@ -87,10 +87,14 @@ places_in queues file = unwrap_or (get nat_cmp queues file) []
 abbrev pub NoneEmpty : BTreeMap ℕ (List ℕ) → Type 0
 NoneEmpty queues = (file : ℕ) → get nat_cmp queues file ≢ Some []
 
--- the map has the queue of each file on which someone waits, and no other (TABLE-16)
-abbrev pub AreQueued : BTreeMap ℕ (List ℕ) → List (Option ℕ) → Type 0
-AreQueued queues fs = ((file : ℕ) → places_in queues file ≡ places_on file fs) × NoneEmpty queues
+-- the map has the queue of each file on which someone waits, and no other; the first of all who wait has this place (TABLE-16)
+abbrev pub AreQueued : ℕ → BTreeMap ℕ (List ℕ) → List (Option ℕ) → Type 0
+AreQueued first queues fs = ((file : ℕ) → places_in queues file ≡ places_from first file fs) × NoneEmpty queues
 
 -- one more stands at this place in the queue of its file, if it has one
 abbrev pub one_more : ℕ → Option ℕ → ℕ → List ℕ
 one_more file own place = if is_file file own then place ∷ [] else []
+
+-- once the first of all is gone, its place stands first in the queue of its file no more
+abbrev pub passed : ℕ → Option ℕ → List ℕ → List ℕ
+passed file own places = if is_file file own then drop 1 places else places

@@ -1,9 +1,9 @@
 //! The queue of each file: the places of those who wait on it.
-ghost use Rattle.std.specs.Prelude.{◌≡◌, ℕ, ◌++◌, [], ◌∷◌, map, false, Some, OnOk, OnErr, IfOk};
+ghost use Rattle.std.specs.Prelude.{◌≡◌, ℕ, ◌++◌, [], ◌∷◌, drop, map, false, Some, OnOk, OnErr, IfOk};
 ghost use Rattle.std.specs.BTreeMap.{get};
 ghost use Rattle.std.specs.Option.{option_map};
 ghost use Rattle.std.specs.Ordering.{nat_cmp};
-ghost use Rattle.xl_wait.specs.Waiting.{first_file, is_file, places_in, one_more, nearer, closed_up, NoneEmpty};
+ghost use Rattle.xl_wait.specs.Waiting.{first_file, is_file, places_in, one_more, nearer, closed_up, passed, NoneEmpty};
 
 use std::alloc::{AllocError, Global};
 use std::collections::BTreeMap;
@@ -134,4 +134,37 @@ pub(crate) fn leave_place(alloc: Global, queues: &mut Queues, file: Option<u32>,
 {
     close_all(alloc, queues, at);
     drop_empty(queues, file);
+}
+
+/// The places behind the first.
+fn behind_first(places: Sequence<usize>) -> Sequence<usize>
+    ensures { result ≡ drop 1 places }
+{
+    let mut places = places.into_vec();
+    if !places.as_slice().is_empty() {
+        places.remove(0);
+    }
+    Sequence::from_vec(places)
+}
+
+/// Takes the first place out of a file's queue.
+fn pass_on(alloc: Global, queues: &mut Queues, file: u32)
+    ensures places { (f : ℕ) → places_in queues.new f ≡ passed f (Some file) (places_in queues.old f) }
+    ensures others { (f : ℕ) → is_file f (Some file) ≡ false → get nat_cmp queues.new f ≡ get nat_cmp queues.old f }
+{
+    if let Some(places) = queues.get_mut(&file) {
+        let own = mem::replace(places, Sequence::new(alloc));
+        *places = behind_first(own);
+    }
+}
+
+/// Takes the place of the first of all, who waited on this file, out of its queue. It takes no memory.
+pub(crate) fn pass_place(alloc: Global, queues: &mut Queues, file: Option<u32>)
+    ensures places { (f : ℕ) → places_in queues.new f ≡ passed f file (places_in queues.old f) }
+    ensures filled { NoneEmpty queues.old → NoneEmpty queues.new }
+{
+    if let Some(own) = file {
+        pass_on(alloc, queues, own);
+        drop_empty(queues, file);
+    }
 }

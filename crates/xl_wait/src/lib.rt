@@ -3,6 +3,7 @@
 
 mod changing;
 mod files;
+mod line;
 mod listing;
 mod queue;
 mod waiter;

@@ -97,28 +97,24 @@ fn waits_on(waiter: &Waiter, file: u32) -> bool {
     matches!(waiter.asked.as_slice(), [claim, ..] if claim.file == file)
 }
 
-/// The places of those who wait on a file, as a walk over all who wait finds them.
-fn places_on(alloc: Global, queue: &Queue, file: u32) -> Result<Vec<usize>, AllocError> {
-    let mut places = Vec::new(alloc);
-    for (place, waiter) in queue.waiters().iter().enumerate() {
+/// Whether a file's queue is what a walk over all who wait finds.
+fn is_queued(queue: &Queue, file: u32) -> bool {
+    let mut count = 0usize;
+    for waiter in queue.waiters() {
         if waits_on(waiter, file) {
-            places.push(place)?;
+            if !is_waiter(queue.nth_on(file, count), waiter.id) {
+                return false;
+            }
+            count = count.saturating_add(1);
         }
     }
-    Ok(places)
+    queue.nth_on(file, count).is_none()
 }
 
-fn is_queued(alloc: Global, queue: &Queue, file: u32) -> bool {
-    match places_on(alloc, queue, file) {
-        Ok(places) => places.as_slice() == queue.on(file),
-        Err(_) => false,
-    }
-}
-
-/// Whether the queue of each file, by its number, is what a walk over all who wait finds.
-fn are_queued(alloc: Global, queue: &Queue) -> bool {
+/// Whether the queue of each file, by its number, is so.
+fn are_queued(queue: &Queue) -> bool {
     for file in 0..4u32 {
-        if !is_queued(alloc, queue, file) {
+        if !is_queued(queue, file) {
             return false;
         }
     }
@@ -128,7 +124,7 @@ fn are_queued(alloc: Global, queue: &Queue) -> bool {
 /// Whether the queues are so while waiters come on three files.
 fn queues_grow(alloc: Global, queue: &mut Queue) -> bool {
     for id in 0..9u32 {
-        if pushes_on(alloc, queue, id, None, 1 + id % 3) != 0 || !are_queued(alloc, queue) {
+        if pushes_on(alloc, queue, id, None, 1 + id % 3) != 0 || !are_queued(queue) {
             return false;
         }
     }
@@ -136,17 +132,21 @@ fn queues_grow(alloc: Global, queue: &mut Queue) -> bool {
 }
 
 /// Whether they are so while the first, one between and the last leave.
-fn queues_shrink(alloc: Global, queue: &mut Queue) -> bool {
+fn queues_shrink(queue: &mut Queue) -> bool {
     for id in [0u32, 4, 8, 3, 6] {
-        if !cancels(queue, id) || !are_queued(alloc, queue) {
+        if !cancels(queue, id) || !are_queued(queue) {
             return false;
         }
     }
-    !queue.waits_on(1) && queue.waits_on(2) && matches!(queue.on(3), [1, 2])
+    !queue.waits_on(1)
+        && queue.waits_on(2)
+        && is_waiter(queue.nth_on(3, 0), 2)
+        && is_waiter(queue.nth_on(3, 1), 5)
+        && queue.nth_on(3, 2).is_none()
 }
 
 fn queues_keep(alloc: Global, queue: &mut Queue) -> bool {
-    queues_grow(alloc, queue) && queues_shrink(alloc, queue)
+    queues_grow(alloc, queue) && queues_shrink(queue)
 }
 
 fn are_left(queue: &Queue, ids: &[u32]) -> bool {
@@ -169,14 +169,31 @@ fn queues_pass(alloc: Global, queue: &mut Queue) -> bool {
         && are_left(queue, &[0, 1, 2, 3, 4, 5, 6, 7, 8])
         && cancels_all(queue, &[6])
         && are_left(queue, &[0, 1, 2, 3, 4, 5, 7, 8])
-        && are_queued(alloc, queue)
+        && are_queued(queue)
         && cancels_all(queue, &[1, 3, 4, 8])
         && are_left(queue, &[0, 2, 5, 7])
-        && are_queued(alloc, queue)
+        && are_queued(queue)
         && !queue.waits_on(0)
         && cancels_all(queue, &[0, 2, 5, 7])
         && queue.is_empty()
-        && are_queued(alloc, queue)
+        && are_queued(queue)
+}
+
+/// Whether the queues are so while the first leaves again and again, and another comes each time.
+fn queues_move_on(alloc: Global, queue: &mut Queue) -> bool {
+    if !queues_grow(alloc, queue) {
+        return false;
+    }
+    for id in 0..9u32 {
+        if !cancels(queue, id)
+            || !are_queued(queue)
+            || pushes_on(alloc, queue, 9 + id, None, 1 + id % 2) != 0
+            || !are_queued(queue)
+        {
+            return false;
+        }
+    }
+    are_left(queue, &[9, 10, 11, 12, 13, 14, 15, 16, 17])
 }
 
 #[test]
@@ -184,6 +201,7 @@ fn waiters_come_and_go(rt: HostRuntime) {
     assert!(rt; come_and_go(rt.alloc(), &mut Queue::new(rt.alloc())));
     assert!(rt; queues_keep(rt.alloc(), &mut Queue::new(rt.alloc())));
     assert!(rt; queues_pass(rt.alloc(), &mut Queue::new(rt.alloc())));
+    assert!(rt; queues_move_on(rt.alloc(), &mut Queue::new(rt.alloc())));
 }
 
 fn fills_up(alloc: Global, queue: &mut Queue) -> bool {

@@ -1,0 +1,8 @@
+use Rattle.std.proofs.Common.{◌≡◌, [], drop}
+use Rattle.xl_wait.specs.Waiting.{waiting_on}
+use Rattle.xl_core.specs.Settle.{first_called}
+use Rattle.xl_core.specs.Whole.{state_of}
+use Rattle.xl_core.proofs.settling.first_on.Given as goal
+
+abbrev pub invariant-waiters : goal.invariant-waiters
+invariant-waiters l = first_called (state_of l.parts) [] (drop l.count (waiting_on l.file l.parts.queue)) ≡ first_called (state_of l.parts) [] (waiting_on l.file l.parts.queue)
