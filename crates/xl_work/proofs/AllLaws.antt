@@ -14,7 +14,7 @@ use Rattle.xl_base.specs.declared.lane_end.LaneEnd.TheVariants as lane_end
 use Rattle.xl_desk.specs.Passes.{Goes, IsJoined, IsLooked}
 use Rattle.xl_desk.specs.Turns.{half, halved}
 use Rattle.xl_desk.specs.declared.view.View.{View}
-use Rattle.xl_work.specs.Calls.{RoseBy}
+use Rattle.xl_work.specs.Calls.{RoseAtMost, RoseBy}
 use Rattle.xl_work.specs.Crews.{AreDone, AreFirstTicks, AreOthersServed, AreServed, DoesCaller, DoesLane, Hears, IsCrewLeft, IsCrewServed, IsFirstServed, LeavesLane, TellsCaller, TellsLane, first_caller, first_lane, next_caller, next_lane}
 use Rattle.xl_work.specs.Lives.{IsLaneEnd, IsLeft, LaneLeft, Tally, is_fine, is_whole}
 use Rattle.xl_work.specs.Rests.{ArePlaced, AreRested, IsRested}
@@ -52,8 +52,8 @@ no_ticks_yet told asked = record { are = tt; ticks = none_yet told }
 module _ {O L : Type 0} (t : TellsLane L) (may_halt : List Entry → Halt → Type 0) (open_gate : Bool) where
   -- the lane's pass, and that of its clock, are joined
   pub first_joined : (post : LanePost) (lane : L) (told told' : Option (List Moment)) (b v w u : View O) (d : LaneDone L) → IsLeft open_gate d.end (t.links lane) (halved b) (t.links d.lane) v d.conns.items d.live → IsTimed (is_whole open_gate d.end) (t.counts lane).asked (t.counts d.lane).asked told (half b) told' w
-      → ((z : View O) → Hears v z → Hears w z → IsLaneEnd may_halt open_gate post.turns z (t.counts lane) (t.counts d.lane) d.end) → IsJoined v w u → IsInTime u.first u.seen → IsFirstServed t may_halt open_gate post lane told b told' u d
-  first_joined post lane told told' b v w u d left timed end joined timely =
+      → ((z : View O) → Hears v z → Hears w z → IsLaneEnd may_halt open_gate post.turns z (t.counts lane) (t.counts d.lane) d.end) → RoseAtMost post.turns (t.counts lane).asked (t.counts d.lane).asked → IsJoined v w u → IsInTime u.first u.seen → IsFirstServed t may_halt open_gate post lane told b told' u d
+  first_joined post lane told told' b v w u d left timed end most joined timely =
       let made = joined.made in
       let some_made = left.made in
       let other_made = timed.made in record {
@@ -66,20 +66,21 @@ module _ {O L : Type 0} (t : TellsLane L) (may_halt : List Entry → Halt → Ty
         leaves = record {
           left = left_goes v u 0 open_gate d.end (t.links lane) (t.links d.lane) d.conns.items d.live left.calls joined.goes timely left.lane;
           end = end u (hears_goes v u joined.goes) joined.stops;
+          most = most;
         };
         ticks = timed.ticks;
       }
 
   -- by what the lane's worker was left with
   pub first_done : (post : LanePost) (lane : L) (told told' : Option (List Moment)) (b hb hw v x w u : View O) (d : LaneDone L) (lane2 : L) (why : LaneEnd) (conns2 : List Conn) (live2 : Option Live) → hb ≡ halved b → hw ≡ half b → v ≡ x → d.lane ≡ lane2 → d.end ≡ why → d.conns.items ≡ conns2 → d.live ≡ live2
-      → IsLeft open_gate why (t.links lane) hb (t.links lane2) x conns2 live2 → IsTimed (is_whole open_gate why) (t.counts lane).asked (t.counts lane2).asked told hw told' w → ((z : View O) → Hears x z → Hears w z → IsLaneEnd may_halt open_gate post.turns z (t.counts lane) (t.counts lane2) why) → IsJoined v w u → IsInTime u.first u.seen
+      → IsLeft open_gate why (t.links lane) hb (t.links lane2) x conns2 live2 → IsTimed (is_whole open_gate why) (t.counts lane).asked (t.counts lane2).asked told hw told' w → ((z : View O) → Hears x z → Hears w z → IsLaneEnd may_halt open_gate post.turns z (t.counts lane) (t.counts lane2) why) → RoseAtMost post.turns (t.counts lane).asked (t.counts lane2).asked → IsJoined v w u → IsInTime u.first u.seen
       → IsFirstServed t may_halt open_gate post lane told b told' u d
-  first_done post lane told told' b hb hw v x w u d lane2 why conns2 live2 halved_is half_is view_is lane_is end_is conns_is live_is left timed end joined timely =
+  first_done post lane told told' b hb hw v x w u d lane2 why conns2 live2 halved_is half_is view_is lane_is end_is conns_is live_is left timed end most joined timely =
       first_joined post lane told told' b v w u d
       (subst (λ (z : View O × L × LaneEnd × List Conn × Option Live × View O). IsLeft open_gate z.2 (t.links lane) z.5 (t.links z.1) z.0 z.3 z.4) (λ i. (sym view_is i, sym lane_is i, sym end_is i, sym conns_is i, sym live_is i, halved_is i)) left)
       (subst (λ (z : L × LaneEnd × View O). IsTimed (is_whole open_gate z.1) (t.counts lane).asked (t.counts z.0).asked told z.2 told' w) (λ i. (sym lane_is i, sym end_is i, half_is i)) timed)
       (λ z one two. subst (λ (y : L × LaneEnd). IsLaneEnd may_halt open_gate post.turns z (t.counts lane) (t.counts y.0) y.1) (λ i. (sym lane_is i, sym end_is i)) (end z (subst (λ y. Hears y z) view_is one) two))
-      joined timely
+      (subst (λ (z : L). RoseAtMost post.turns (t.counts lane).asked (t.counts z).asked) (sym lane_is) most) joined timely
 
   -- memory ran out before it had a link
   pub first_starved : (post : LanePost) (lane : L) (told : Option (List Moment)) (b : View O) (d : LaneDone L) → IsLeft open_gate lane_end.NoMemory (t.links lane) b (t.links d.lane) b d.conns.items d.live → d.lane ≡ lane → d.end ≡ lane_end.NoMemory → IsFirstServed t may_halt open_gate post lane told b told b d
@@ -93,6 +94,7 @@ module _ {O L : Type 0} (t : TellsLane L) (may_halt : List Entry → Halt → Ty
     leaves = record {
       left = subst (λ end. LaneLeft 0 open_gate end b.first b.seen (t.links lane) (t.links d.lane) d.conns.items d.live left.calls) (sym is) left.lane;
       end = subst (λ end. IsLaneEnd may_halt open_gate post.turns b (t.counts lane) (t.counts d.lane) end) (sym is) tt;
+      most = subst (λ (z : L). RoseAtMost post.turns (t.counts lane).asked (t.counts z).asked) (sym same) (omega arith);
     };
     ticks = subst (λ (z : LaneEnd × L). AreTicks (is_whole open_gate z.0) (t.counts lane).asked (t.counts z.1).asked told told []) (λ i. (sym is i, sym same i)) (no_ticks_yet told (t.counts lane).asked);
   }
@@ -209,6 +211,7 @@ module _ {O L : Type 0} (t : TellsLane L) (may_halt : List Entry → Halt → Ty
         counts = t.counts d.lane;
         end = kept_end u post.turns (t.counts lane) (t.counts d.lane) e.end d.end rested.end (lane_end_heard may_halt v u (hears_goes v u (goes_then v w u one two)) open_gate post.turns (t.counts lane) (t.counts d.lane) d.end leaves.end);
         quiet = rested.quiet;
+        most = subst (λ n. RoseAtMost post.turns (t.counts lane).asked n) (sym rested.quiet.asked) leaves.most;
       }
 
   pub done_rested : (v w u : View O) (post : LanePost) (ls : List L) (ds es : List (LaneDone L)) (calls : List (ℕ × Event)) → Goes v w → Goes w u → IsInTime u.first u.seen → u.first + length u.seen ≡ v.first + length v.seen → AreRested t open_gate v w ds es → AreDone next_lane (LeavesLane t may_halt open_gate v) post ls ds calls → AreDone next_lane (DoesLane t may_halt open_gate u) post ls es calls

@@ -12,7 +12,7 @@ use Rattle.xl_base.specs.declared.lane_end.LaneEnd.TheVariants as lane_end
 use Rattle.xl_desk.specs.Passes.{Goes, IsJoined}
 use Rattle.xl_desk.specs.Turns.{half, halved}
 use Rattle.xl_desk.specs.declared.view.View.{View}
-use Rattle.xl_work.specs.Calls.{CallerMade, IsCut, IsEnd, RoseBy}
+use Rattle.xl_work.specs.Calls.{CallerMade, IsCut, IsEnd, RoseAtMost, RoseBy}
 use Rattle.xl_work.specs.Crews.{AreDone, AreServed, DoesCaller, Hears, LeavesLane, TellsCaller, TellsLane, next_caller, next_lane}
 use Rattle.xl_work.specs.Lives.{IsBroken, IsLaneEnd, IsOwnEnd, IsQuiet, IsTurnEnd, Tally, is_whole}
 use Rattle.xl_work.specs.declared.calls.CallerPost.{CallerPost}
@@ -150,6 +150,7 @@ module _ {O L : Type 0} (t : TellsLane L) (may_halt : List Entry → Halt → Ty
   leaves_goes v w goes timely post lane d calls leaves = record {
     left = left_goes v w 0 open_gate d.end (t.links lane) (t.links d.lane) d.conns.items d.live calls goes timely leaves.left;
     end = lane_end_heard may_halt v w (hears_goes v w goes) open_gate post.turns (t.counts lane) (t.counts d.lane) d.end leaves.end;
+    most = leaves.most;
   }
 
 module _ {O C : Type 0} (t : TellsCaller C) (may_halt : List Entry → Halt → Type 0) (open_gate : Bool) where
@@ -157,6 +158,7 @@ module _ {O C : Type 0} (t : TellsCaller C) (may_halt : List Entry → Halt → 
   does_goes start v w goes post caller d calls does = record {
     made = subst (λ (z : ℕ × List Entry). CallerMade post start z.0 z.1 (t.calls caller) (t.calls d.caller) calls) (λ i. (sym goes.first i, goes.seen.1 i)) (caller_grows post start v.first v.seen goes.seen.0 (t.calls caller) (t.calls d.caller) calls does.made);
     end = calls_end_heard may_halt v w (hears_goes v w goes) open_gate post.turns (t.asked caller) (t.asked d.caller) d.end does.end;
+    most = does.most;
   }
 
 -- ---- both halves
@@ -239,6 +241,17 @@ turn_waited may_halt v open_gate turns a c lane_end.End is whole = (whole, is.1)
 turn_waited may_halt v open_gate turns a c (lane_end.Failed count) is whole = (whole, is.1)
 turn_waited may_halt v open_gate turns a c (lane_end.Stopped reason count) is whole = absurd (cc whole)
 turn_waited may_halt v open_gate turns a c lane_end.NoMemory is whole = absurd (cc whole)
+
+-- one more was counted
+pub counted_once : (before now : ℕ) → now ≡ counted before → RoseAtMost 1 before now
+counted_once before now is = subst (λ n. n ≤ before + 1) (sym is) (at_most before)
+  where
+    at_most : (n : ℕ) → counted n ≤ n + 1
+    at_most n = grind (arith, nat_tests)
+
+-- of so many turns the last is over
+pub once_more : (done turns before now after : ℕ) → RoseAtMost done before now → RoseAtMost 1 now after → done < turns → RoseAtMost turns before after
+once_more done turns before now after rose once more = omega arith
 
 pub rose_more : (n before now after : ℕ) → RoseBy n before now → after ≡ counted now → RoseBy (n + 1) before after
 rose_more n before now after rose is below =

@@ -137,6 +137,10 @@ pub record IsGoing {O : Type 0} (post : CallerPost) (told : Option (List Asked))
 abbrev pub RoseBy : ℕ → ℕ → ℕ → Type 0
 RoseBy n before now = now < 2 ^ 64 - 1 → now ≡ before + n
 
+-- a count rose by at most so many
+abbrev pub RoseAtMost : ℕ → ℕ → ℕ → Type 0
+RoseAtMost n before now = now ≤ before + n
+
 -- why a worker's turns were cut off: the machine is halted for a reason that may come there, and the pass has seen just so many
 -- entries; or memory ran out
 abbrev pub IsCut : {O : Type 0} → (List Entry → Halt → Type 0) → View O → LaneEnd → Type 0

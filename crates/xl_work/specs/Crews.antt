@@ -8,7 +8,7 @@ use Rattle.xl_base.specs.declared.journal.Entry.{Entry}
 use Rattle.xl_base.specs.declared.lane.Link.{Link}
 use Rattle.xl_desk.specs.declared.view.View.{View}
 use Rattle.xl_desk.specs.Passes.{Goes}
-use Rattle.xl_work.specs.Calls.{CallerMade, IsEnd}
+use Rattle.xl_work.specs.Calls.{CallerMade, IsEnd, RoseAtMost}
 use Rattle.xl_work.specs.Lives.{LaneLeft, LaneTold, IsLaneEnd, IsQuiet, Tally, tally, is_whole}
 use Rattle.xl_work.specs.Ticks.{AreTicks}
 use Rattle.xl_work.specs.declared.all.Crew.{Crew}
@@ -67,24 +67,27 @@ pub record AreServed {O P W D : Type 0} (next : P → P) (is : View O → P → 
   pub each : AreDone next (is after) post workers done calls
 
 module _ {O L : Type 0} (t : TellsLane L) (may_halt : List Entry → Halt → Type 0) (open_gate : Bool) where
-  -- what a lane left behind, and why it ended
+  -- what a lane left behind, and why it ended, after no more turns than its post has
   pub record LeavesLane (v : View O) (post : LanePost) (lane : L) (d : LaneDone L) (calls : List (ℕ × Event)) : Type 0 where
     pub left : LaneLeft 0 open_gate d.end v.first v.seen (t.links lane) (t.links d.lane) d.conns.items d.live calls
     pub end : IsLaneEnd may_halt open_gate post.turns v (t.counts lane) (t.counts d.lane) d.end
+    pub most : RoseAtMost post.turns (t.counts lane).asked (t.counts d.lane).asked
 
   -- What a lane came to, and why it ended: a last link that it left open was sent the rest of what the journal sends to it, by one
-  -- send more, which may have failed.
+  -- send more, which may have failed. It had no more turns than its post has.
   pub record DoesLane (v : View O) (post : LanePost) (lane : L) (d : LaneDone L) (calls : List (ℕ × Event)) : Type 0 where
     pub told : LaneTold 1 open_gate d.end v.first v.seen (t.links lane) (t.links d.lane) d.conns.items calls
     pub counts : Tally
     pub end : IsLaneEnd may_halt open_gate post.turns v (t.counts lane) counts d.end
     pub quiet : IsQuiet counts (t.counts d.lane)
+    pub most : RoseAtMost post.turns (t.counts lane).asked (t.counts d.lane).asked
 
 module _ {O C : Type 0} (t : TellsCaller C) (may_halt : List Entry → Halt → Type 0) (open_gate : Bool) where
-  -- what a caller made, which had seen all before the place `start` at first, and why it ended
+  -- what a caller made, which had seen all before the place `start` at first, and why it ended, after no more turns than its post has
   pub record DoesCaller (start : ℕ) (v : View O) (post : CallerPost) (caller : C) (d : CallsDone C) (calls : List (ℕ × Event)) : Type 0 where
     pub made : CallerMade post start v.first v.seen (t.calls caller) (t.calls d.caller) calls
     pub end : IsEnd may_halt open_gate post.turns v (t.asked caller) (t.asked d.caller) d.end
+    pub most : RoseAtMost post.turns (t.asked caller) (t.asked d.caller)
 
 -- ---- the first lane
 

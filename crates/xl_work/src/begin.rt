@@ -7,6 +7,7 @@ ghost use Rattle.xl_base.specs.declared.lane.Link.{Link as TheLink};
 ghost use Rattle.xl_base.specs.declared.lane_end.LaneEnd.TheVariants as lane_end;
 ghost use Rattle.xl_frame.specs.Cutting.{fed};
 ghost use Rattle.xl_desk.specs.declared.view.View.{View as TheView};
+ghost use Rattle.xl_work.specs.Calls.{RoseAtMost};
 ghost use Rattle.xl_work.specs.Lives.{Nothing, Unopened, IsServing, IsLeft, HasPlace, IsSettled, IsBroken, IsTurnEnd, IsQuiet, HasAsked, Carries, Loses, tally, all_conns, is_bad};
 
 use crate::lane::{ask, enter};
@@ -124,6 +125,7 @@ fn next_link<H: Serial, G: Gate, L: Lane, R: Wait>(
     ensures done { OnOk result ((worker.old.done ≤ worker.new.done) × (worker.new.done < post.turns)) }
     ensures passes { G.is_open gate.now ≡ true → worker.new.done ≡ worker.old.done }
     ensures asked { OnOk result (HasAsked (tally L.asked L.lost L.faults L.ended worker.old.lane) (tally L.asked L.lost L.faults L.ended worker.new.lane)) }
+    ensures once { RoseAtMost 1 (L.asked worker.old.lane) (L.asked worker.new.lane) }
     ensures end { IfErr result (λ end. IsTurnEnd H.may_halt (G.is_open gate.now) post.turns worker.new.pass.view (tally L.asked L.lost L.faults L.ended worker.old.lane) (tally L.asked L.lost L.faults L.ended worker.new.lane) end) }
 {
     match worker.lane.next() {
@@ -158,6 +160,7 @@ pub(crate) fn begin<H: Serial, G: Gate, L: Lane, R: Wait>(
     ensures done { OnOk result ((worker.old.done ≤ worker.new.done) × (worker.new.done < post.turns)) }
     ensures passes { G.is_open gate.now ≡ true → worker.new.done ≡ worker.old.done }
     ensures asked { OnOk result (HasAsked (tally L.asked L.lost L.faults L.ended worker.old.lane) (tally L.asked L.lost L.faults L.ended worker.new.lane)) }
+    ensures once { RoseAtMost 1 (L.asked worker.old.lane) (L.asked worker.new.lane) }
     ensures end { IfErr result (λ end. IsTurnEnd H.may_halt (G.is_open gate.now) post.turns worker.new.pass.view (tally L.asked L.lost L.faults L.ended worker.old.lane) (tally L.asked L.lost L.faults L.ended worker.new.lane) end) }
 {
     let Some(live) = &mut worker.live else {

@@ -5,7 +5,7 @@ ghost use Rattle.xl_base.specs.declared.caller.Asked.{Asked as TheAsked};
 ghost use Rattle.xl_base.specs.declared.event.Event.TheVariants.{Called};
 ghost use Rattle.xl_base.specs.declared.lane_end.LaneEnd.TheVariants as lane_end;
 ghost use Rattle.xl_desk.specs.declared.view.View.{View as TheView};
-ghost use Rattle.xl_work.specs.Calls.{AreMade, IsGoing, IsCut, IsEnd, number_of, answer_of};
+ghost use Rattle.xl_work.specs.Calls.{AreMade, IsGoing, IsCut, IsEnd, RoseAtMost, number_of, answer_of};
 
 use crate::lane::end_of;
 use crate::worker::call_number;
@@ -83,6 +83,7 @@ fn turn<H: Serial, C: Caller, R: Wait>(
     ensures going { (told : Option (List TheAsked)) (before : TheView H.Origin) → IsGoing post told before (C.told calling.old.caller) pass.old.view calling.old.from calling.old.last → OnOk result (IsGoing post told before (C.told calling.new.caller) pass.new.view calling.new.from calling.new.last) }
     ensures made { (told : Option (List TheAsked)) (before : TheView H.Origin) → IsGoing post told before (C.told calling.old.caller) pass.old.view calling.old.from calling.old.last → OnErr result (AreMade post told before (C.told calling.new.caller) pass.new.view) }
     ensures asked { OnOk result (C.asked calling.new.caller ≡ counted (C.asked calling.old.caller)) }
+    ensures once { RoseAtMost 1 (C.asked calling.old.caller) (C.asked calling.new.caller) }
     ensures runs { OnOk result (pass.new.view.halt ≡ None) }
     ensures cut { IfErr result (λ end. IsCut H.may_halt pass.new.view end) }
 {
@@ -139,7 +140,8 @@ pub fn serve_calls<H: Serial, G: Gate, C: Caller, R: Wait>(
     ensures desk { pass.new.desk ≡ pass.old.desk }
     ensures made { AreMade post (C.told caller) pass.old.view (C.told result.caller) pass.new.view }
     ensures end { IsEnd H.may_halt (G.is_open gate.now) post.turns pass.new.view (C.asked caller) (C.asked result.caller) result.end }
-    // A caller that isn't held back does all its turns only while the machine runs.
+    ensures most { RoseAtMost post.turns (C.asked caller) (C.asked result.caller) }
+    // If a caller that isn't held back did all its turns, its pass had seen no halt by the end of the last one.
     ensures runs { G.is_open gate.now ≡ true → 0 < post.turns → (n : ℕ) → result.end ≡ lane_end.Turns n → pass.new.view.halt ≡ None }
 {
     let from = desk.first(rt, pass);

@@ -10,7 +10,7 @@ ghost use Rattle.xl_base.specs.Readings.{Reads};
 ghost use Rattle.xl_desk.specs.declared.view.View.{View as TheView};
 ghost use Rattle.xl_desk.specs.Passes.{Goes, MadeNone, IsCalled};
 ghost use Rattle.xl_work.specs.Ticks.{IsTicking, IsTimed, first_of, moment_of, is_due, no_ticks, read, read_all};
-ghost use Rattle.xl_work.specs.Calls.{RoseBy};
+ghost use Rattle.xl_work.specs.Calls.{RoseAtMost, RoseBy};
 ghost use Rattle.xl_work.specs.Crews.{Hears, IsFirstServed, tells_lane};
 ghost use Rattle.xl_work.specs.Lives.{Nothing, IsServing, IsLeft, HasPlace, HasRoom, HasAsked, IsCaught, IsSettled, IsEmptied, IsBroken, IsTurnEnd, IsLaneEnd, IsQuiet, is_whole, still, tally, all_conns};
 
@@ -233,6 +233,7 @@ fn timed_turn<H: Serial, G: Gate, L: Lane, R: Wait>(
     ensures room { OnOk result (vec_len timed.new.worker.conns < vec_capacity timed.new.worker.conns) }
     ensures kept { HasRoom (vec_len timed.new.worker.conns) (vec_capacity timed.new.worker.conns) timed.new.worker.live }
     ensures asked { OnOk result (HasAsked (tally L.asked L.lost L.faults L.ended timed.old.worker.lane) (tally L.asked L.lost L.faults L.ended timed.new.worker.lane)) }
+    ensures once { RoseAtMost 1 (L.asked timed.old.worker.lane) (L.asked timed.new.worker.lane) }
     ensures runs { OnOk result (timed.new.worker.pass.view.halt ≡ None) }
     ensures held { IfErr result (λ end. (n : ℕ) → end ≡ lane_end.Turns n → G.is_open gate.now ≡ false) }
     ensures ticking { (open_gate : Bool) (done : ℕ) (told told2 told3 : Option (List TheMoment)) (before : TheView H.Origin) → IsTicking open_gate timed.old.ticks done told before told2 timed.old.pass.view → Follows told2 told3 (Reads reading) → OnOk result (IsTicking open_gate timed.new.ticks (done + 1) told before told3 timed.new.pass.view) }
@@ -267,7 +268,8 @@ fn serve_timed<H: Serial, G: Gate, L: Lane, T: Clock, R: Wait>(
     ensures left { (told : Option (List TheLink)) (before : TheView H.Origin) → IsServing told before (L.told timed.old.worker.lane) timed.old.worker.pass.view timed.old.worker.conns.items timed.old.worker.live Nothing → IsLeft (G.is_open gate.now) result told before (L.told timed.new.worker.lane) timed.new.worker.pass.view (all_conns timed.new.worker.conns.items timed.new.worker.live) timed.new.worker.live }
     ensures timed { IsTimed (is_whole (G.is_open gate.now) result) (L.asked timed.old.worker.lane) (L.asked timed.new.worker.lane) (T.told clock.old) timed.old.pass.view (T.told clock.new) timed.new.pass.view }
     ensures end { (v : TheView H.Origin) → Hears timed.new.worker.pass.view v → Hears timed.new.pass.view v → IsLaneEnd H.may_halt (G.is_open gate.now) post.turns v (tally L.asked L.lost L.faults L.ended timed.old.worker.lane) (tally L.asked L.lost L.faults L.ended timed.new.worker.lane) result }
-    // A first lane that isn't held back does all its turns only while the machine runs.
+    ensures most { RoseAtMost post.turns (L.asked timed.old.worker.lane) (L.asked timed.new.worker.lane) }
+    // If a first lane that isn't held back did all its turns, its pass had seen no halt by the end of the last one.
     ensures runs { G.is_open gate.now ≡ true → 0 < post.turns → (n : ℕ) → result ≡ lane_end.Turns n → timed.new.worker.pass.view.halt ≡ None }
 {
     'turns: while timed.worker.done < post.turns {

@@ -5,6 +5,7 @@ ghost use Rattle.xl_base.specs.declared.event.Kind.{Kind as TheKind};
 ghost use Rattle.xl_base.specs.declared.lane.Link.{Link as TheLink};
 ghost use Rattle.xl_base.specs.declared.lane_end.LaneEnd.TheVariants as lane_end;
 ghost use Rattle.xl_desk.specs.declared.view.View.{View as TheView};
+ghost use Rattle.xl_work.specs.Calls.{RoseAtMost};
 ghost use Rattle.xl_work.specs.Lives.{Nothing, IsServing, IsServed, IsLeft, HasPlace, HasRoom, IsCaught, IsSettled, IsEmptied, IsBroken, IsTurnEnd, IsLaneEnd, IsQuiet, HasAsked, tally, all_conns};
 
 use crate::begin::begin;
@@ -53,8 +54,8 @@ fn finish<H: Serial, G: Gate, L: Lane, R: Wait>(
     Ok(())
 }
 
-/// One turn: a wait, what it gave, and a look at the journal, of which all is sent that goes to the link. Another one follows only
-/// while the machine runs (THREAD-12).
+/// One turn: a wait, what it gave, and a look at the journal, of which all is sent that goes to the link. At its end the halt is
+/// looked for, behind which no turn follows (THREAD-12).
 pub(crate) fn turn<H: Serial, G: Gate, L: Lane, R: Wait>(
     rt: &R,
     alloc: Global,
@@ -84,6 +85,7 @@ pub(crate) fn turn<H: Serial, G: Gate, L: Lane, R: Wait>(
     ensures kept { HasRoom (vec_len worker.new.conns) (vec_capacity worker.new.conns) worker.new.live }
     ensures runs { OnOk result (worker.new.pass.view.halt ≡ None) }
     ensures asked { OnOk result (HasAsked (tally L.asked L.lost L.faults L.ended worker.old.lane) (tally L.asked L.lost L.faults L.ended worker.new.lane)) }
+    ensures once { RoseAtMost 1 (L.asked worker.old.lane) (L.asked worker.new.lane) }
     ensures end { IfErr result (λ end. IsTurnEnd H.may_halt (G.is_open gate.now) post.turns worker.new.pass.view (tally L.asked L.lost L.faults L.ended worker.old.lane) (tally L.asked L.lost L.faults L.ended worker.new.lane) end) }
 {
     begin(rt, alloc, desk, gate, post, worker)?;
@@ -114,6 +116,7 @@ fn serve<H: Serial, G: Gate, L: Lane, R: Wait>(
     ensures kept { HasRoom (vec_len worker.new.conns) (vec_capacity worker.new.conns) worker.new.live }
     ensures served { (told : Option (List TheLink)) (before : TheView H.Origin) → IsServing told before (L.told worker.old.lane) worker.old.pass.view worker.old.conns.items worker.old.live Nothing → IsLeft (G.is_open gate.now) result told before (L.told worker.new.lane) worker.new.pass.view (all_conns worker.new.conns.items worker.new.live) worker.new.live }
     ensures end { IsLaneEnd H.may_halt (G.is_open gate.now) post.turns worker.new.pass.view (tally L.asked L.lost L.faults L.ended worker.old.lane) (tally L.asked L.lost L.faults L.ended worker.new.lane) result }
+    ensures most { RoseAtMost post.turns (L.asked worker.old.lane) (L.asked worker.new.lane) }
     ensures runs { G.is_open gate.now ≡ true → 0 < post.turns → (n : ℕ) → result ≡ lane_end.Turns n → worker.new.pass.view.halt ≡ None }
 {
     'turns: while worker.done < post.turns {
@@ -178,6 +181,7 @@ pub(crate) fn leave_lane<H: Serial, G: Gate, L: Lane, R: Wait>(
     ensures desk { result.0.desk ≡ pass.desk }
     ensures left { IsLeft (G.is_open gate.now) result.1.end (L.told lane) pass.view (L.told result.1.lane) result.0.view result.1.conns.items result.1.live }
     ensures end { IsLaneEnd H.may_halt (G.is_open gate.now) post.turns result.0.view (tally L.asked L.lost L.faults L.ended lane) (tally L.asked L.lost L.faults L.ended result.1.lane) result.1.end }
+    ensures most { RoseAtMost post.turns (L.asked lane) (L.asked result.1.lane) }
     ensures runs { G.is_open gate.now ≡ true → 0 < post.turns → (n : ℕ) → result.1.end ≡ lane_end.Turns n → result.0.view.halt ≡ None }
 {
     let Ok(conns) = Vec::with_capacity(alloc, 1) else {
@@ -219,7 +223,8 @@ pub fn serve_lane<H: Serial, G: Gate, L: Lane, R: Wait>(
     ensures desk { result.0.desk ≡ pass.desk }
     ensures served { IsServed (G.is_open gate.now) result.1.end (L.told lane) pass.view (L.told result.1.lane) result.0.view result.1.conns.items }
     ensures end { IsLaneEnd H.may_halt (G.is_open gate.now) post.turns result.0.view (tally L.asked L.lost L.faults L.ended lane) (tally L.asked L.lost L.faults L.ended result.1.lane) result.1.end }
-    // A lane that isn't held back does all its turns only while the machine runs.
+    ensures most { RoseAtMost post.turns (L.asked lane) (L.asked result.1.lane) }
+    // If a lane that isn't held back did all its turns, its pass had seen no halt by the end of the last one.
     ensures runs { G.is_open gate.now ≡ true → 0 < post.turns → (n : ℕ) → result.1.end ≡ lane_end.Turns n → result.0.view.halt ≡ None }
 {
     leave_lane(rt, alloc, desk, gate, pass, post, lane)

@@ -8,6 +8,7 @@ turns-init g c = record {
   low = omega (arith, c.first-from.ensures.first);
   high = omega (arith, c.first-from.ensures.first);
   going = going_begins c.args.post (g.C.Caller.told c.args.caller) c.args.pass.now.view c.first-from.new.pass.view c.first-from.result c.first-from.ensures.looked c.first-from.ensures.first;
+  most = omega arith;
   runs = λ _ some. absurd (omega arith);
   asked = λ _ _. omega arith;
 }
@@ -23,6 +24,7 @@ turns-preserved-then-not-pass g c =
       low = omega arith;
       high = omega arith;
       going = going_looked c.args.post (g.C.Caller.told c.args.caller) c.args.pass.now.view _ _ _ _ _ c.turns.invariant.going looked;
+      most = (let so_far = c.turns.invariant.most in omega arith);
       runs = λ open_gate. absurd (cc (c.pass.ensures.open open_gate, c.if-not-pass.true));
       asked = λ open_gate. absurd (cc (c.pass.ensures.open open_gate, c.if-not-pass.true));
     }

@@ -28,5 +28,5 @@ returns-clause-served g c =
     c.args.pass.view cut c.split-own.result.view c.done_of-pass.result.0.view served.worker.pass.view served.pass.view c.join.new.pass.view c.done_of-pass.result.1 served.worker.lane c.serve_timed-end.result _ served.worker.live
     c.split-own.ensures.pass c.split-own.ensures.new (λ i. (c.done_of-pass.ensures.pass i).view) same.0 same.1 c.done_of-pass.ensures.conns same.2
     (c.serve_timed-end.ensures.left told cut (subst (λ conns. IsServing told cut told cut conns None Nothing) (sym c.in-Ok.ensures.items) (serving_begins told cut)))
-    c.serve_timed-end.ensures.timed c.serve_timed-end.ensures.end c.join.ensures.joined
+    c.serve_timed-end.ensures.timed c.serve_timed-end.ensures.end c.serve_timed-end.ensures.most c.join.ensures.joined
     (in_time_of g.H.Serial.first g.H.Serial.lawful c.join.new.pass.view g.H.Serial.in_time c.join.ensures.lawful)

@@ -4,7 +4,7 @@ use Rattle.xl_work.specs.Lives.{HasPlace, IsCaught, IsSettled}
 use Rattle.xl_work.specs.Ticks.{IsTicking}
 use Rattle.xl_work.specs.declared.first.Ticks.{Ticks}
 use Rattle.xl_work.proofs.LifeLaws.{serving_done}
-use Rattle.xl_work.proofs.CrewLaws.{rose_more}
+use Rattle.xl_work.proofs.CrewLaws.{once_more, rose_more}
 use Rattle.xl_work.proofs.TickLaws.{ticking_begins, ticking_done}
 use Rattle.xl_work.proofs.first.serve_timed.Goals as goal
 
@@ -21,6 +21,7 @@ turns-init g c =
       done = omega (arith, c.requires.idle.1);
       serving = λ told before s. s;
       asked = λ _ _. omega (arith, c.requires.idle.1);
+      most = omega arith;
       lost = refl;
       runs = λ some. absurd (omega (arith, c.requires.idle.1));
       later = omega arith;
@@ -53,6 +54,7 @@ turns-preserved g c =
       done = e.done.1;
       serving = λ links since s. e.serving links since (inv.serving links since s);
       asked = λ is. subst (λ n. RoseBy n (g.L.Lane.asked c.args.timed.now.worker.lane) (g.L.Lane.asked c.timed_turn.new.timed.worker.lane)) (sym (e.passes is)) (rose_more c.turns.timed.worker.done (g.L.Lane.asked c.args.timed.now.worker.lane) (g.L.Lane.asked c.turns.timed.worker.lane) (g.L.Lane.asked c.timed_turn.new.timed.worker.lane) (inv.asked is) e.asked.asked);
+      most = once_more c.turns.timed.worker.done c.timed_turn.new.timed.worker.done (g.L.Lane.asked c.args.timed.now.worker.lane) (g.L.Lane.asked c.turns.timed.worker.lane) (g.L.Lane.asked c.timed_turn.new.timed.worker.lane) inv.most e.once e.done.0;
       lost = e.asked.lost ∙ inv.lost;
       runs = λ _. e.runs;
       later = (let one = inv.later in let two = e.asked.later in omega arith);
