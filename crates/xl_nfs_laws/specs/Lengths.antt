@@ -4,6 +4,7 @@ use Rattle.xl_nfs.specs.Basics.{stateid}
 use Rattle.xl_nfs.specs.Clients.{client_confirm}
 use Rattle.xl_nfs.specs.Locks.{denied}
 use Rattle.xl_nfs.specs.Results.{ResultFits}
+use Rattle.xl_nfs_opens.specs.Operations.{op_close, op_lock, op_open, op_open_confirm, op_open_downgrade, op_unlock}
 use Rattle.xl_nfs_opens.specs.Results.{denied_item, ended_as}
 use Rattle.xl_nfs_opens.specs.declared.told.Told.{Told}
 use Rattle.xl_nfs_opens.specs.declared.told.Told.TheVariants.{Ended, Client, Opened, State, Denied}
@@ -19,4 +20,4 @@ PartsFit number _ = Unit {0}
 
 -- an operation by an owner's seqid: CLOSE, LOCK, LOCKU, OPEN, OPEN_CONFIRM, OPEN_DOWNGRADE
 abbrev pub has_seqid : ℕ → Bool
-has_seqid number = (number == 4) || ((number == 12) || ((number == 14) || ((number == 18) || ((number == 20) || (number == 21)))))
+has_seqid number = (number == op_close) || ((number == op_lock) || ((number == op_unlock) || ((number == op_open) || ((number == op_open_confirm) || (number == op_open_downgrade)))))

@@ -10,6 +10,7 @@ use Rattle.xl_nfs.specs.Statuses.{status_number}
 use Rattle.xl_nfs.specs.declared.basics.Stateid.{Stateid}
 use Rattle.xl_nfs.specs.declared.status.NfsStatus.{NfsStatus}
 use Rattle.xl_rpc.specs.Xdr.{unsigned, opaque}
+use Rattle.xl_nfs_opens.specs.Operations.{op_close, op_delegreturn, op_getfh, op_lock, op_lock_test, op_unlock, op_lookup, op_open, op_open_confirm, op_open_downgrade, op_putfh, op_putrootfh, op_renew, op_setclientid, op_setclientid_confirm, op_release_lockowner}
 use Rattle.xl_nfs_opens.specs.declared.told.HeldLock.{HeldLock}
 use Rattle.xl_nfs_opens.specs.declared.told.Told.{Told}
 use Rattle.xl_nfs_opens.specs.declared.told.Told.TheVariants.{Ended, Handle, Client, Opened, State, Free, Denied, Kept}
@@ -17,19 +18,22 @@ use Rattle.xl_nfs_opens.specs.declared.told.Told.TheVariants.{Ended, Handle, Cli
 -- the operation of this number ended so; the result of a number of no operation has a number of its own
 unfoldable pub ended_as : ℕ → NfsStatus → ResultItem
 ended_as number status =
-    if number == 4 then CloseAnswer (Err status) else if number == 8 then DelegReturnAnswer status else if number == 10 then GetFhAnswer (Err status)
-    else if number == 12 then LockAnswer (Err (OtherFault status)) else if number == 13 then LockTAnswer (Err (OtherFault status)) else if number == 14 then LockUAnswer (Err status)
-    else if number == 15 then LookupAnswer status else if number == 18 then OpenAnswer (Err status) else if number == 20 then OpenConfirmAnswer (Err status)
-    else if number == 21 then OpenDowngradeAnswer (Err status) else if number == 22 then PutFhAnswer status else if number == 24 then PutRootFhAnswer status
-    else if number == 30 then RenewAnswer status else if number == 35 then SetClientIdAnswer (Err status) else if number == 36 then SetClientIdConfirmAnswer status
-    else if number == 39 then ReleaseLockOwnerAnswer status
-    else if is_numbered number then NotSupportedAnswer number else IllegalAnswer
+    if number == op_close then CloseAnswer (Err status) else if number == op_delegreturn then DelegReturnAnswer status
+    else if number == op_getfh then GetFhAnswer (Err status) else if number == op_lock then LockAnswer (Err (OtherFault status))
+    else if number == op_lock_test then LockTAnswer (Err (OtherFault status)) else if number == op_unlock then LockUAnswer (Err status)
+    else if number == op_lookup then LookupAnswer status else if number == op_open then OpenAnswer (Err status)
+    else if number == op_open_confirm then OpenConfirmAnswer (Err status) else if number == op_open_downgrade then OpenDowngradeAnswer (Err status)
+    else if number == op_putfh then PutFhAnswer status else if number == op_putrootfh then PutRootFhAnswer status
+    else if number == op_renew then RenewAnswer status else if number == op_setclientid then SetClientIdAnswer (Err status)
+    else if number == op_setclientid_confirm then SetClientIdConfirmAnswer status
+    else if number == op_release_lockowner then ReleaseLockOwnerAnswer status else if is_numbered number then NotSupportedAnswer number
+    else IllegalAnswer
 
 -- the operation of this number gives this stateid
 abbrev pub state_as : ℕ → Stateid → ResultItem
 state_as number stateid =
-    if number == 4 then CloseAnswer (Ok stateid) else if number == 12 then LockAnswer (Ok stateid) else if number == 14 then LockUAnswer (Ok stateid)
-    else if number == 20 then OpenConfirmAnswer (Ok stateid) else OpenDowngradeAnswer (Ok stateid)
+    if number == op_close then CloseAnswer (Ok stateid) else if number == op_lock then LockAnswer (Ok stateid) else if number == op_unlock then LockUAnswer (Ok stateid)
+    else if number == op_open_confirm then OpenConfirmAnswer (Ok stateid) else OpenDowngradeAnswer (Ok stateid)
 
 -- no permissions are sent beside a delegation
 abbrev pub no_permissions : AceItem
@@ -57,7 +61,7 @@ abbrev pub denied_item : HeldLock → DeniedItem
 denied_item h = record { offset = h.offset; len = h.len; kind = h.kind; owner = record { clientid = h.clientid; owner = h.owner } }
 
 abbrev pub denied_as : ℕ → HeldLock → ResultItem
-denied_as number h = if number == 13 then LockTAnswer (Err (DeniedBy (denied_item h))) else LockAnswer (Err (DeniedBy (denied_item h)))
+denied_as number h = if number == op_lock_test then LockTAnswer (Err (DeniedBy (denied_item h))) else LockAnswer (Err (DeniedBy (denied_item h)))
 
 -- what an operation was answered, as its result is spelled
 abbrev pub spelled : ℕ → Told → List ℕ

@@ -5,7 +5,8 @@ use Rattle.xl_base.specs.Lists.{IsIn}
 use Rattle.xl_base.specs.declared.event.Out.{Out}
 use Rattle.xl_base.specs.declared.journal.Exports.{Exports}
 use Rattle.xl_programs.specs.Sent.{sent_to}
-use Rattle.xl_smb.specs.Heads.{head_of}
+use Rattle.xl_smb.specs.Heads.{head_of, number_of}
+use Rattle.xl_smb.specs.declared.command.Command.TheVariants as command
 use Rattle.xl_smb.specs.declared.head.SmbHead.{SmbHead}
 use Rattle.xl_smb_state.specs.State.{Lists, waiting_dropped, waiting_of}
 use Rattle.xl_smb_state.specs.declared.row.Waiting.{Waiting}
@@ -39,9 +40,9 @@ abbrev pub AreFinals : List Effect → List ℕ → Lists → List Out → Type 
 AreFinals told [] l outs = outs ≡ []
 AreFinals told (id ∷ ids) l outs = IfSo (is_cancelled id told) (IsFinalThen (AreFinals told ids) id (waiting_of id l) l outs) (AreFinals told ids l outs)
 
--- A request of this header, which is answered so, has one reply, to its connection; a CANCEL, 12, has none (MS-SMB2 3.3.5.16).
+-- A request of this header, which is answered so, has one reply, to its connection; a CANCEL has none (MS-SMB2 3.3.5.16).
 abbrev pub IsOwnReply : ℕ → SmbHead → Told → List Out → Type 0
-IsOwnReply conn h answer outs = IfSo (h.command == 12) (outs ≡ []) (((answer ≡ said.Nothing) × (outs ≡ [])) ⊎ IsOneTo conn (IsReplyOf h answer) outs)
+IsOwnReply conn h answer outs = IfSo (h.command == number_of command.Cancel) (outs ≡ []) (((answer ≡ said.Nothing) × (outs ≡ [])) ⊎ IsOneTo conn (IsReplyOf h answer) outs)
 
 -- For a message of this header the final replies are sent to those whom it cancels, who waited when it came or came to wait by it, and
 -- its own reply. What has no header of a request meets with silence.

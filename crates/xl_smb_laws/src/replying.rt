@@ -10,6 +10,8 @@ ghost use Rattle.xl_front_smb.specs.Laws.{outcome_of};
 ghost use Rattle.xl_front_smb.specs.Replies.{reply_of};
 ghost use Rattle.xl_front_smb.specs.declared.told.Told.{Told};
 ghost use Rattle.xl_smb.specs.Calls.{CallItem};
+ghost use Rattle.xl_smb.specs.Heads.{number_of};
+ghost use Rattle.xl_smb.specs.declared.command.Command.TheVariants as command;
 ghost use Rattle.xl_smb.specs.declared.head.SmbHead.{SmbHead};
 ghost use Rattle.xl_smb_laws.specs.ReplyHeads.{IsFinalOf, IsReplyOf, KeepsHead, cancelled_outs, not_cancelled};
 ghost use Rattle.xl_smb_laws.specs.WaitingRequests.{AreAwaited};
@@ -24,9 +26,9 @@ ghost use Rattle.xl_smb_state.specs.declared.row.Waiting.{Waiting};
 /// none (3.3.5.16), each other request that is answered one.
 pub fn replies_repeat_their_requests()
     ensures carried { (h : SmbHead) (told : Told) (bytes : List ℕ) → reply_of h told ≡ Some bytes → IsReplyOf h told bytes }
-    ensures silent { (h : SmbHead) (told : Told) → (h.command == 12) ≡ true → reply_of h told ≡ None }
+    ensures silent { (h : SmbHead) (told : Told) → (h.command == number_of command.Cancel) ≡ true → reply_of h told ≡ None }
     ensures nothing { (h : SmbHead) → reply_of h Told.Nothing ≡ None }
-    ensures answered { (h : SmbHead) (told : Told) → (h.command == 12) ≡ false → reply_of h told ≡ None → told ≡ Told.Nothing }
+    ensures answered { (h : SmbHead) (told : Told) → (h.command == number_of command.Cancel) ≡ false → reply_of h told ≡ None → told ≡ Told.Nothing }
 {}
 
 /// The header of a final reply is that of the request that waited, whatever becomes of it (MS-SMB2 3.3.4.2): its MessageId,
