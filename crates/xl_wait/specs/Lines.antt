@@ -12,8 +12,9 @@ standing l = drop l.gone l.all.items
 abbrev pub last_first : ℕ
 last_first = 2 ^ 32
 
--- those who went stand in front, and each file has its queue
+-- those who went stand in front, no more than those who wait, and each file has its queue
 pub record IsLine (l : Line) : Type 0 where
   pub within : l.gone ≤ length l.all.items
+  pub few : l.gone ≤ length (standing l)
   pub early : l.first ≤ last_first
   pub queues : AreQueued l.first l.queues (files_of (standing l))

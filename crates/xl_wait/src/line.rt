@@ -107,6 +107,7 @@ fn close_gap(line: &mut Line)
     requires within { line.old.gone ≤ length line.old.all.items }
     ensures standing { standing line.new ≡ standing line.old }
     ensures within { line.new.gone ≤ length line.new.all.items }
+    ensures few { line.new.gone ≤ length (standing line.new) }
     ensures rest { (line.new.first ≡ line.old.first) × (line.new.queues ≡ line.old.queues) }
 {
     if line.gone >= line.all.len() - line.gone {
@@ -142,6 +143,7 @@ fn leave_at(line: &mut Line, count: usize)
     let waiter = line.all.remove(line.gone + count);
     let file = first_file(waiter.asked.as_slice());
     leave_place(alloc, &mut line.queues, file, line.first + count);
+    close_gap(line);
 }
 
 /// The same; the first goes without moving the others.

@@ -1,4 +1,4 @@
-use Rattle.std.proofs.Common.{◌≡◌, ◌-◌, ℕ, None, Some, ap, slice_get, sym, ◌∙◌}
+use Rattle.std.proofs.Common.{ℕ, None, Some, ap, slice_get, sym, ◌∙◌}
 use Rattle.xl_wait.specs.Lines.{standing}
 use Rattle.xl_wait.proofs.LineLaws.{nth_is}
 use Rattle.xl_wait.proofs.line.nth_on.Goals as goal
