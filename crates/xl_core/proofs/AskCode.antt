@@ -1,15 +1,14 @@
 -- What the code of an ask and of a turn rests on: calls one after another, of which one may store.
-use Rattle.std.proofs.Common.{◌≡◌, ℕ, ◌+◌, ◌<◌, ◌≤◌, Bool, true, false, not, ◌&&◌, if◌then◌else◌, List, [], ◌∷◌, ◌++◌, length, slice_index_or, Option, Some, None, Result, Ok, Err, OnOk, refl, sym, ap, subst, ◌∙◌, arith}
+use Rattle.std.proofs.Common.{◌≡◌, ℕ, ◌<◌, ◌≤◌, Bool, true, false, if◌then◌else◌, List, [], ◌∷◌, length, slice_index_or, Result, Ok, Err, OnOk, refl, sym, ap, subst, ◌∙◌, arith}
 use Rattle.std.specs.Option.{IfSome}
-use Rattle.xl_base.specs.Stable.{Stable, is_recordable, is_recorded}
+use Rattle.xl_base.specs.Stable.{is_recordable, is_recorded}
 use Rattle.xl_names.specs.declared.name.Name.{Name}
 use Rattle.xl_grace.specs.Grace.{reclaimed}
 use Rattle.xl_matrix.specs.declared.claim.Claim.{Claim}
 use Rattle.xl_wait.specs.declared.waiter.Rooms.{Rooms}
-use Rattle.xl_wait.specs.declared.waiter.Waiter.{Waiter}
 use Rattle.xl_core.specs.State.{CoreState, MayBe, GoesOn}
 use Rattle.xl_core.specs.Askers.{both_entered}
-use Rattle.xl_core.specs.Decide.{Answered, is_back, named, plea_of, answered, claims_asked, acted, decided}
+use Rattle.xl_core.specs.Decide.{is_back, named, plea_of, answered, claims_asked, acted, decided}
 use Rattle.xl_core.specs.Judge.{Ruled, judged}
 use Rattle.xl_core.specs.Standings.{recorded_as}
 use Rattle.xl_core.specs.Stores.{Telling, HandsOn, made_of}

@@ -1,5 +1,5 @@
 -- A lock that is granted holds each byte of its range, and one that is unlocked none; all other bytes are as they were.
-use Rattle.std.proofs.Common.{◌≡◌, ℕ, ◌≤◌, Bool, true, false, List, [], ◌∷◌, Option, Some, None, refl, sym, ap, subst, ◌∙◌, inl, inr}
+use Rattle.std.proofs.Common.{◌≡◌, ℕ, ◌≤◌, Bool, true, false, List, [], ◌∷◌, Option, None, refl, sym, ap, subst, ◌∙◌, inl, inr}
 use Rattle.xl_core.specs.Frames.{asks_to_hold}
 use Rattle.xl_core.proofs.ChangeLaws.{unheld_noted}
 use Rattle.std.proofs.lemmas.Bool.{cases_Bool}
@@ -20,7 +20,7 @@ use Rattle.xl_core.proofs.DeedLaws.{deed_makes}
 use Rattle.xl_core.proofs.KnownLaws.{asker_posix, known_posix}
 use Rattle.xl_core.proofs.WayAsks.{ask_due, ask_own, ask_unlock, ask_way_none}
 use Rattle.xl_core.proofs.WayDeeds.{then_else}
-use Rattle.xl_core.specs.Askers.{asked_what, asked_whats, asked_claim, known_claim, is_client, is_named, IsFit}
+use Rattle.xl_core.specs.Askers.{asked_what, asked_whats, asked_claim, known_claim, is_named, IsFit}
 use Rattle.xl_core.specs.Bytes.{AreBytes, byte_lock, no_lock}
 use Rattle.xl_core.specs.Decide.{way, before_wish, does_wish, ask}
 use Rattle.xl_core.specs.Deeds.{Asks}

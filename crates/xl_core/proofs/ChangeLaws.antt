@@ -28,7 +28,7 @@ use Rattle.xl_wait.specs.declared.waiter.Rooms.{Rooms}
 use Rattle.xl_core.specs.State.{CoreState, aside_of}
 use Rattle.xl_core.specs.Askers.{asker, asking_party, both_entered, range_what, asked_whats, asked_what, asked_claim, asked_claims, known_claim, is_client, is_named}
 use Rattle.xl_core.specs.Blockers.{test_blockers}
-use Rattle.xl_core.specs.Causes.{may_wait, asks_share, left_by_unlock, IsOwn, IsWaiting, asks_claims, noted_by}
+use Rattle.xl_core.specs.Causes.{asks_share, left_by_unlock, IsOwn, IsWaiting, asks_claims, noted_by}
 use Rattle.xl_core.specs.Decide.{Answered, waiter_of, waiting, named, claims_asked, test_answered, tested, unlocked_claims, unlocked, wish_by, wish_asked, acted, decided, unlocked_one, unlocked_bytes, freed, tested_by, wish_graced}
 use Rattle.xl_core.specs.Frames.{asks_to_hold}
 use Rattle.xl_core.specs.Good.{IsGood, are_kept, IsHeld, caches_of, caches_but, caches_beside}
@@ -45,7 +45,7 @@ use Rattle.xl_core.proofs.GoodLaws.{AskCase, Goes, Queues, Refuses, ask_case, ho
 use Rattle.xl_core.proofs.CacheLaws.{relocked_caches, all_granted_caches, removed_caches, range_no_cache}
 use Rattle.xl_core.proofs.KnownLaws.{both_go_on, known_owner_is, known_posix, asker_posix}
 use Rattle.xl_core.proofs.RowLaws.{is_refusal}
-use Rattle.xl_table.specs.Flat.{inserted, removed, is_blocked}
+use Rattle.xl_table.specs.Flat.{inserted, removed}
 use Rattle.xl_table.specs.Order.{goes_first}
 use Rattle.std.specs.Option.{option_or}
 use Rattle.xl_table.specs.Elements.{is_element, element_held}

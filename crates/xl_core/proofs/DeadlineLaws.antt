@@ -1,11 +1,10 @@
 -- Breaks that nobody answers are over at their deadline, shown on the smallest.
-use Rattle.std.proofs.Common.{◌≡◌, ◌<◌, nat_lt, ℕ, true, false, inl, inr, List, [], ◌∷◌, refl, ap, ◌∙◌}
+use Rattle.std.proofs.Common.{◌≡◌, ◌<◌, nat_lt, ℕ, true, false, inl, inr, [], ◌∷◌, refl, ◌∙◌}
 use Rattle.std.proofs.lemmas.Bool.{cases_Bool, lt-ltb}
 use Rattle.xl_base.specs.Stable.{Stable, is_recorded}
 use Rattle.xl_matrix.specs.Equal.{same_what, same_claims}
-use Rattle.xl_matrix.specs.declared.claim.Claim.{Claim}
 use Rattle.xl_core.specs.BreakAnswers.{due}
-use Rattle.xl_core.specs.Leases.{without_lease, ended, is_ended}
+use Rattle.xl_core.specs.Leases.{without_lease, ended}
 use Rattle.xl_core.specs.Settle.{waits_for, told_with, end_party}
 use Rattle.xl_core.specs.Smallest.{broken_oplock, its_share, broken_delegation, with_claims}
 use Rattle.xl_core.specs.State.{CoreState}

@@ -32,7 +32,7 @@ use Rattle.xl_core.specs.Stores.{store_failed}
 use Rattle.xl_core.specs.Ticks.{advanced, renew, end_some, unleased, expire, lapsed_by, lapse, end_grace}
 use Rattle.xl_core.proofs.AsideLaws.{with_aside, failed_aside, grace_aside, of_aside, of_expire}
 use Rattle.xl_core.specs.Deeds.{Deed, Asks, GivesBack, Weakens, Acks, Cancels, Ends, Serves, Draws, Advances, Lapses, Renews, Expires, Closes, FailsStore, EndsGrace, turned, done, all_done, IsFitDeed, AreFit, wish_by_number, asked_by, once_served, caches_served, caches_asked, caches_without_party, caches_without, caches_after, all_caches_after, is_lapsed, ends_break, any_ends_break}
-use Rattle.xl_core.specs.Good.{IsGood, are_apart, caches_of, holds_up}
+use Rattle.xl_core.specs.Good.{IsGood, are_apart, caches_of}
 use Rattle.xl_table.specs.Leaving.{is_of_some, goes}
 use Rattle.xl_table.specs.declared.leaver.Leaver.TheVariants as leavers
 use Rattle.xl_core.specs.Settle.{plea_again, way_again, next_way, settle, cancel, give_back, end_party, close_open}

@@ -54,7 +54,7 @@ use Rattle.xl_core.proofs.WayAsks.{ask_way_names, ask_way_waiters}
 use Rattle.xl_core.proofs.WayDeeds.{then_else, nothing_made, way_made, next_is, next_none}
 use Rattle.xl_core.proofs.WayLaws.{way_good, way_names, way_waiters, way_serves, known_no_cache}
 use Rattle.xl_core.specs.Dues.{IsDue}
-use Rattle.xl_core.specs.Good.{IsGood, are_apart, IsKnown, holds_up}
+use Rattle.xl_core.specs.Good.{IsGood, are_apart, IsKnown}
 use Rattle.xl_core.specs.Places.{wish_at, wished_for, wished_then, Place, ByteOf, ShareOf, byte_held, share_held, held_in, held_at, part_by, held_as, entered_by, entered_at, CacheOf, is_cache_on, acked_at, lapsed_at, cleared_by, cleared_at, entered_for, answered_at, ended_at, ended_some, told_at, broken_at, made, else_was, unlocked_at, RangesOf, all_entered_at, all_entered_for, unlocked_for, then_entered, served_at, is_at, closed_at}
 use Rattle.xl_table.specs.Relock.{with_share, shares_of, old_shares, united_by, granted_claims, is_range_of}
 use Rattle.xl_table.proofs.ShareLaws.{united_share}
@@ -83,7 +83,6 @@ use Rattle.xl_core.proofs.KnownLaws.{known_named}
 use Rattle.xl_core.specs.Judge.{all_granted}
 use Rattle.xl_core.proofs.RowLaws.{AllPass}
 use Rattle.xl_core.proofs.ClaimLaws.{AreGood, granted_good}
-use Rattle.xl_core.proofs.LimitLaws.{grant_room}
 use Rattle.xl_core.specs.declared.judge.Plea.{Plea}
 use Rattle.xl_table.proofs.ElementLaws.{elements_removed_apart}
 use Rattle.xl_names.specs.Names.{AreDistinct}

@@ -13,8 +13,8 @@ use Rattle.xl_base.specs.declared.event.Moment.{Moment}
 use Rattle.xl_base.specs.declared.name.Party.{Party}
 use Rattle.xl_base.specs.declared.name.Party.TheVariants as parties
 use Rattle.xl_base.specs.declared.name.Protocol.TheVariants.{Nlm, Nfs, Smb}
-use Rattle.xl_matrix.specs.Equal.{same_claims, same_parties}
-use Rattle.xl_matrix.proofs.EqualLaws.{same_claims-true, same_claims-self, same_parties-self}
+use Rattle.xl_matrix.specs.Equal.{same_claims}
+use Rattle.xl_matrix.proofs.EqualLaws.{same_claims-true, same_parties-self}
 use Rattle.xl_matrix.specs.declared.claim.Claim.{Claim}
 use Rattle.xl_matrix.specs.declared.claim.What.{What}
 use Rattle.xl_matrix.specs.declared.claim.What.TheVariants.{Share, Range, Cache}
@@ -22,7 +22,6 @@ use Rattle.xl_names.proofs.NameLaws.{number_at}
 use Rattle.xl_names.specs.Names.{AreDistinct}
 use Rattle.xl_names.specs.declared.name.Name.{Name}
 use Rattle.xl_names.specs.declared.name.Name.TheVariants.{NlmRange, NlmShare, NlmParty, NfsRange, NfsShare, NfsParty, SmbLease}
-use Rattle.xl_table.proofs.FlatLaws.{test_from_held}
 use Rattle.xl_table.specs.Elements.{is_held}
 use Rattle.xl_table.specs.Flat.{removed, due_by, is_due}
 use Rattle.xl_table.specs.Held.{is_cache}

@@ -51,7 +51,7 @@ use Rattle.xl_wait.specs.declared.waiter.Waiter.{Waiter}
 use Rattle.xl_core.specs.State.{CoreState, started, step_begun, drawn, aside_of}
 use Rattle.xl_core.specs.Leases.{Lease, moment_after, later, with_lease, without_lease, ended as ended_leases}
 use Rattle.xl_core.specs.BreakAnswers.{due, client_of}
-use Rattle.xl_core.specs.Stores.{store_failed, client_name, without_name, may_record, recorded, unstored, record_left, stored, bytes_with}
+use Rattle.xl_core.specs.Stores.{store_failed, client_name, without_name, may_record, recorded, record_left, stored, bytes_with}
 use Rattle.xl_core.specs.Ticks.{advanced, renew, end_some, unleased, expire, may_expire, try_expire, lapsed_by, try_lapsed_by, lapse, try_lapse, is_still_held, is_lease_over, lapse_all, expire_all, end_grace, tick}
 use Rattle.xl_core.proofs.AsideLaws.{with_aside, aside_good, failed_aside, grace_aside, of_aside, of_end, of_expire, noted_for, noted_aside, left_aside, left_grace}
 use Rattle.xl_core.specs.Askers.{party_named, who_entered, asking_party, may_have, may_wish_for, IsFitWish, IsOrdered, range_what, known_owner, is_name, client_of as client_behind}
@@ -69,7 +69,7 @@ use Rattle.xl_core.proofs.InTurnLaws.{in_turn_keeps}
 use Rattle.xl_core.proofs.AskWishLaws.{refused_wish, MayWish, wish_for_good, after_good, same_kinds}
 use Rattle.xl_core.specs.Judge.{Ruled, followed, all_granted, held_with, does_wait, judged, first_stop, to_record}
 use Rattle.xl_core.specs.Limits.{most_waiters, wish_limits, first_passed}
-use Rattle.xl_core.specs.Settle.{plea_again, rests, all_of, turned, way_again, again, turn_or, first_turn, settle, waits_with, cancel, give_back, departed, end_party, close_open}
+use Rattle.xl_core.specs.Settle.{plea_again, all_of, turned, way_again, again, turn_or, first_turn, settle, waits_with, cancel, give_back, departed, end_party, close_open}
 use Rattle.xl_core.specs.declared.ask.Act.{Act}
 use Rattle.xl_core.specs.declared.ask.Act.TheVariants.{Share, Ranges, Test, Unlock}
 use Rattle.xl_core.specs.declared.ask.Act.TheVariants as acts
@@ -86,9 +86,9 @@ use Rattle.xl_core.proofs.CauseLaws.{left_so, real_range, own_ranges, fit_ranges
 pub use Rattle.xl_core.proofs.StateLaws.{good_claims, good_from}
 use Rattle.xl_core.proofs.ClaimLaws.{AreGood, relocked_good, granted_good}
 use Rattle.xl_core.proofs.KnownLaws.{GoOn, both_go_on, both_distinct, held_on, waiters_on, one_party, asker_kept, asked_known, kept_on, known_party_is, asked_all_known}
-use Rattle.xl_core.proofs.LimitLaws.{grant_room, wait_room, wish_room}
+use Rattle.xl_core.proofs.LimitLaws.{wait_room, wish_room}
 use Rattle.xl_core.proofs.RowLaws.{AllPass, is_refusal, IsRuled, judged_ruled, judged_row, Waiting, ended, ended_by}
-use Rattle.xl_core.proofs.TurnLaws.{waits_now, held_rests, rests_held, free_moves, move_first, up_rests}
+use Rattle.xl_core.proofs.TurnLaws.{waits_now, free_moves, move_first, up_rests}
 use Rattle.xl_core.proofs.WayLaws.{way_stopped, way_runs, AsksNoCache, known_no_cache, way_good, way_names, way_keeps}
 use Rattle.xl_table.specs.Elements.{element_held}
 

@@ -14,7 +14,6 @@ use Rattle.xl_core.proofs.WayLaws.{NoWay, Begins, way_is, way_stopped, way_runs,
 use Rattle.xl_core.proofs.WayAsks.{ask_way_names, ask_way_waiters, ask_way_keeps}
 use Rattle.xl_core.proofs.FrameLaws.{decided_quiet}
 use Rattle.xl_core.proofs.LimitLaws.{wait_least}
-use Rattle.xl_core.specs.Limits.{wait_limits, first_passed}
 use Rattle.xl_core.specs.Ways.{made_way}
 use Rattle.xl_core.specs.Frames.{asks_to_hold}
 use Rattle.xl_core.specs.declared.judge.Plea.{Plea}

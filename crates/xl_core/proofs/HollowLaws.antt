@@ -3,7 +3,6 @@ use Rattle.std.proofs.Common.{None, ◌≡◌, ℕ, ◌==◌, Bool, true, false,
 use Rattle.xl_core.specs.Standings.{standing}
 use Rattle.std.specs.List.{AllByRecursion}
 use Rattle.std.proofs.lemmas.Bool.{and_right}
-use Rattle.xl_base.specs.Stable.{Stable}
 use Rattle.xl_base.specs.declared.event.Moment.{Moment}
 use Rattle.xl_matrix.specs.declared.claim.Claim.{Claim}
 use Rattle.xl_matrix.specs.declared.claim.Extent.{Extent}

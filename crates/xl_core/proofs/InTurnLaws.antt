@@ -1,8 +1,7 @@
 -- What is done in turn keeps what each of it keeps.
-use Rattle.std.proofs.Common.{◌≡◌, Bool, true, false, ◌&&◌, if◌then◌else◌, inl, inr, List, [], ◌∷◌, refl, sym, ap, subst, ◌∙◌}
+use Rattle.std.proofs.Common.{◌≡◌, Bool, true, false, ◌&&◌, if◌then◌else◌, inl, inr, List, [], ◌∷◌, refl, sym, ap, ◌∙◌}
 use Rattle.std.specs.List.{filter}
 use Rattle.std.proofs.lemmas.Bool.{cases_Bool}
-use Rattle.xl_base.specs.Lists.{IsIn}
 use Rattle.xl_core.specs.State.{CoreState}
 use Rattle.xl_core.specs.Ticks.{in_turn}
 use Rattle.xl_core.specs.declared.ask.Effect.{Effect}

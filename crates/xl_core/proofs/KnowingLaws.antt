@@ -1,6 +1,6 @@
 -- While grace runs those who may reclaim are those of the record, and nobody else is let in.
-use Rattle.std.proofs.Common.{◌≡◌, ℕ, Bool, true, false, not, ◌&&◌, ◌||◌, if◌then◌else◌, inl, inr, List, [], ◌∷◌, ◌++◌, map, Option, Some, None, IfSome, is_some, ◌↔◌, refl, sym, ap, subst, ◌∙◌}
-use Rattle.std.specs.List.{filter, list_any}
+use Rattle.std.proofs.Common.{◌≡◌, ℕ, Bool, true, false, not, ◌||◌, if◌then◌else◌, inl, inr, List, [], ◌∷◌, ◌++◌, map, Option, Some, None, IfSome, ◌↔◌, refl, sym, ap, subst, ◌∙◌}
+use Rattle.std.specs.List.{filter}
 use Rattle.std.proofs.lemmas.Bool.{cases_Bool, both_ways, or_parts}
 use Rattle.std.proofs.lemmas.Option.{same_Some}
 use Rattle.xl_base.specs.Stable.{Stable, same_name, is_recorded, is_recordable}
@@ -17,7 +17,7 @@ use Rattle.xl_core.specs.Askers.{asked_whats, asked_claims, party_named}
 use Rattle.xl_core.specs.BreakAnswers.{client_of}
 use Rattle.xl_names.specs.declared.name.Name.TheVariants.{NfsParty}
 use Rattle.xl_base.specs.declared.name.Party.{Party}
-use Rattle.xl_core.specs.Causes.{IsClaimDue, IsServed, Answered, WaitsOn, IsTurn, asks_claims, back_by, name_asked, noted_by, once_told, name_waiting}
+use Rattle.xl_core.specs.Causes.{IsClaimDue, IsServed, Answered, WaitsOn, IsTurn, asks_claims, name_asked, noted_by, once_told, name_waiting}
 use Rattle.xl_core.specs.Decide.{is_back, claims_asked, acted, decided, way, before_wish, ask}
 use Rattle.xl_core.specs.Deeds.{Deed, Asks, GivesBack, Weakens, Acks, Cancels, Ends, Serves, Draws, Advances, Lapses, Renews, Expires, Closes, FailsStore, EndsGrace, turned, done, all_done, IsFitDeed, AreFit}
 use Rattle.xl_core.specs.Good.{IsGood}
@@ -25,9 +25,8 @@ use Rattle.xl_core.specs.Judge.{to_record}
 use Rattle.xl_core.specs.Knowing.{KnowsRecord}
 use Rattle.xl_core.specs.Settle.{settle, way_again, plea_again, end_party}
 use Rattle.xl_core.specs.Standings.{recorded_as, is_smb, standing, standing_by, stands, enters}
-use Rattle.xl_core.specs.Stores.{stored, store_failed, client_name, without_name, unrecorded, record_left, recorded, unstored}
-use Rattle.xl_core.specs.Ticks.{end_some, unleased, barred, gone_client, forgotten, expire, lapsed_by, lapse, end_grace}
-use Rattle.xl_core.specs.Wishes.{wish_for}
+use Rattle.xl_core.specs.Stores.{stored, store_failed, client_name, unrecorded, recorded, unstored}
+use Rattle.xl_core.specs.Ticks.{end_some, barred, gone_client, forgotten, expire, lapsed_by, lapse, end_grace}
 use Rattle.xl_core.specs.declared.ask.Act.{Act}
 use Rattle.xl_core.specs.declared.ask.Act.TheVariants.{Share, Ranges, Test, Unlock, Wish}
 use Rattle.xl_core.specs.declared.ask.Answer.{Answer}
@@ -35,8 +34,7 @@ use Rattle.xl_core.specs.declared.ask.Answer.TheVariants as answers
 use Rattle.xl_core.specs.declared.ask.Ask.{Ask}
 use Rattle.xl_core.specs.declared.ask.Effect.{Effect}
 use Rattle.xl_core.specs.declared.lease.Times.{Times}
-use Rattle.xl_core.specs.declared.standings.Standing.{Standing}
-use Rattle.xl_core.specs.declared.standings.Standing.TheVariants.{Timely, Reclaims, Stays, Early, Unrecorded}
+use Rattle.xl_core.specs.declared.standings.Standing.TheVariants.{Reclaims, Stays, Early, Unrecorded}
 use Rattle.xl_core.proofs.AsideLaws.{left_grace, none_noted}
 use Rattle.xl_core.proofs.AskWishLaws.{wish_claims}
 use Rattle.xl_core.proofs.CauseLaws.{graced_due}

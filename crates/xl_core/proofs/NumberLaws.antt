@@ -1,5 +1,5 @@
 -- How far numbers may go: an ask adds a few, and nothing else adds any.
-use Rattle.std.proofs.Common.{◌≡◌, ℕ, zero, suc, ◌+◌, ◌≤◌, Bool, true, false, not, ◌&&◌, if◌then◌else◌, inl, inr, List, [], ◌∷◌, ◌++◌, length, Option, Some, None, is_some, IfSome, refl, sym, ap, subst, ◌∙◌, ◌⊎◌, arith}
+use Rattle.std.proofs.Common.{◌≡◌, ℕ, suc, ◌+◌, ◌≤◌, Bool, true, false, not, ◌&&◌, if◌then◌else◌, inl, inr, List, [], ◌∷◌, ◌++◌, length, Option, Some, None, is_some, IfSome, refl, sym, ap, subst, ◌∙◌, ◌⊎◌, arith}
 use Rattle.xl_core.proofs.StandingLaws.{stays_asks}
 use Rattle.xl_core.specs.declared.standings.Standing.TheVariants.{Timely, Reclaims, Early, Late, Unrecorded}
 use Rattle.xl_core.specs.declared.standings.Standing.TheVariants as standings
@@ -51,7 +51,7 @@ use Rattle.xl_core.specs.Settle.{plea_again, way_again, settle, waits_for, waits
 use Rattle.xl_core.specs.State.{CoreState, drawn}
 use Rattle.xl_base.specs.Stable.{Stable}
 use Rattle.xl_core.specs.Stores.{store_failed, client_name, without_name}
-use Rattle.xl_core.specs.Ticks.{advanced, renew, end_some, unleased, expire, may_expire, try_expire, lapsed_by, try_lapsed_by, lapse, try_lapse, is_still_held, is_lease_over, lapse_all, expire_all, end_grace, tick}
+use Rattle.xl_core.specs.Ticks.{advanced, renew, end_some, expire, may_expire, try_expire, lapsed_by, try_lapsed_by, lapse, try_lapse, is_still_held, is_lease_over, lapse_all, expire_all, end_grace, tick}
 use Rattle.xl_core.proofs.AsideLaws.{with_aside, failed_aside, grace_aside, of_aside, of_end, of_expire}
 use Rattle.xl_core.specs.Ways.{made_way}
 use Rattle.xl_core.specs.declared.ask.Answer.{Answer}

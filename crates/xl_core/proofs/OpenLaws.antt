@@ -30,7 +30,6 @@ use Rattle.xl_core.proofs.CauseLaws.{element_due}
 use Rattle.xl_core.proofs.ClaimLaws.{AreGood, granted_good}
 use Rattle.xl_core.proofs.DeedCalls.{decided_releases, ranges_enter}
 use Rattle.xl_core.proofs.ElementLaws.{open_of, with_element, elements_granted}
-use Rattle.xl_core.proofs.LimitLaws.{grant_room}
 use Rattle.xl_core.proofs.RowLaws.{AllPass}
 use Rattle.xl_names.specs.Names.{AreDistinct}
 

@@ -1,5 +1,5 @@
 -- What stands against a reclaim, as the code finds it on the claims of the file.
-use Rattle.std.proofs.Common.{◌≡◌, Bool, false, not, ◌&&◌, ◌==◌, List, [], Option, refl, sym, ap, ◌∙◌}
+use Rattle.std.proofs.Common.{◌≡◌, Bool, false, not, ◌&&◌, ◌==◌, List, [], refl, ap, ◌∙◌}
 use Rattle.std.specs.List.{filter, list_any}
 use Rattle.std.proofs.lemmas.Bool.{and_right}
 use Rattle.xl_cache.specs.Wishing.{is_its_cache}

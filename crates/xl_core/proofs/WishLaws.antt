@@ -30,7 +30,6 @@ use Rattle.xl_table.specs.Order.{goes_first}
 use Rattle.xl_table.specs.Relock.{most_claims, shares_of}
 use Rattle.xl_table.proofs.FlatLaws.{all_removed, pairwise_others}
 use Rattle.xl_table.proofs.InsertLaws.{sound_inserted_other, sound_changed_other}
-use Rattle.xl_wait.specs.Waiting.{waits_on}
 use Rattle.xl_core.specs.BreaksBegun.{is_idle, idle_caches, others_of, is_recalled, idle_delegations}
 use Rattle.xl_core.specs.Good.{are_kept, IsHeldBy, IsHeld, is_single, IsGood, holding}
 use Rattle.xl_core.specs.Places.{CacheOf, is_cache_on, held_in, else_was}

@@ -1,5 +1,5 @@
 -- Whose deeds they are.
-use Rattle.std.specs.Prelude.{◌≡◌, ℕ, List, Option, Some, None}
+use Rattle.std.specs.Prelude.{◌≡◌, Option, Some, None}
 use Rattle.std.specs.List.{slice_get}
 use Rattle.xl_base.specs.Lists.{IsIn}
 use Rattle.xl_matrix.specs.declared.claim.Claim.{Claim}

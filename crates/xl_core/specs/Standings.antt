@@ -1,12 +1,12 @@
 -- How one who asks stands to the grace that runs (RFC 7530 9.6.2, 9.6.3).
-use Rattle.std.specs.Prelude.{ℕ, Bool, true, false, if◌then◌else◌, List, [], ◌∷◌, Option, Some, None, is_some}
+use Rattle.std.specs.Prelude.{Bool, true, false, if◌then◌else◌, List, [], Option, Some, None, is_some}
 use Rattle.std.specs.List.{slice_get}
 use Rattle.xl_base.specs.declared.event.Moment.{Moment}
 use Rattle.xl_base.specs.declared.name.Party.{Party}
 use Rattle.xl_base.specs.declared.name.Party.TheVariants as parties
 use Rattle.xl_base.specs.declared.name.Protocol.TheVariants.{Nlm, Nfs, Smb}
 use Rattle.xl_base.specs.declared.stable.Recorded.{Recorded}
-use Rattle.xl_grace.specs.Grace.{Running, admission}
+use Rattle.xl_grace.specs.Grace.{admission}
 use Rattle.xl_grace.specs.declared.grace.Admission.{Admission}
 use Rattle.xl_grace.specs.declared.grace.Admission.TheVariants.{Enters, Grace, NoGrace, NotRecorded}
 use Rattle.xl_names.specs.declared.name.Name.{Name}

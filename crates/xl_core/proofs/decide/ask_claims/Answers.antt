@@ -1,6 +1,3 @@
-use Rattle.std.proofs.Common.{◌≡◌, true, false, ap, sym, subst, ◌∙◌}
-use Rattle.std.specs.Option.{IfSome}
-use Rattle.xl_base.specs.Stable.{is_recordable, is_recorded}
 use Rattle.xl_core.specs.Whole.{state_of}
 use Rattle.xl_core.proofs.AskCode.{plea_new, got_state, got_stores, claims_got, on_behind, hands_behind}
 use Rattle.xl_core.proofs.DoorLaws.{head_rest}

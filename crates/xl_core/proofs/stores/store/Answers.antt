@@ -1,4 +1,4 @@
-use Rattle.std.proofs.Common.{◌≡◌, List, [], ◌∷◌, ◌++◌, refl, ap, ◌∙◌}
+use Rattle.std.proofs.Common.{◌≡◌, [], ◌∷◌, ◌++◌, refl, ap, ◌∙◌}
 use Rattle.xl_base.specs.Stable.{Stable}
 use Rattle.xl_core.specs.Whole.{state_of}
 use Rattle.xl_core.proofs.StoreLaws.{hands_stored, hands_failed, made_more}

@@ -1,7 +1,4 @@
-use Rattle.std.proofs.Common.{◌≡◌, true, Option, Some, None, refl, sym, ap, ◌∙◌}
-use Rattle.xl_grace.specs.Grace.{Running, is_over, ended}
-use Rattle.xl_core.specs.State.{CoreState}
-use Rattle.xl_core.specs.Stores.{stored}
+use Rattle.std.proofs.Common.{sym, ◌∙◌}
 use Rattle.xl_core.specs.Whole.{state_of}
 use Rattle.xl_core.proofs.TickCode.{ends_here}
 use Rattle.xl_core.proofs.ticking.end_grace.Goals as goal

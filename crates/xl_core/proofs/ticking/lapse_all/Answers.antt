@@ -1,4 +1,4 @@
-use Rattle.std.proofs.Common.{ℕ, ◌+◌, List, ◌∷◌, map, drop, sym, ap, ◌∙◌}
+use Rattle.std.proofs.Common.{◌+◌, List, ◌∷◌, map, drop, sym, ap, ◌∙◌}
 use Rattle.std.proofs.lemmas.List.{drop_more}
 use Rattle.xl_core.specs.Ticks.{behind_told, in_turn, is_still_held, try_lapse, lapse_all}
 use Rattle.xl_core.specs.Whole.{state_of}

@@ -1,4 +1,3 @@
-use Rattle.std.proofs.Common.{refl}
 use Rattle.xl_core.proofs.HeldUpLaws.{none_up}
 use Rattle.xl_core.proofs.doors.Core.new.Goals as goal
 
