@@ -1,5 +1,6 @@
 //! A caller that dials the clients.
-ghost use Rattle.std.specs.Prelude.{◌≡◌, ◌≤◌, length, None};
+ghost use Rattle.std.specs.Prelude.{◌≡◌, ◌≤◌, length, IfOk, None};
+ghost use Rattle.xl_adapters.specs.declared.caller.Unanswered.TheVariants.{NoMemory};
 
 use crate::link::{receive, send};
 use crate::wait::Waiter;
@@ -38,7 +39,10 @@ pub struct TcpCaller<R> {
 
 impl<R: Net + Drop> TcpCaller<R> {
     /// A caller that dials the clients in reach.
-    pub fn new(alloc: Global, net: R, reach: Reach) -> io::Result<TcpCaller<R>> {
+    pub fn new(alloc: Global, net: R, reach: Reach) -> io::Result<TcpCaller<R>>
+        ensures counts { IfOk result (λ caller. (caller.faults ≡ 0) × (caller.asked ≡ 0)) }
+        ensures reach { IfOk result (λ caller. caller.reach ≡ reach) }
+    {
         let reads = Waiter::new(alloc, &net)?;
         let writes = Waiter::new(alloc, &net)?;
         Ok(TcpCaller {
@@ -100,6 +104,8 @@ enum Unanswered {
 }
 
 impl From<AllocError> for Unanswered {
+    ghost from_gives = { λ _ unanswered. unanswered ≡ NoMemory };
+
     fn from(_refused: AllocError) -> Unanswered {
         Unanswered::NoMemory
     }

@@ -1,5 +1,5 @@
 //! The time.
-ghost use Rattle.std.specs.Prelude.{None};
+ghost use Rattle.std.specs.Prelude.{◌≡◌, None};
 
 use std::time;
 use std::time::Instant;
@@ -15,7 +15,9 @@ pub struct SteadyClock<R> {
 
 impl<R: time::Clock> SteadyClock<R> {
     /// A clock that starts now.
-    pub fn new(system: R) -> SteadyClock<R> {
+    pub fn new(system: R) -> SteadyClock<R>
+        ensures { result.last ≡ 0 }
+    {
         let start = Instant::now(&system).ok();
         SteadyClock {
             system,

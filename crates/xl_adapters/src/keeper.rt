@@ -1,5 +1,5 @@
 //! The record in a file.
-ghost use Rattle.std.specs.Prelude.{◌≡◌, None};
+ghost use Rattle.std.specs.Prelude.{◌≡◌, IfOk, None};
 
 use std::alloc::{AllocError, Global};
 use std::fs::{File, Files, OpenFile, OpenOptions};
@@ -33,7 +33,9 @@ fn folder_of(path: &str) -> &str {
 
 impl<R: Files + Drop> FileKeeper<R> {
     /// The keeper of the record in this file.
-    pub fn new(alloc: Global, files: R, path: &str) -> Result<FileKeeper<R>, AllocError> {
+    pub fn new(alloc: Global, files: R, path: &str) -> Result<FileKeeper<R>, AllocError>
+        ensures counts { IfOk result (λ keeper. keeper.faults ≡ 0) }
+    {
         Ok(FileKeeper {
             files,
             path: String::from_str(alloc, path)?,

@@ -1,5 +1,5 @@
 //! Lanes over TCP.
-ghost use Rattle.std.specs.Prelude.{◌≡◌, ◌≤◌, ◌||◌, length, None, false};
+ghost use Rattle.std.specs.Prelude.{◌≡◌, ◌≤◌, ◌||◌, length, IfOk, None, false};
 
 use crate::link::{is_pending, receive, send};
 use crate::port::Port;
@@ -33,7 +33,10 @@ impl TcpLane {
         net: &impl Net,
         port: Option<&Port>,
         kind: Kind,
-    ) -> io::Result<TcpLane> {
+    ) -> io::Result<TcpLane>
+        ensures counts { IfOk result (λ lane. (lane.faults ≡ 0) × (lane.lost ≡ 0) × (lane.asked ≡ 0)) }
+        ensures kind { IfOk result (λ lane. (lane.kind ≡ kind) × (lane.link ≡ None)) }
+    {
         let accepts = Waiter::new(alloc, net)?;
         let reads = Waiter::new(alloc, net)?;
         let writes = Waiter::new(alloc, net)?;
