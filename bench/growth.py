@@ -225,6 +225,9 @@ def nfs_open(count, at):
     return on_another(come, compound(2, PUT_ROOT_FH, open_file(1, client, b"o", b"f0", 1)))(count, at)
 
 
+ASKED, DENIED = "TEST, by n ranges of n owners", "a LOCK that is denied, by these"
+# How often a message is counted that changes nothing: one alone costs less than two runs of a long capture differ by.
+TIMES_COUNTED = {ASKED: 200, DENIED: 200}
 OF_LEASES, OF_WAITERS, OF_RANGES = (100, 1_000, 3_990), (10, 100, 1_000), (1, 1_000, 10_000)
 # A message, the numbers, what is prepared, and the lines whose last is the message.
 MESSAGES = [
@@ -245,8 +248,8 @@ MESSAGES = [
         lambda count: by_rpc(waiting_for(True, HOST, count)),
         next_of_rpc(FREE_ALL, HOST),
     ),
-    ("TEST, by n ranges of n owners", OF_RANGES, lambda count: by_rpc(ranges_of(count)), next_of_rpc(TEST, 1, 1, 0, 0)),
-    ("a LOCK that is denied, by these", OF_RANGES, lambda count: by_rpc(ranges_of(count)), next_of_rpc(LOCK, 1, 1, 0, 0)),
+    (ASKED, OF_RANGES, lambda count: by_rpc(ranges_of(count)), next_of_rpc(TEST, 1, 1, 0, 0)),
+    (DENIED, OF_RANGES, lambda count: by_rpc(ranges_of(count)), next_of_rpc(LOCK, 1, 1, 0, 0)),
     ("SMB CREATE for reading that breaks none of n leases R", OF_LEASES, leased_as(READS), next_of_smb(5, READS_OF)),
     ("NFSv4 OPEN for reading that breaks none of these", OF_LEASES, leased_as(READS), nfs_open),
 ]
@@ -262,19 +265,19 @@ def instructions_of_lines(binary, kind, records, lines):
         return instructions(binary, path)
 
 
-def instructions_of_message(binary, prepare, last, count):
-    """How many instructions one message is: those of a capture that ends with it, without those of one that ends before it."""
+def instructions_of_message(binary, prepare, last, count, times):
+    """How many instructions one message is: those of a capture that ends with it, so many times, without those of one that ends before it."""
     kind, records = prepare(count)
-    lines = last(count, 1 + len(records)).split("\n")
-    before, after = (instructions_of_lines(binary, kind, records, behind) for behind in (lines[:-1], lines))
-    return after - before
+    *lines, message_line = last(count, 1 + len(records)).split("\n")
+    before, after = (instructions_of_lines(binary, kind, records, lines + [message_line] * most) for most in (0, times))
+    return (after - before) / times
 
 
 def table_of_messages(binary):
     print("| one message | n | instructions at each n, in millions | by those before |")
     print("|---|---|---|---|")
     for name, counts, prepare, last in MESSAGES:
-        costs = [instructions_of_message(binary, prepare, last, count) for count in counts]
+        costs = [instructions_of_message(binary, prepare, last, count, TIMES_COUNTED.get(name, 1)) for count in counts]
         ratios = [f"{after / before:.1f}" for before, after in zip(costs, costs[1:])]
         ns, millions = (", ".join(words) for words in ([f"{n:,}" for n in counts], [f"{cost / 1e6:,.3f}" for cost in costs]))
         print(f"| {name} | {ns} | {millions} | {', '.join(ratios)} |", flush=True)
