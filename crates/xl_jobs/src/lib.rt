@@ -2,7 +2,9 @@
 #![tactic(auto)]
 
 mod endings;
+mod seated;
 mod starts;
 
 pub use endings::{Report, Written, idle, journal_in};
+pub use seated::{Seated, close, seat};
 pub use starts::{exports_with, start};

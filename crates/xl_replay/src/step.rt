@@ -18,6 +18,7 @@ use xl_base::{BudgetKeeper, Event, Halt};
 use xl_capture::Step;
 use xl_desk::{Desk, DeskErr, NoRoom, Pass, Receipt};
 use xl_house::{Ended, House};
+use xl_jobs::{Seated, close, seat};
 
 /// A replay that made its steps, or that stopped.
 #[derive(Drop)]
@@ -69,8 +70,8 @@ fn is_restart(event: &Event) -> bool
 fn call_one<R: Wait>(
     rt: &R,
     alloc: Global,
-    desk: &Desk<Replayer>,
-    pass: &mut Pass<Replayer>,
+    desk: &Desk<Seated<Replayer>>,
+    pass: &mut Pass<Seated<Replayer>>,
     event: Event,
 ) -> Result<(), Halt>
     requires desk { pass.old.desk ≡ desk.now }
@@ -91,8 +92,8 @@ fn call_one<R: Wait>(
 fn call_run<R: Wait>(
     rt: &R,
     alloc: Global,
-    desk: &Desk<Replayer>,
-    pass: &mut Pass<Replayer>,
+    desk: &Desk<Seated<Replayer>>,
+    pass: &mut Pass<Seated<Replayer>>,
     steps: &mut IntoIter<Step, Global>,
 ) -> Result<bool, Halt>
     requires desk { pass.old.desk ≡ desk.now }
@@ -140,12 +141,12 @@ fn step_run<R: Wait>(
     ensures run { HasRun result.0.house.entries (events_of (into_iter_items steps.new)) (events_in replayer.house.entries ++ events_of (into_iter_items steps.old)) result.1 }
     ensures whole { result.1 ≢ Err Halt.NoMemory → is_spoiled result.0.house.halt ≡ false }
 {
-    let (desk, mut pass) = match Desk::make(alloc, replayer) {
+    let (desk, mut pass) = match seat(alloc, replayer) {
         Ok(made) => made,
         Err(NoRoom { machine }) => return (machine, Err(Halt::NoMemory)),
     };
     let called = call_run(rt, alloc, &desk, &mut pass, steps);
-    let replayer = desk.close(pass);
+    let replayer = close(desk, pass);
     let ended = ended_in(&replayer, called);
     (replayer, ended)
 }

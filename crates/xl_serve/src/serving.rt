@@ -21,9 +21,9 @@ use xl_base::{
     WriteOutcome,
 };
 use xl_capture::capture_of;
-use xl_desk::{Desk, NoRoom};
+use xl_desk::NoRoom;
 use xl_house::{Ended, House};
-use xl_jobs::Written;
+use xl_jobs::{Written, close, seat};
 use xl_work::{CallsDone, Crew, CrewDone, LaneDone, serve_all};
 
 /// What a served machine has of the outside: the keeper of its record, the lanes of its clients, and who calls them.
@@ -210,7 +210,7 @@ fn serve_desk<
     ensures head { result.house.head ≡ house.head }
     ensures served { IfOk result.done (λ done. IsWorked (tells_lane L.told L.asked L.lost L.faults L.ended) (tells_caller C.told C.asked) crew (T.told clock) (T.told result.clock) result.house.entries result.house.halt done) }
 {
-    let (desk, pass) = match Desk::make(alloc, house) {
+    let (desk, pass) = match seat(alloc, house) {
         Ok(made) => made,
         Err(NoRoom { machine }) => {
             return Shift {
@@ -221,7 +221,7 @@ fn serve_desk<
         }
     };
     let (pass, done, clock) = serve_all(rt, alloc, &desk, &OpenGate, pass, crew, clock);
-    let house = desk.close(pass);
+    let house = close(desk, pass);
     Shift { house, done, clock }
 }
 
