@@ -1,5 +1,6 @@
 //! What `serve` has of the system: two ports, lanes at them, two callers, and the record file.
-ghost use Rattle.std.specs.Prelude.{◌≡◌, ◌≤◌, IfOk, IfSome, OnOk, vec_len};
+ghost use Rattle.std.specs.Prelude.{◌≡◌, ◌*◌, ◌≤◌, IfOk, IfSome, None, OnOk, vec_len};
+ghost use Rattle.xl_adapters.specs.declared.caller.Reach.TheVariants.{All, Loopback};
 
 use std::io;
 use std::net::{Ipv4Addr, Net};
@@ -17,7 +18,10 @@ fn address_of(serving: Serving) -> Ipv4Addr {
 }
 
 /// Which clients are called (SERVE-3).
-fn reach_of(serving: Serving) -> Reach {
+fn reach_of(serving: Serving) -> Reach
+    ensures near { serving.address ≡ None → result ≡ Loopback }
+    ensures far { IfSome serving.address (λ _. result ≡ All) }
+{
     match serving.address {
         Some(_) => Reach::All,
         None => Reach::Loopback,
@@ -33,7 +37,7 @@ fn add_lanes(
     most: usize,
 ) -> io::Result<()>
     requires { vec_len lanes.old ≤ most }
-    ensures { OnOk result (vec_len lanes.new ≤ most) }
+    ensures { OnOk result (vec_len lanes.new ≡ most) }
 {
     'lanes: while lanes.len() < most {
         lanes.push(TcpLane::new(rt.alloc(), rt, port, kind)?)?;
@@ -55,7 +59,7 @@ fn open(rt: &(impl Net + Eprint), serving: Serving, port: u16) -> Option<Port> {
 /// The lanes of both kinds.
 fn lanes_of(rt: &(impl Net + Eprint + AllocGlobal), serving: Serving) -> io::Result<Vec<TcpLane>>
     requires { serving.lanes ≤ 16 }
-    ensures { IfOk result (λ lanes. vec_len lanes ≤ 32) }
+    ensures { IfOk result (λ lanes. vec_len lanes ≡ 2 * serving.lanes) }
 {
     let rpc = open(rt, serving, serving.rpc);
     let smb = open(rt, serving, serving.smb);
@@ -95,7 +99,8 @@ pub(crate) fn system<R: Net + Files + Clock + Eprint + AllocGlobal + Copy + Drop
     serving: Serving,
 ) -> Option<System<R>>
     requires { serving.lanes ≤ 16 }
-    ensures { IfSome result (λ o. (vec_len o.lanes ≤ 64) × (vec_len o.callers ≤ 64)) }
+    ensures counts { IfSome result (λ o. (vec_len o.lanes ≡ 2 * serving.lanes) × (vec_len o.callers ≡ 2)) }
+    ensures few { IfSome result (λ o. (vec_len o.lanes ≤ 64) × (vec_len o.callers ≤ 64)) }
 {
     let alloc = rt.alloc();
     let path = record_path(alloc, words)?;
