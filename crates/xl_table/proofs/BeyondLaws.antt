@@ -17,7 +17,7 @@ use Rattle.xl_table.specs.Flat.{blocks}
 use Rattle.xl_table.specs.Held.{is_range}
 use Rattle.xl_base.proofs.LeastLaws.{least_both}
 use Rattle.xl_base.specs.Leasts.{least_from}
-use Rattle.xl_table.specs.Least.{range_key, before_by, range_before, least, counts, is_beyond}
+use Rattle.xl_table.specs.Least.{range_key, before_by, range_before, least, counts, begins_behind, is_beyond}
 use Rattle.xl_table.specs.Pages.{paged}
 use Rattle.xl_table.specs.declared.bounds.Bounds.{Bounds}
 use Rattle.xl_table.proofs.ClearLaws.{quiet_all}
@@ -36,8 +36,8 @@ least_page names test o new whole i ps p h is e so_far =
 
 -- ---- a page that is passed by
 
-begins_behind : (k : ℕ × ℕ × ℕ × ℕ) (first last low mode : ℕ) (text : Bool) → k.0 < low → low ≤ first → before_by (first, 1, last, mode) k text ≡ false
-begins_behind k first last low mode text h w = by k.0 h where
+begins_later : (k : ℕ × ℕ × ℕ × ℕ) (first last low mode : ℕ) (text : Bool) → k.0 < low → low ≤ first → before_by (first, 1, last, mode) k text ≡ false
+begins_later k first last low mode text h w = by k.0 h where
   by : (n : ℕ) → n < low → (if first == n then (if 1 == k.1 then (if last == k.2 then (if mode == k.3 then text else nat_lt mode k.3) else nat_lt last k.2) else nat_lt 1 k.1) else nat_lt first n) ≡ false
   by n less = let other : (first == n) ≡ false = grind (arith, nat_tests) in let later : nat_lt first n ≡ false = grind (arith, nat_tests) in rw (other, later) refl
 
@@ -45,7 +45,7 @@ not_before : (names : List Name) (l d : Claim) (w : What) (b : Bounds) → d.wha
 not_before names l d (Range (Bytes first last) exclusive) b is h within =
     let less : (range_key l.what).0 < b.low = part b.mixed (range_key l.what).0 b.low h in
     let text : Bool = is_lt (slice_cmp nat_cmp (owner_text names d.owner) (owner_text names l.owner)) in
-    ap (λ (w : What). before_by (range_key w) (range_key l.what) text) is ∙ begins_behind (range_key l.what) first last b.low (if exclusive then 0 else 1) text less within.0
+    ap (λ (w : What). before_by (range_key w) (range_key l.what) text) is ∙ begins_later (range_key l.what) first last b.low (if exclusive then 0 else 1) text less within.0
   where
     part : (mixed : Bool) (n low : ℕ) → (not mixed && nat_lt n low) ≡ true → n < low
     part true n low h = absurd (both_ways false refl h)
@@ -68,6 +68,26 @@ none_before names l test b (c ∷ cs) h all =
 beyond_none : (names : List Name) (o : Option Claim) (test : Claim → Bool) (b : Bounds) (cs : List Claim) → is_beyond o b ≡ true → AreWithin b cs → least_from (range_before names) o (filter test cs) ≡ o
 beyond_none names None test b cs h all = absurd (both_ways false refl h)
 beyond_none names (Some l) test b cs h all = none_before names l test b cs h all
+
+-- ---- a claim that is passed by
+
+later_first : (a b : ℕ × ℕ × ℕ × ℕ) (text : Bool) → nat_lt b.0 a.0 ≡ true → before_by a b text ≡ false
+later_first a b text h =
+    let other : (a.0 == b.0) ≡ false = grind (arith, nat_tests) in
+    let later : nat_lt a.0 b.0 ≡ false = grind (arith, nat_tests) in
+    rw (other, later) refl
+
+behind_one : (names : List Name) (o : Option Claim) (c : Claim) (cs : List Claim) → begins_behind o c ≡ true → least_from (range_before names) o (c ∷ cs) ≡ least_from (range_before names) o cs
+behind_one names None c cs h = absurd (both_ways false refl h)
+behind_one names (Some l) c cs h = passed_over names l c cs (later_first (range_key c.what) (range_key l.what) (is_lt (slice_cmp nat_cmp (owner_text names c.owner) (owner_text names l.owner))) h)
+
+-- what begins behind the least so far changes nothing
+pub behind_stays : (names : List Name) (test : Claim → Bool) (o : Option Claim) (c : Claim) (cs : List Claim) → begins_behind o c ≡ true → least_from (range_before names) o (filter test (c ∷ cs)) ≡ least_from (range_before names) o (filter test cs)
+behind_stays names test o c cs h =
+    elim (cases_Bool (test c)) [
+      | inr out ↦ rw out refl
+      | inl in_it ↦ rw in_it (behind_one names o c (filter test cs) h)
+    ]
 
 none_counts : (ask : Claim) (ranges : Bool) (cs : List Claim) → AllByRecursion (λ c. blocks ask c ≡ false) cs → filter (counts ask ranges) cs ≡ []
 none_counts ask ranges [] all = refl

@@ -35,6 +35,11 @@ least names cs = least_by (range_before names) cs
 abbrev pub counts : Claim → Bool → Claim → Bool
 counts ask ranges held = blocks ask held && (not ranges || is_range held.what)
 
+-- the claim begins behind the least so far
+abbrev pub begins_behind : Option Claim → Claim → Bool
+begins_behind None c = false
+begins_behind (Some least) c = nat_lt (range_key least.what).0 (range_key c.what).0
+
 -- no claim within these bounds comes before the least so far: each is a range that begins behind it
 abbrev pub is_beyond : Option Claim → Bounds → Bool
 is_beyond None b = false

@@ -6,7 +6,7 @@ ghost use Rattle.xl_names.specs.Texts.{owner_text};
 ghost use Rattle.std.specs.List.{filter};
 ghost use Rattle.xl_base.specs.Leasts.{lesser, least_from};
 ghost use Rattle.xl_table.specs.Files.{joined, IsFiled};
-ghost use Rattle.xl_table.specs.Least.{range_key, range_before, least, counts, is_beyond};
+ghost use Rattle.xl_table.specs.Least.{range_key, range_before, least, counts, begins_behind, is_beyond};
 ghost use Rattle.xl_table.specs.Pages.{paged};
 
 use crate::bounds::Bounds;
@@ -86,6 +86,16 @@ fn lesser(
     Ok(Some(*claim))
 }
 
+/// Whether the claim begins behind the least so far: then it doesn't come before it, whatever else is true of it.
+fn begins_behind(least: &Option<Claim>, claim: &Claim) -> bool
+    ensures { result ≡ begins_behind least.now claim.now }
+{
+    match least {
+        Some(before) => range_key(before).0 < range_key(claim).0,
+        None => false,
+    }
+}
+
 /// Whether no claim within these bounds comes before the least so far: each is a range that begins behind it.
 pub(crate) fn is_beyond(least: Option<Claim>, bounds: Bounds) -> bool
     ensures { result ≡ is_beyond least bounds }
@@ -103,7 +113,8 @@ fn counts(ask: &Claim, ranges: bool, held: &Claim) -> bool
     blocks(ask, held) && (!ranges || is_a_range(held.what))
 }
 
-/// The lesser of the least so far, and those of these claims that count.
+/// The lesser of the least so far, and those of these claims that count. What begins behind the least is passed by.
+#[tactic(auto, using(crate::proofs::BeyondLaws::behind_stays))]
 pub(crate) fn least_among(
     alloc: Global,
     names: &Names,
@@ -116,7 +127,7 @@ pub(crate) fn least_among(
 {
     let mut least = least;
     for claim in claims {
-        if counts(ask, ranges, claim) {
+        if !begins_behind(&least, claim) && counts(ask, ranges, claim) {
             least = lesser(alloc, names, least, claim)?;
         }
     }

@@ -1,5 +1,5 @@
 //! What is done, and listed, file by file: only those files are gone through on which the index says that someone stands.
-ghost use Rattle.std.specs.Prelude.{◌≡◌, ◌≤◌, ◌<◌, ◌^◌, ◌&&◌, Bool, [], ◌∷◌, false, true, not, List, length, slice_range, IfOk};
+ghost use Rattle.std.specs.Prelude.{◌≡◌, ◌≤◌, ◌<◌, ◌^◌, ◌&&◌, ◌++◌, Bool, [], ◌∷◌, false, true, not, List, length, take, drop, slice_range, IfOk};
 ghost use Rattle.std.specs.List.{AllByRecursion, filter};
 ghost use Rattle.xl_base.specs.Lists.{Pairwise};
 ghost use Rattle.xl_index.specs.Index.{Has, HasLeft, IsIndexOf};
@@ -18,7 +18,7 @@ use crate::leaver::{Leaver, goes};
 use crate::listing::{drop_in, push_party_in};
 use crate::page::Page;
 use crate::pages::take_between;
-use crate::section::{group_of, party_group, places};
+use crate::section::{few_places, group_of, party_group};
 use std::alloc::{AllocError, Global};
 use xl_base::{Owner, Party};
 use xl_index::{Index, leave_all, who_of, who_opens};
@@ -80,6 +80,22 @@ fn leave_between(index: &mut Index, pages: &[Page], start: usize, end: usize)
     }
 }
 
+/// Takes out the claims from one place to before another, if there are any between.
+fn drop_between(pages: &mut Vec<Page>, index: &mut Index, start: usize, end: usize)
+    requires order { start ≤ end }
+    requires within { end ≤ length (paged pages.old.items) }
+    requires full { AreFull pages.old.items }
+    requires has { Has index.old (slice_range (paged pages.old.items) start end) }
+    ensures taken { paged pages.new.items ≡ take start (paged pages.old.items) ++ drop end (paged pages.old.items) }
+    ensures full { AreFull pages.new.items }
+    ensures index { HasLeft index.old index.new (slice_range (paged pages.old.items) start end) }
+{
+    if start < end {
+        leave_between(index, pages.as_slice(), start, end);
+        take_between(pages, start, end);
+    }
+}
+
 /// Takes out a file's claims whose numbers begin with these.
 fn drop_group(pages: &mut Vec<Page>, index: &mut Index, front: &[u64])
     requires ordered { Pairwise goes_first (paged pages.old.items) }
@@ -90,9 +106,8 @@ fn drop_group(pages: &mut Vec<Page>, index: &mut Index, front: &[u64])
     ensures full { AreFull pages.new.items }
     ensures index { HasLeft index.old index.new (filter (in_group front.now) (paged pages.old.items)) }
 {
-    let (start, end) = places(pages.as_slice(), front);
-    leave_between(index, pages.as_slice(), start, end);
-    take_between(pages, start, end);
+    let (start, end) = few_places(pages.as_slice(), front);
+    drop_between(pages, index, start, end);
 }
 
 /// Takes out an SMB open's share on a file, and its ranges there.

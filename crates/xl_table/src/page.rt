@@ -294,10 +294,10 @@ impl Page {
     ) -> Result<Option<Claim>, AllocError>
         ensures { IfOk result (λ c. c ≡ least_from (range_before names.now) least (filter (counts ask.now ranges) self.now)) }
     {
-        if is_quiet(ask.what, self.bounds) {
+        if is_beyond(least, self.bounds) {
             return Ok(least);
         }
-        if is_beyond(least, self.bounds) {
+        if is_quiet(ask.what, self.bounds) {
             return Ok(least);
         }
         let least = least_among(alloc, names, least, self.claims.as_slice(), ask, ranges)?;

@@ -13,7 +13,7 @@ use crate::files::{OnFile, on_file};
 use crate::marks::Mark;
 use crate::ordering::{key_of_owner, key_of_party};
 use crate::page::Page;
-use crate::pages::{between, claim_at, count_passing};
+use crate::pages::{between, claim_at, count_both, count_passing};
 use std::alloc::{AllocError, Global};
 use xl_base::{Owner, Party};
 use xl_matrix::Claim;
@@ -54,6 +54,20 @@ pub(crate) fn places(pages: &[Page], front: &[u64]) -> (usize, usize)
     ensures within { result.1 ≤ length (paged pages.now) }
 {
     (count_before(pages, front), count_upto(pages, front))
+}
+
+/// The same if those are few: behind the first they are looked at one by one.
+#[tactic(auto, using(crate::proofs::SectionLaws::before_parted, crate::proofs::SectionLaws::upto_parted))]
+pub(crate) fn few_places(pages: &[Page], front: &[u64]) -> (usize, usize)
+    requires ordered { Pairwise goes_first (paged pages.now) }
+    requires full { AreFull pages.now }
+    requires room { length (paged pages.now) < 2 ^ 32 }
+    ensures start { result.0 ≡ prefix_len (is_before front.now) (paged pages.now) }
+    ensures end { result.1 ≡ prefix_len (is_upto front.now) (paged pages.now) }
+    ensures order { result.0 ≤ result.1 }
+    ensures within { result.1 ≤ length (paged pages.now) }
+{
+    count_both(pages, Mark::Before, Mark::Upto, front)
 }
 
 /// The shares among a file's claims.
