@@ -48,7 +48,7 @@ use Rattle.xl_core.proofs.ChangeLaws.{AskWay, Stays, Tests, Holds, Waits, Frees,
 use Rattle.xl_core.proofs.AskWishLaws.{wish_claims, after_claims}
 use Rattle.xl_core.proofs.GoodLaws.{once_answered, fewer_cancelled, Turned, IsMoved, Answers, Rests, IsFirst, each_turn, asked_way_good, advanced_good, try_expire_good, try_lapse_good, lapse_all_good, expire_all_good}
 use Rattle.xl_core.proofs.RowLaws.{is_refusal}
-use Rattle.xl_core.proofs.SettleLaws.{apart_ids, all_out}
+use Rattle.xl_core.proofs.SettleLaws.{apart_ids, all_out, leaver_left}
 
 -- ---- an ask
 
@@ -297,14 +297,6 @@ ack_frame s cache to = record { epoch = refl; clock = refl; counter = omega arit
 pub drawn_frame : (s : CoreState) → IsFrame s [] (drawn s) 1 s.names []
 unfolding drawn
 drawn_frame s = record { epoch = refl; clock = refl; counter = refl; names = refl; leave = tt; waiters = nobody s.waiters; times = refl; leases = refl }
-
-told_left : (ws : List Waiter) → who_left (map gone ws) ≡ map (λ w. w.id) ws
-told_left [] = refl
-told_left (w ∷ ws) = ap (λ (rest : List ℕ). w.id ∷ rest) (told_left ws)
-
-leaver_left : (leaver : Leaver) (ws : List Waiter) → who_left (told_with leaver ws) ≡ numbers_with leaver ws
-unfolding told_with numbers_with
-leaver_left leaver ws = told_left (filter (waits_with leaver) ws)
 
 -- the first of some waiters that are told apart stays where others leave
 kept_behind : (ids : List ℕ) (w : Waiter) (ws : List Waiter) → AllByRecursion (λ id. (w.id == id) ≡ false) ids → AllLeave ids ws → AllLeave ids (w ∷ ws)

@@ -22,6 +22,7 @@ pub mod DeadlineLaws
 pub mod AskBreaksLaws
 pub mod BreaksThenLaws
 pub mod PassageLaws
+pub mod PassedLaws
 pub mod CachePlaces
 pub mod ChangeLaws
 pub mod SettleLaws

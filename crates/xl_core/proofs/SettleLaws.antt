@@ -29,7 +29,8 @@ use Rattle.xl_core.specs.Judge.{Ruled, all_granted, to_record}
 use Rattle.xl_table.specs.Leaving.{goes}
 use Rattle.xl_table.specs.declared.leaver.Leaver.{Leaver}
 use Rattle.xl_table.specs.declared.leaver.Leaver.TheVariants as leavers
-use Rattle.xl_core.specs.Settle.{rests, turned, plea_again, way_again, again, turn_or, first_turn, settle, turns_left, AllRest, waits_for, waits_as, waits_with, numbers_with, gone, told_of_one, all_cancelled, cancel, give_back, departed, end_party, close_open}
+use Rattle.xl_core.specs.Frames.{who_left}
+use Rattle.xl_core.specs.Settle.{rests, turned, plea_again, way_again, again, turn_or, first_turn, settle, turns_left, AllRest, waits_for, waits_as, waits_with, numbers_with, gone, told_with, told_of_one, all_cancelled, cancel, give_back, departed, end_party, close_open}
 use Rattle.xl_core.specs.declared.ask.Answer.{Answer}
 use Rattle.xl_core.specs.declared.ask.Answer.TheVariants.{Granted, Queued, Conflict, Recall, Grace, NoGrace, NotRecorded, Full, NotHeld, StoreFailed}
 use Rattle.xl_core.proofs.CacheLaws.{all_granted_caches}
@@ -278,9 +279,18 @@ passed p (w ∷ ws) apart =
       | inr e ↦ rw (e, not_first w (map (λ v. v.id) (filter p ws)) (apart_ids p w ws apart.0)) (ap (λ (vs : List Waiter). w ∷ vs) (passed p ws apart.1))
     ]
 
-pub passed_out : (leaver : Leaver) (ws : List Waiter) → Pairwise are_apart ws → without_all (numbers_with leaver ws) ws ≡ filter (λ w. not (waits_with leaver w)) ws
+told_left : (ws : List Waiter) → who_left (map gone ws) ≡ map (λ w. w.id) ws
+told_left [] = refl
+told_left (w ∷ ws) = ap (λ (rest : List ℕ). w.id ∷ rest) (told_left ws)
+
+-- of whom it is told that they wait no more with who leaves
+pub leaver_left : (leaver : Leaver) (ws : List Waiter) → who_left (told_with leaver ws) ≡ numbers_with leaver ws
+unfolding told_with numbers_with
+leaver_left leaver ws = told_left (filter (waits_with leaver) ws)
+
+pub passed_out : (leaver : Leaver) (ws : List Waiter) → Pairwise are_apart ws → without_all (who_left (told_with leaver ws)) ws ≡ filter (λ w. not (waits_with leaver w)) ws
 unfolding numbers_with
-passed_out leaver ws apart = passed (waits_with leaver) ws apart
+passed_out leaver ws apart = ap (λ (ids : List ℕ). without_all ids ws) (leaver_left leaver ws) ∙ passed (waits_with leaver) ws apart
 
 -- ---- who leaves
 

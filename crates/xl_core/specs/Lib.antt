@@ -15,6 +15,7 @@ pub mod BreaksBegun
 pub mod BreaksInOrder
 pub mod Wishes
 pub mod Numbers
+pub mod Passed
 pub mod Ticks
 pub mod Unsettled
 pub mod Good

@@ -8,6 +8,7 @@ ghost use Rattle.xl_core.specs.Decide.{ask};
 ghost use Rattle.xl_core.specs.Good.{IsGood};
 ghost use Rattle.xl_core.specs.Settle.{settle, cancel, give_back, weaken, departed};
 ghost use Rattle.xl_core.specs.Ticks.{renew};
+ghost use Rattle.xl_core.specs.Passed.{ArePassed};
 ghost use Rattle.xl_core.specs.Unsettled.{AreHeldUp};
 ghost use Rattle.xl_core.specs.State.{MayBe, GoesOn};
 ghost use Rattle.xl_core.specs.Stores.{HandsOn};
@@ -16,6 +17,7 @@ ghost use Rattle.xl_core.specs.declared.unsettled.Unsettled.TheVariants.{Files};
 
 use crate::ask::{Answer, Ask, Effect};
 use crate::parts::Parts;
+use crate::passed::{NOBODY, Passed};
 use crate::unsettled::{Unsettled, is_none, note, note_asked, note_left};
 use crate::{decide, leaving, settling, ticking};
 use std::alloc::{AllocError, Global};
@@ -63,30 +65,39 @@ fn left_by_turn(alloc: Global, had_turn: bool, before: Unsettled) -> Unsettled
     }
 }
 
-/// One turn, if a waiter has one. It is looked for among those alone who wait on an unsettled file.
+/// One turn, if a waiter has one. It is looked for among those alone who wait on an unsettled file, behind those who were passed.
+#[tactic(auto, using(crate::proofs::PassedLaws::nobody_passed))]
 pub(crate) fn settle<K: Keeper>(
     alloc: Global,
     parts: &mut Parts,
     unsettled: &mut Unsettled,
+    passed: &mut Passed,
     keeper: &mut K,
     left: &Rooms,
 ) -> Result<Option<Sequence<Effect>>, AllocError>
     requires good { IsGood (state_of parts.old) }
     requires numbers { parts.old.counter + numbers_left < 2 ^ 32 }
     requires held_up { AreHeldUp unsettled.old (state_of parts.old) }
+    requires passed { ArePassed passed.old (state_of parts.old) }
     ensures turn { (n : ℕ) → IfOk result (λ r. MayBe n (state_of parts.new) → settle n left.now (state_of parts.old) ≡ option_map (λ effects. (effects, state_of parts.new)) r) }
     ensures none { result ≡ Ok None → parts.new ≡ parts.old }
     ensures on { OnOk result (GoesOn (state_of parts.old) (state_of parts.new)) }
     ensures keeper { OnOk result (HandsOn (state_of parts.old) (state_of parts.new) (record { held = K.held keeper.old; given = K.given keeper.old; faults = K.faults keeper.old; left = K.left keeper.old }) (record { held = K.held keeper.new; given = K.given keeper.new; faults = K.faults keeper.new; left = K.left keeper.new })) }
     ensures held_up { AreHeldUp unsettled.new (state_of parts.new) }
+    ensures passed { ArePassed passed.new (state_of parts.new) }
 {
     if is_none(unsettled) {
         return Ok(None);
     }
     let before = mem::replace(unsettled, Unsettled::All);
-    let turn = settling::settle(alloc, parts, &before, keeper, left)?;
+    let front = mem::replace(passed, NOBODY);
+    let turn = settling::settle(alloc, parts, &before, front, keeper, left)?;
     *unsettled = left_by_turn(alloc, turn.is_some(), before);
-    Ok(turn)
+    let Some((effects, stay)) = turn else {
+        return Ok(None);
+    };
+    *passed = stay;
+    Ok(Some(effects))
 }
 
 /// Takes one waiter out.

@@ -17,6 +17,7 @@ ghost use Rattle.xl_core.specs.Whole.{state_of};
 use crate::ask::{Answer, Ask, Effect};
 use crate::lease::Times;
 use crate::parts::Parts;
+use crate::passed::{NOBODY, Passed};
 use crate::unsettled::Unsettled;
 use crate::{calls, ticking};
 use indexmap::IndexMap;
@@ -36,10 +37,13 @@ pub struct Core {
     parts: Parts,
     /// The files on which someone may wait who isn't blocked any more; no contract sees it.
     unsettled: Unsettled,
+    /// Of whom it is known that they stay held up, between the turns of one step; no contract sees it.
+    passed: Passed,
 }
 
 impl Model for Core {
     ghost use Rattle.xl_core.specs.State.{CoreState};
+    ghost use Rattle.xl_core.specs.Passed.{ArePassed};
     ghost use Rattle.xl_core.specs.Unsettled.{AreHeldUp};
     ghost use Rattle.xl_core.specs.Whole.{state_of};
 
@@ -47,13 +51,13 @@ impl Model for Core {
 
     ghost view = { λ c. state_of c.parts };
 
-    ghost invariant = { λ c. AreHeldUp c.unsettled (state_of c.parts) };
+    ghost invariant = { λ c. AreHeldUp c.unsettled (state_of c.parts) × ArePassed c.passed (state_of c.parts) };
 }
 
 impl Core {
     /// The core at a start, with the record as it is stored and the grace that begins with it: nothing is held, nobody waits, no
     /// lease runs. It takes no memory.
-    #[tactic(auto, using(crate::proofs::GoodLaws::started_good))]
+    #[tactic(auto, using(crate::proofs::GoodLaws::started_good, crate::proofs::PassedLaws::nobody_passed))]
     pub fn new(alloc: Global, stable: Record, grace: Grace, clock: Moment, times: Times) -> Core
         requires grace { grace ≡ begun stable clock times.grace }
         ensures state { result ≡ started stable clock times }
@@ -74,6 +78,7 @@ impl Core {
                 given: Vec::new(alloc),
             },
             unsettled: Unsettled::Files(Sequence::new(alloc)),
+            passed: NOBODY,
         }
     }
 
@@ -134,18 +139,19 @@ impl Core {
     }
 
     /// Begins a step: from now on its stores are counted, and none has failed. It takes no memory.
-    #[tactic(auto, using(crate::proofs::GoodLaws::begun_good))]
+    #[tactic(auto, using(crate::proofs::GoodLaws::begun_good, crate::proofs::PassedLaws::nobody_passed))]
     pub fn begin_step(&mut self)
         ensures state { self.new ≡ step_begun self.old }
         ensures good { IsGood self.old → IsGood self.new }
     {
+        self.passed = NOBODY;
         begin_step(&mut self.parts);
     }
 
     /// Answers an ask, and tells what else happened. `left` is the room that is left in the tables of the fronts. At least
     /// 65,536 numbers must be left to give out. The name of one who is monitored is stored in the record before the grant, if the
     /// record lacks it; StoreFailed comes only if the keeper's count of faults rose in this step.
-    #[tactic(auto, using(crate::proofs::DoorLaws::ask_keeps))]
+    #[tactic(auto, using(crate::proofs::DoorLaws::ask_keeps, crate::proofs::PassedLaws::nobody_passed))]
     pub fn ask<K: Keeper>(
         &mut self,
         alloc: Global,
@@ -161,6 +167,7 @@ impl Core {
         ensures good { OnOk result (IsGood self.new) }
         ensures keeper { OnOk result (HandsOn self.old self.new (record { held = K.held keeper.old; given = K.given keeper.old; faults = K.faults keeper.old; left = K.left keeper.old }) (record { held = K.held keeper.new; given = K.given keeper.new; faults = K.faults keeper.new; left = K.left keeper.new })) }
     {
+        self.passed = NOBODY;
         let answered = calls::answer(
             alloc,
             &mut self.parts,
@@ -190,35 +197,44 @@ impl Core {
         ensures good { OnOk result (IsGood self.new) }
         ensures keeper { OnOk result (HandsOn self.old self.new (record { held = K.held keeper.old; given = K.given keeper.old; faults = K.faults keeper.old; left = K.left keeper.old }) (record { held = K.held keeper.new; given = K.given keeper.new; faults = K.faults keeper.new; left = K.left keeper.new })) }
     {
-        let turn = calls::settle(alloc, &mut self.parts, &mut self.unsettled, keeper, left)?;
+        let turn = calls::settle(
+            alloc,
+            &mut self.parts,
+            &mut self.unsettled,
+            &mut self.passed,
+            keeper,
+            left,
+        )?;
         Ok(turn)
     }
 
     /// Takes out the waiter with this number, and tells that it waits no more. No claim changes.
-    #[tactic(auto, using(crate::proofs::GoodLaws::cancel_good))]
+    #[tactic(auto, using(crate::proofs::GoodLaws::cancel_good, crate::proofs::PassedLaws::nobody_passed))]
     pub fn cancel(&mut self, alloc: Global, waiter: u32) -> Result<Sequence<Effect>, AllocError>
         requires waits { is_waiting waiter self.old.waiters ≡ true }
         requires good { IsGood self.old }
         ensures state { IfOk result (λ effects. cancel self.old waiter ≡ (effects, self.new)) }
         ensures good { OnOk result (IsGood self.new) }
     {
+        self.passed = NOBODY;
         calls::cancel(alloc, &mut self.parts, &mut self.unsettled, waiter)
     }
 
     /// Takes out one held claim, which its owner gives back. There is nothing to tell.
-    #[tactic(auto, using(crate::proofs::GoodLaws::give_back_good))]
+    #[tactic(auto, using(crate::proofs::GoodLaws::give_back_good, crate::proofs::PassedLaws::nobody_passed))]
     pub fn give_back(&mut self, alloc: Global, claim: &Claim) -> Sequence<Effect>
         requires held { IsIn claim.now self.old.claims }
         requires good { IsGood self.old }
         ensures state { give_back self.old claim.now ≡ (result, self.new) }
         ensures good { IsGood self.new }
     {
+        self.passed = NOBODY;
         calls::give_back(alloc, &mut self.parts, &mut self.unsettled, claim)
     }
 
     /// Makes a held share weaker: from now on it has this access and deny, which lie within those that it had (RFC 7530 16.19,
     /// OPEN_DOWNGRADE). There is nothing to tell. It takes no memory.
-    #[tactic(auto, using(crate::proofs::WeakenLaws::weaken_good))]
+    #[tactic(auto, using(crate::proofs::WeakenLaws::weaken_good, crate::proofs::PassedLaws::nobody_passed))]
     pub fn weaken(
         &mut self,
         alloc: Global,
@@ -232,6 +248,7 @@ impl Core {
         ensures state { weaken self.old share.now access deny ≡ (result, self.new) }
         ensures good { IsGood self.new }
     {
+        self.passed = NOBODY;
         calls::weaken(
             alloc,
             &mut self.parts,
@@ -244,7 +261,7 @@ impl Core {
 
     /// Takes the answer to the break of a held cache: this much of the cache is left, or nothing, and no more than the break
     /// leaves (MS-SMB2 3.3.5.22). There is nothing to tell. It takes no memory.
-    #[tactic(auto, using(crate::proofs::BreakAnswerLaws::ack_good))]
+    #[tactic(auto, using(crate::proofs::BreakAnswerLaws::ack_good, crate::proofs::PassedLaws::nobody_passed))]
     pub fn ack(&mut self, alloc: Global, cache: &Claim, to: Option<CacheKind>) -> Sequence<Effect>
         requires held { IsIn cache.now self.old.claims }
         requires runs { may_be_left cache.now.what to ≡ true }
@@ -252,11 +269,12 @@ impl Core {
         ensures state { ack self.old cache.now to ≡ (result, self.new) }
         ensures good { IsGood self.new }
     {
+        self.passed = NOBODY;
         calls::ack(alloc, &mut self.parts, &mut self.unsettled, cache, to)
     }
 
     /// Gives out the next number. At least 65,536 numbers must be left to give out. It takes no memory.
-    #[tactic(auto, using(crate::proofs::GoodLaws::drawn_good, crate::proofs::HeldUpLaws::drawn_up))]
+    #[tactic(auto, using(crate::proofs::GoodLaws::drawn_good, crate::proofs::HeldUpLaws::drawn_up, crate::proofs::PassedLaws::drawn_passed))]
     pub fn draw(&mut self) -> u32
         requires good { IsGood self.old }
         requires numbers { self.old.counter + numbers_left < 2 ^ 32 }
@@ -268,12 +286,13 @@ impl Core {
     }
 
     /// Takes out all claims and waiters of a party, and tells of the waiters. The party's name stays.
-    #[tactic(auto, unfolding(crate::specs::Settle::end_party), using(crate::proofs::GoodLaws::departed_good))]
+    #[tactic(auto, unfolding(crate::specs::Settle::end_party), using(crate::proofs::GoodLaws::departed_good, crate::proofs::PassedLaws::nobody_passed))]
     pub fn end_party(&mut self, alloc: Global, party: Party) -> Result<Sequence<Effect>, AllocError>
         requires good { IsGood self.old }
         ensures state { IfOk result (λ effects. end_party self.old party ≡ (effects, self.new)) }
         ensures good { OnOk result (IsGood self.new) }
     {
+        self.passed = NOBODY;
         let leaver = Leaver::Party(party);
         let effects = calls::leave(alloc, &mut self.parts, &mut self.unsettled, leaver)?;
         Ok(effects)
@@ -281,7 +300,7 @@ impl Core {
 
     /// Closes the SMB open with this number: takes out its share, its ranges and its waiters, and tells of the waiters. If a
     /// party is given, its caches go too: the open itself, or the lease whose last open it is (MS-SMB2 3.3.4.17).
-    #[tactic(auto, unfolding(crate::specs::Settle::close_open), using(crate::proofs::GoodLaws::departed_good))]
+    #[tactic(auto, unfolding(crate::specs::Settle::close_open), using(crate::proofs::GoodLaws::departed_good, crate::proofs::PassedLaws::nobody_passed))]
     pub fn close_open(
         &mut self,
         alloc: Global,
@@ -292,6 +311,7 @@ impl Core {
         ensures state { IfOk result (λ effects. close_open self.old number party ≡ (effects, self.new)) }
         ensures good { OnOk result (IsGood self.new) }
     {
+        self.passed = NOBODY;
         let leaver = Leaver::Open(number, party);
         let effects = calls::leave(alloc, &mut self.parts, &mut self.unsettled, leaver)?;
         Ok(effects)
@@ -299,12 +319,13 @@ impl Core {
 
     /// Renews the lease of the NFSv4 client with this id string: it runs for its whole length from now on (RFC 7530 9.5), also
     /// if the client had none. There is nothing to tell.
-    #[tactic(auto, using(crate::proofs::GoodLaws::renew_good))]
+    #[tactic(auto, using(crate::proofs::GoodLaws::renew_good, crate::proofs::PassedLaws::nobody_passed))]
     pub fn renew(&mut self, alloc: Global, client: &[u8]) -> Result<Sequence<Effect>, AllocError>
         requires good { IsGood self.old }
         ensures state { IfOk result (λ effects. renew self.old client.now ≡ (effects, self.new)) }
         ensures good { OnOk result (IsGood self.new) }
     {
+        self.passed = NOBODY;
         calls::renew(alloc, &mut self.parts, &mut self.unsettled, client)
     }
 
@@ -314,6 +335,7 @@ impl Core {
     /// the order of their id strings by bytes. A client that expires loses all that it has, and that is told. Before that
     /// the record without it is stored, if it has it; if that fails all stays, and the next reading tries again. Last the grace that
     /// runs ends, if its end has come and the record without the names that reclaimed nothing is stored.
+    #[tactic(auto, using(crate::proofs::PassedLaws::nobody_passed))]
     pub fn tick<K: Keeper>(
         &mut self,
         alloc: Global,
@@ -326,6 +348,7 @@ impl Core {
         ensures good { OnOk result (IsGood self.new) }
         ensures keeper { OnOk result (HandsOn self.old self.new (record { held = K.held keeper.old; given = K.given keeper.old; faults = K.faults keeper.old; left = K.left keeper.old }) (record { held = K.held keeper.new; given = K.given keeper.new; faults = K.faults keeper.new; left = K.left keeper.new })) }
     {
+        self.passed = NOBODY;
         let effects = ticking::tick(alloc, &mut self.parts, &mut self.unsettled, keeper, now)?;
         Ok(effects)
     }

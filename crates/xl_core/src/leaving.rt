@@ -1,12 +1,13 @@
 //! Who waits no more, who leaves, and who has less from now on.
-ghost use Rattle.std.specs.Prelude.{◌≡◌, ℕ, ◌++◌, [], ◌∷◌, true, length, map, OnOk, IfOk};
+ghost use Rattle.std.specs.Prelude.{◌≡◌, ℕ, ◌++◌, List, [], ◌∷◌, true, length, map, OnOk, IfOk};
 ghost use Rattle.std.specs.List.{filter, list_any};
 ghost use Rattle.xl_matrix.specs.Equal.{same_owners, same_parties};
 ghost use Rattle.xl_wait.specs.Waiting.{cancelled};
 ghost use Rattle.xl_core.specs.Good.{IsGood};
 ghost use Rattle.xl_base.specs.Lists.{IsIn};
 ghost use Rattle.xl_core.specs.BreakAnswers.{ack};
-ghost use Rattle.xl_core.specs.Settle.{waits_for, waits_as, waits_with, numbers_with, gone, told_with, told_of_one, cancel, give_back, weaken, departed};
+ghost use Rattle.xl_core.specs.Frames.{with_told, who_left};
+ghost use Rattle.xl_core.specs.Settle.{waits_for, waits_as, waits_with, gone, told_with, told_of_one, cancel, give_back, weaken, departed};
 ghost use Rattle.xl_core.specs.Whole.{state_of};
 
 use crate::ask::Effect;
@@ -135,20 +136,6 @@ fn waits_with(leaver: Leaver, waiter: &Waiter) -> bool
     }
 }
 
-/// The numbers of those who wait no more once this one leaves.
-#[tactic(auto, unfolding(crate::specs::Settle::numbers_with))]
-fn numbers_with(alloc: Global, leaver: Leaver, waiters: &[Waiter]) -> Result<Vec<u32>, AllocError>
-    ensures { IfOk result (λ v. v.items ≡ numbers_with leaver waiters.now) }
-{
-    let mut numbers = Vec::new(alloc);
-    for waiter in waiters {
-        if waits_with(leaver, waiter) {
-            numbers.push(waiter.id)?;
-        }
-    }
-    Ok(numbers)
-}
-
 /// What is told of those who wait no more once this one leaves.
 #[tactic(auto, unfolding(crate::specs::Settle::told_with))]
 fn told_with(
@@ -167,6 +154,30 @@ fn told_with(
     Ok(effects)
 }
 
+/// Adds the number of the waiter of whom this tells that it waits no more, if it does.
+fn push_left(numbers: &mut Vec<u32>, effect: &Effect) -> Result<(), AllocError>
+    ensures { OnOk result ((rest : List ℕ) → numbers.new.items ++ rest ≡ numbers.old.items ++ with_told effect.now rest) }
+{
+    match effect {
+        Effect::Served(_, id, _) => numbers.push(*id)?,
+        Effect::Cancelled(_, id) => numbers.push(*id)?,
+        Effect::Begun(_, _, _) => {}
+        Effect::Expired(_) => {}
+    }
+    Ok(())
+}
+
+/// The numbers of the waiters of whom these tell that they wait no more.
+fn who_left(alloc: Global, told: &[Effect]) -> Result<Vec<u32>, AllocError>
+    ensures { IfOk result (λ v. v.items ≡ who_left told.now) }
+{
+    let mut numbers = Vec::new(alloc);
+    for effect in told {
+        push_left(&mut numbers, effect)?;
+    }
+    Ok(numbers)
+}
+
 /// Takes out the claims and the waiters that go with who leaves, these in one pass.
 #[tactic(auto, using(crate::proofs::SettleLaws::passed_out))]
 pub(crate) fn leave(
@@ -177,8 +188,8 @@ pub(crate) fn leave(
     requires good { IsGood (state_of parts.old) }
     ensures { IfOk result (λ effects. departed (state_of parts.old) leaver ≡ (effects, state_of parts.new)) }
 {
-    let numbers = numbers_with(alloc, leaver, parts.queue.waiters())?;
     let effects = told_with(alloc, leaver, parts.queue.waiters())?;
+    let numbers = who_left(alloc, effects.as_slice())?;
     parts.table.remove_leaver(leaver);
     parts.queue.cancel_all(&numbers)?;
     Ok(effects)

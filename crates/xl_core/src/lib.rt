@@ -21,6 +21,7 @@ mod leaving;
 mod limits;
 pub mod opens;
 mod parts;
+mod passed;
 mod reclaims;
 mod settling;
 mod standings;

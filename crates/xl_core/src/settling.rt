@@ -1,9 +1,12 @@
 //! Whose turn comes, and what it gets.
-ghost use Rattle.std.specs.Prelude.{◌≡◌, ◌+◌, ◌<◌, ◌^◌, ℕ, false, List, [], ◌∷◌, Ok, None, is_some, option_map, IfOk, OnOk};
+ghost use Rattle.std.specs.Prelude.{◌≡◌, ◌+◌, ◌<◌, ◌^◌, ℕ, true, false, List, [], ◌∷◌, Ok, None, take, is_some, option_map, IfOk, IfSome, OnOk};
+ghost use Rattle.std.specs.List.{AllByRecursion};
 ghost use Rattle.xl_base.specs.Limits.{numbers_left};
 ghost use Rattle.xl_wait.specs.Waiting.{waiting_on};
 ghost use Rattle.xl_wait.specs.declared.waiter.Waiter.{Waiter};
 ghost use Rattle.xl_core.specs.Good.{AllBehind, holds_back, is_held_up, holds_up, IsGood};
+ghost use Rattle.xl_core.specs.Passed.{ArePassed, FreesNobody, StandBefore};
+ghost use Rattle.xl_core.specs.Ways.{made_way};
 ghost use Rattle.xl_core.specs.Settle.{plea_again, all_of, turned, settle, called_of, first_called};
 ghost use Rattle.xl_core.specs.Unsettled.{IsHeldUp, AreHeldUp};
 ghost use Rattle.xl_core.specs.declared.unsettled.Unsettled.TheVariants.{Files};
@@ -15,6 +18,7 @@ use crate::ask::{Answer, Effect};
 use crate::blockers::{Passage, first_broken, look};
 use crate::judge::{Plea, Ruling, judge_all};
 use crate::parts::Parts;
+use crate::passed::{NOBODY, Passed, frees_nobody, known_on, passed_then};
 use crate::standings::{recorded_at, standing_again};
 use crate::stores::unrecorded;
 use crate::unsettled::{Unsettled, is_among, only_file};
@@ -135,70 +139,92 @@ fn called_of(alloc: Global, parts: &Parts, waiter: &Waiter) -> Result<Called, Al
     })
 }
 
-/// The first who waits on this file and isn't held up.
-fn first_on(alloc: Global, parts: &Parts, file: u32) -> Result<Option<Called>, AllocError>
+/// The first who waits on this file and isn't held up, and who waits there before it; the first so many are known to be held up.
+fn first_on(
+    alloc: Global,
+    parts: &Parts,
+    file: u32,
+    known: usize,
+) -> Result<Option<(Called, Passed)>, AllocError>
     requires calm { is_some parts.now.grace ≡ false }
-    ensures { IfOk result (λ called. called ≡ first_called (state_of parts.now) [] (waiting_on file parts.now.queue)) }
+    requires good { IsGood (state_of parts.now) }
+    requires known { AllByRecursion (λ w. holds_up [] (state_of parts.now) w w.asked ≡ true) (take known (waiting_on file parts.now.queue)) }
+    ensures called { IfOk result (λ r. option_map (λ x. x.0) r ≡ first_called (state_of parts.now) [] (waiting_on file parts.now.queue)) }
+    ensures before { IfOk result (λ r. IfSome r (λ x. StandBefore x.0 x.1 (state_of parts.now))) }
 {
-    'waiters: for count in 0..parts.queue.len() {
+    'waiters: for count in known..parts.queue.len() {
         let Some(waiter) = parts.queue.nth_on(file, count) else {
             return Ok(None);
         };
         if !is_up(alloc, parts, waiter)? {
-            return Ok(Some(called_of(alloc, parts, waiter)?));
+            let called = called_of(alloc, parts, waiter)?;
+            return Ok(Some((called, Passed { file, count })));
         }
     }
     Ok(None)
 }
 
 /// The first who isn't held up, if this is the one unsettled file: the first such of those who wait on it.
-fn called_on(alloc: Global, parts: &Parts, file: u32) -> Result<Option<Called>, AllocError>
+fn called_on(
+    alloc: Global,
+    parts: &Parts,
+    file: u32,
+    passed: Passed,
+) -> Result<Option<(Called, Passed)>, AllocError>
     requires calm { is_some parts.now.grace ≡ false }
     requires good { IsGood (state_of parts.now) }
     requires held_up { AreHeldUp (Files (file ∷ [])) (state_of parts.now) }
-    ensures { IfOk result (λ called. called ≡ first_called (state_of parts.now) [] parts.now.queue) }
+    requires passed { ArePassed passed (state_of parts.now) }
+    ensures called { IfOk result (λ r. option_map (λ x. x.0) r ≡ first_called (state_of parts.now) [] parts.now.queue) }
+    ensures before { IfOk result (λ r. IfSome r (λ x. StandBefore x.0 x.1 (state_of parts.now))) }
 {
-    let called = first_on(alloc, parts, file)?;
+    let called = first_on(alloc, parts, file, known_on(parts, file, passed))?;
     Ok(called)
 }
 
 /// The first of these that isn't held up, who waits on one of the unsettled files.
-#[tactic(auto, using(crate::proofs::HeldUpLaws::each_up, crate::proofs::UnsettledLaws::called_onward))]
+#[tactic(auto, using(crate::proofs::HeldUpLaws::each_up, crate::proofs::UnsettledLaws::called_onward, crate::proofs::PassedLaws::nobody_before))]
 fn first_called(
     alloc: Global,
     parts: &Parts,
     unsettled: &Unsettled,
     waiters: &[Waiter],
-) -> Result<Option<Called>, AllocError>
+) -> Result<Option<(Called, Passed)>, AllocError>
     requires calm { is_some parts.now.grace ≡ false }
     requires up { AllBehind (λ earlier w. IsHeldUp unsettled.now earlier (state_of parts.now) w w.asked) [] waiters.now }
-    ensures { IfOk result (λ called. called ≡ first_called (state_of parts.now) [] waiters.now) }
+    ensures called { IfOk result (λ r. option_map (λ x. x.0) r ≡ first_called (state_of parts.now) [] waiters.now) }
+    ensures before { IfOk result (λ r. IfSome r (λ x. StandBefore x.0 x.1 (state_of parts.now))) }
 {
     for waiter in waiters {
         if !holds_up(alloc, parts, unsettled, waiter)? {
-            return Ok(Some(called_of(alloc, parts, waiter)?));
+            let called = called_of(alloc, parts, waiter)?;
+            return Ok(Some((called, NOBODY)));
         }
     }
     Ok(None)
 }
 
-/// The first who isn't held up, as it is called; none while grace runs. It is looked for among those alone who wait on an unsettled file: in
-/// its queue, if it is one, and else in the order of arrival.
+/// The first who isn't held up, as it is called, and who waits on its file before it; none while grace runs. It is looked for among
+/// those alone who wait on an unsettled file: in its queue, behind those who are known to be held up, if it is one, and else in
+/// the order of arrival.
 #[tactic(auto, using(crate::proofs::TurnCode::none_called))]
 fn next_called(
     alloc: Global,
     parts: &Parts,
     unsettled: &Unsettled,
-) -> Result<Option<Called>, AllocError>
+    passed: Passed,
+) -> Result<Option<(Called, Passed)>, AllocError>
     requires good { IsGood (state_of parts.now) }
     requires held_up { AreHeldUp unsettled.now (state_of parts.now) }
-    ensures { IfOk result (λ called. called ≡ first_called (state_of parts.now) [] parts.now.queue) }
+    requires passed { ArePassed passed (state_of parts.now) }
+    ensures called { IfOk result (λ r. option_map (λ x. x.0) r ≡ first_called (state_of parts.now) [] parts.now.queue) }
+    ensures before { IfOk result (λ r. IfSome r (λ x. StandBefore x.0 x.1 (state_of parts.now))) }
 {
     if parts.grace.runs() {
         return Ok(None);
     }
     match only_file(unsettled) {
-        Some(file) => called_on(alloc, parts, file),
+        Some(file) => called_on(alloc, parts, file, passed),
         None => first_called(alloc, parts, unsettled, parts.queue.waiters()),
     }
 }
@@ -243,27 +269,33 @@ fn serve(
     Ok(effects)
 }
 
-/// One turn, if a waiter has one. It is looked for among those who wait on the unsettled files.
+/// One turn, if a waiter has one, and who waits before it and stays held up. It is looked for among those who wait on the unsettled
+/// files.
 #[tactic(auto, unfolding(crate::specs::Settle::settle))]
 pub(crate) fn settle<K: Keeper>(
     alloc: Global,
     parts: &mut Parts,
     unsettled: &Unsettled,
+    passed: Passed,
     keeper: &mut K,
     left: &Rooms,
-) -> Result<Option<Sequence<Effect>>, AllocError>
+) -> Result<Option<(Sequence<Effect>, Passed)>, AllocError>
     requires good { IsGood (state_of parts.old) }
     requires held_up { AreHeldUp unsettled.now (state_of parts.old) }
+    requires passed { ArePassed passed (state_of parts.old) }
     requires numbers { parts.old.counter + numbers_left < 2 ^ 32 }
-    ensures turn { (n : ℕ) → IfOk result (λ r. MayBe n (state_of parts.new) → settle n left.now (state_of parts.old) ≡ option_map (λ effects. (effects, state_of parts.new)) r) }
+    ensures turn { (n : ℕ) → IfOk result (λ r. MayBe n (state_of parts.new) → settle n left.now (state_of parts.old) ≡ option_map (λ x. (x.0, state_of parts.new)) r) }
     ensures none { result ≡ Ok None → parts.new ≡ parts.old }
+    ensures before { IfOk result (λ r. IfSome r (λ x. 0 < x.1.count → IfSome (first_called (state_of parts.old) [] parts.old.queue) (λ called. FreesNobody called x.1.file (state_of parts.old) × StandBefore called x.1 (state_of parts.old) × ((earlier : List Waiter) → (made_way earlier called.plea called.asked (state_of parts.old)).0 ≡ [])))) }
     ensures on { OnOk result (GoesOn (state_of parts.old) (state_of parts.new)) }
     ensures keeper { OnOk result (HandsOn (state_of parts.old) (state_of parts.new) (record { held = K.held keeper.old; given = K.given keeper.old; faults = K.faults keeper.old; left = K.left keeper.old }) (record { held = K.held keeper.new; given = K.given keeper.new; faults = K.faults keeper.new; left = K.left keeper.new })) }
 {
-    let Some(called) = next_called(alloc, parts, unsettled)? else {
+    let Some((called, front)) = next_called(alloc, parts, unsettled, passed)? else {
         return Ok(None);
     };
+    let frees_nobody = frees_nobody(alloc, parts, &called, front.file)?;
     let (begun, known) = make_way(alloc, parts, &called.plea, called.asked.as_slice())?;
+    let stay = passed_then(front, frees_nobody, begun.as_slice());
     let ruling = judge_all(
         alloc,
         parts,
@@ -273,5 +305,5 @@ pub(crate) fn settle<K: Keeper>(
         called.asked.as_slice(),
         known,
     )?;
-    Ok(Some(serve(alloc, parts, &called, ruling, begun)?))
+    Ok(Some((serve(alloc, parts, &called, ruling, begun)?, stay)))
 }

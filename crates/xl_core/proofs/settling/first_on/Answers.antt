@@ -1,20 +1,38 @@
-use Rattle.std.proofs.Common.{sym, arith, ap, Some, ◌∙◌}
+use Rattle.std.proofs.Common.{◌≡◌, true, [], Some, ap, arith, subst, sym, ◌∙◌}
 use Rattle.xl_wait.specs.Waiting.{waiting_on}
+use Rattle.xl_core.specs.Good.{holds_up}
+use Rattle.xl_core.specs.Passed.{StandBefore}
 use Rattle.xl_core.specs.Whole.{state_of}
+use Rattle.xl_core.specs.declared.settling.Called.{Called}
+use Rattle.xl_core.proofs.PassedLaws.{known_first, one_more, stand_before}
 use Rattle.xl_core.proofs.UnsettledLaws.{on_end, on_free, on_none, on_past}
 use Rattle.xl_core.proofs.settling.first_on.Goals as goal
 
-pub returns-in_default : goal.returns-in_default
-returns-in_default c = on_none (state_of c.args.parts.now) (waiting_on c.args.file c.args.parts.now.queue) c.waiters.count (sym c.in_default.ensures) c.waiters.invariant
+pub waiters-init : goal.waiters-init
+waiters-init c = (known_first (state_of c.args.parts.now) c.args.known (waiting_on c.args.file c.args.parts.now.queue) c.requires.known, c.requires.known)
 
-pub returns-then-not-branch : goal.returns-then-not-branch
-returns-then-not-branch c =
-    ap (λ called. Some called) c.in_ok-called_of.ensures
-    ∙ on_free (state_of c.args.parts.now) (waiting_on c.args.file c.args.parts.now.queue) c.waiters.count c.in-Some.waiter.now (sym c.in-Some.ensures) (sym c.in_ok-is_up.ensures ∙ c.if-not-branch.true) c.waiters.invariant
+pub returns-in_default-clause-called : goal.returns-in_default-clause-called
+returns-in_default-clause-called c = on_none (state_of c.args.parts.now) (waiting_on c.args.file c.args.parts.now.queue) c.waiters.count (sym c.in_default.ensures) c.waiters.invariant.0
+
+pub returns-then-not-branch-clause-called : goal.returns-then-not-branch-clause-called
+returns-then-not-branch-clause-called c =
+    ap (λ called. Some called) c.in_ok-called.ensures
+    ∙ on_free (state_of c.args.parts.now) (waiting_on c.args.file c.args.parts.now.queue) c.waiters.count c.in-Some.waiter.now (sym c.in-Some.ensures) (sym c.in_ok-is_up.ensures ∙ c.if-not-branch.true) c.waiters.invariant.0
+
+pub returns-then-not-branch-clause-before : goal.returns-then-not-branch-clause-before
+returns-then-not-branch-clause-before c =
+    let s = state_of c.args.parts.now in
+    subst (λ (called : Called). StandBefore called (record { file = c.args.file; count = c.waiters.count }) s) (sym c.in_ok-called.ensures) (stand_before s c.args.file c.waiters.count c.in-Some.waiter.now c.requires.good (sym c.in-Some.ensures) c.waiters.invariant.1)
 
 pub waiters-preserved : goal.waiters-preserved
 waiters-preserved c =
-    on_past (state_of c.args.parts.now) (waiting_on c.args.file c.args.parts.now.queue) c.waiters.count c.in-Some.waiter.now (sym c.in-Some.ensures) (sym c.in_ok-is_up.ensures ∙ c.if-not-branch.false) c.waiters.invariant
+    let s = state_of c.args.parts.now in
+    let on = waiting_on c.args.file c.args.parts.now.queue in
+    let w = c.in-Some.waiter.now in
+    let up : holds_up [] s w w.asked ≡ true = sym c.in_ok-is_up.ensures ∙ c.if-not-branch.false in (
+      on_past s on c.waiters.count w (sym c.in-Some.ensures) up c.waiters.invariant.0,
+      one_more (λ v. holds_up [] s v v.asked ≡ true) on c.waiters.count w (sym c.in-Some.ensures) up c.waiters.invariant.1,
+    )
 
-pub returns : goal.returns
-returns c = on_end (state_of c.args.parts.now) c.args.file c.waiters.count c.args.parts.now.queue (omega (arith, c.len-count-end.ensures, c.waiters-test.false)) c.waiters.invariant
+pub returns-clause-called : goal.returns-clause-called
+returns-clause-called c = on_end (state_of c.args.parts.now) c.args.file c.waiters.count c.args.parts.now.queue (omega (arith, c.len-count-end.ensures, c.waiters-test.false)) c.waiters.invariant.0

@@ -1,4 +1,4 @@
-use Rattle.std.proofs.Common.{◌≡◌, true, false, [], List, ap, sym, subst, ◌∙◌}
+use Rattle.std.proofs.Common.{◌≡◌, true, false, [], List, Option, option_map, ap, sym, subst, ◌∙◌}
 use Rattle.std.specs.Option.{IfSome}
 use Rattle.xl_base.specs.Stable.{Stable, is_recordable, is_recorded}
 use Rattle.std.specs.List.{AllByRecursion}
@@ -6,9 +6,15 @@ use Rattle.xl_matrix.specs.declared.claim.Claim.{Claim}
 use Rattle.xl_table.specs.Held.{has_one_party}
 use Rattle.xl_core.specs.Blockers.{IsKnown}
 use Rattle.xl_core.specs.Judge.{IsRow, judged}
+use Rattle.xl_core.specs.Passed.{FreesNobody, StandBefore}
 use Rattle.xl_core.specs.Settle.{settle}
 use Rattle.xl_core.specs.Whole.{state_of}
 use Rattle.xl_core.specs.Ways.{made_way}
+use Rattle.xl_wait.specs.declared.waiter.Waiter.{Waiter}
+use Rattle.xl_core.specs.State.{CoreState}
+use Rattle.xl_core.specs.declared.ask.Effect.{Effect}
+use Rattle.xl_core.specs.declared.passed.Passed.{Passed}
+use Rattle.xl_core.specs.declared.settling.Called.{Called}
 use Rattle.xl_core.proofs.DoorLaws.{called_row}
 use Rattle.xl_core.proofs.AskCode.{parts_stores, may_before, hands_between}
 use Rattle.xl_core.proofs.TurnCode.{called_new}
@@ -20,39 +26,39 @@ pub returns-in_default-clause-turn : goal.returns-in_default-clause-turn
 unfolding settle
 returns-in_default-clause-turn g c =
     λ n may. none_is_found c.args.left.now (state_of c.args.parts.now) [] c.args.parts.now.queue
-    (sym c.in_ok-called.ensures ∙ c.in_default.is) n
+    (sym c.in_ok-called.ensures.called ∙ ap (λ (r : Option (Called × Passed)). option_map (λ x. x.0) r) c.in_default.is) n
 
 pub judge_all-requires-clause-known : goal.judge_all-requires-clause-known
 judge_all-requires-clause-known g c =
-    subst (λ (cs : List Claim). IsKnown c.in_ok-begun.known (state_of c.make_way.new.parts) cs) (c.as_slice.ensures ∙ sym c.as_slice-2.ensures) c.in_ok-begun.ensures.known
+    subst (λ (cs : List Claim). IsKnown c.in_ok-begun.known (state_of c.make_way.new.parts) cs) (c.as_slice.ensures ∙ sym c.as_slice-3.ensures) c.in_ok-begun.ensures.known
 
 pub judge_all-requires-clause-row : goal.judge_all-requires-clause-row
 judge_all-requires-clause-row g c =
-    subst IsRow (sym c.as_slice-2.ensures)
+    subst IsRow (sym c.as_slice-3.ensures)
     (called_row c.args.parts.now c.in-Some.called c.requires.good
-    (sym c.in_ok-called.ensures ∙ c.in-Some.is))
+    (sym c.in_ok-called.ensures.called ∙ ap (λ (r : Option (Called × Passed)). option_map (λ x. x.0) r) c.in-Some.is))
 
 pub judge_all-requires-clause-party : goal.judge_all-requires-clause-party
 judge_all-requires-clause-party g c =
-    subst (λ (cs : List Claim). AllByRecursion (λ d. AllByRecursion (λ e. has_one_party d e ≡ true) c.make_way.new.parts.table) cs) (sym c.as_slice-2.ensures)
+    subst (λ (cs : List Claim). AllByRecursion (λ d. AllByRecursion (λ e. has_one_party d e ≡ true) c.make_way.new.parts.table) cs) (sym c.as_slice-3.ensures)
     (called_alone_then c.args.parts.now c.make_way.new.parts c.in-Some.called c.in_ok-begun.begun c.requires.good
-    (sym c.in_ok-called.ensures ∙ c.in-Some.is)
+    (sym c.in_ok-called.ensures.called ∙ ap (λ (r : Option (Called × Passed)). option_map (λ x. x.0) r) c.in-Some.is)
     (λ earlier. ap (λ (cs : List Claim). made_way earlier c.in-Some.called.plea cs (state_of c.args.parts.now)) (sym c.as_slice.ensures) ∙ c.in_ok-begun.ensures.way earlier))
 
 pub judge_all-requires-clause-new : goal.judge_all-requires-clause-new
 judge_all-requires-clause-new g c =
     subst (λ (stable : Stable). IfSome c.in-Some.called.plea.unrecorded (λ name. (is_recordable name ≡ true) × (is_recorded name stable.names ≡ false))) (sym c.make_way.ensures.stable)
-    (called_new (state_of c.args.parts.now) [] c.args.parts.now.queue c.in-Some.called (sym c.in_ok-called.ensures ∙ c.in-Some.is))
+    (called_new (state_of c.args.parts.now) [] c.args.parts.now.queue c.in-Some.called (sym c.in_ok-called.ensures.called ∙ ap (λ (r : Option (Called × Passed)). option_map (λ x. x.0) r) c.in-Some.is))
 
 pub returns-clause-turn : goal.returns-clause-turn
 unfolding settle
 returns-clause-turn g c =
     λ n may. turn_is_found c.args.left.now (state_of c.args.parts.now) (state_of c.make_way.new.parts) (state_of c.judge_all.new.parts) (state_of c.serve.new.parts) [] c.args.parts.now.queue c.in-Some.called c.in_ok-begun.begun c.in_ok-ruling.ruling c.in_ok-serve.field-0
-    (sym c.in_ok-called.ensures ∙ c.in-Some.is)
+    (sym c.in_ok-called.ensures.called ∙ ap (λ (r : Option (Called × Passed)). option_map (λ x. x.0) r) c.in-Some.is)
     (λ earlier. ap (λ (cs : List Claim). made_way earlier c.in-Some.called.plea cs (state_of c.args.parts.now)) (sym c.as_slice.ensures) ∙ c.in_ok-begun.ensures.way earlier)
     n
     (λ earlier.
-    ap (λ (cs : List Claim). judged n earlier c.args.left.now c.in-Some.called.plea cs (state_of c.make_way.new.parts)) (sym c.as_slice-2.ensures)
+    ap (λ (cs : List Claim). judged n earlier c.args.left.now c.in-Some.called.plea cs (state_of c.make_way.new.parts)) (sym c.as_slice-3.ensures)
     ∙ c.in_ok-ruling.ensures.judged n earlier (may_before n (state_of c.judge_all.new.parts) (state_of c.serve.new.parts) (parts_stores c.judge_all.new.parts c.serve.new.parts c.serve.ensures.stable c.serve.ensures.failed c.serve.ensures.given) may))
     c.in_ok-serve.ensures.turned
 
@@ -62,3 +68,14 @@ returns-clause-keeper g c =
     (parts_stores c.args.parts.now c.make_way.new.parts c.make_way.ensures.stable c.make_way.ensures.failed c.make_way.ensures.given)
     c.in_ok-ruling.ensures.on c.in_ok-ruling.ensures.keeper
     (parts_stores c.judge_all.new.parts c.serve.new.parts c.serve.ensures.stable c.serve.ensures.failed c.serve.ensures.given)
+
+pub returns-clause-before : goal.returns-clause-before
+returns-clause-before g c = λ some.
+    let s = state_of c.args.parts.now in
+    let kept = c.passed_then-stay.ensures some in
+    let found = sym c.in_ok-called.ensures.called ∙ ap (λ (r : Option (Called × Passed)). option_map (λ x. x.0) r) c.in-Some.is in
+    subst (λ (o : Option Called). IfSome o (λ called. FreesNobody called c.passed_then-stay.result.file s × StandBefore called c.passed_then-stay.result s × ((earlier : List Waiter) → (made_way earlier called.plea called.asked s).0 ≡ []))) (sym found) (
+      subst (λ (p : Passed). FreesNobody c.in-Some.called p.file s) (sym kept.0) (c.in_ok-frees_nobody.ensures kept.1),
+      subst (λ (p : Passed). StandBefore c.in-Some.called p s) (sym kept.0) (subst (λ (r : Option (Called × Passed)). IfSome r (λ x. StandBefore x.0 x.1 s)) c.in-Some.is c.in_ok-called.ensures.before),
+      λ earlier. ap (λ (way : List Effect × CoreState). way.0) (ap (λ (cs : List Claim). made_way earlier c.in-Some.called.plea cs s) (sym c.as_slice.ensures) ∙ c.in_ok-begun.ensures.way earlier) ∙ sym c.as_slice-2.ensures ∙ kept.2,
+    )

@@ -1,0 +1,114 @@
+//! How far the queue of a file was gone through, so that a turn is looked for behind those whom the turn before left held up.
+ghost use Rattle.std.specs.Prelude.{◌≡◌, ◌<◌, [], true, take, IfOk};
+ghost use Rattle.std.specs.List.{AllByRecursion, list_all};
+ghost use Rattle.xl_wait.specs.Waiting.{waiting_on};
+ghost use Rattle.xl_core.specs.Good.{holds_up, IsGood};
+ghost use Rattle.xl_core.specs.Passed.{is_element, replaces_none, replace_none, ArePassed, FreesNobody};
+ghost use Rattle.xl_core.specs.Whole.{state_of};
+
+use crate::ask::Effect;
+use crate::parts::Parts;
+use crate::settling::Called;
+use std::alloc::{AllocError, Global};
+use xl_matrix::{Claim, Extent, What, is_posix};
+
+/// The first so many of those who wait on the file are held up, and go on to be while it has no cache.
+#[derive(Clone, Copy)]
+pub(crate) struct Passed {
+    /// The file.
+    pub file: u32,
+    /// How many of those who wait there.
+    pub count: usize,
+}
+
+/// Of nobody it is known.
+pub(crate) const NOBODY: Passed = Passed { file: 0, count: 0 };
+
+/// How many of those who wait on this file are known to be held up.
+#[tactic(auto, using(crate::proofs::PassedLaws::none_up))]
+pub(crate) fn known_on(parts: &Parts, file: u32, passed: Passed) -> usize
+    requires { ArePassed passed (state_of parts.now) }
+    ensures { AllByRecursion (λ w. holds_up [] (state_of parts.now) w w.asked ≡ true) (take result (waiting_on file parts.now.queue)) }
+{
+    if passed.file != file {
+        return 0;
+    }
+    if parts.table.has_cache(file) {
+        return 0;
+    }
+    passed.count
+}
+
+/// Whether the claim is one of an SMB open's ranges, which are held one by one.
+fn is_element(claim: &Claim) -> bool
+    ensures { result ≡ is_element claim.now }
+{
+    matches!(claim.what, What::Range(_, _)) && !is_posix(claim.owner)
+}
+
+fn are_elements(asked: &[Claim]) -> bool
+    ensures { result ≡ list_all is_element asked.now }
+{
+    asked.iter().all(is_element)
+}
+
+/// Whether nothing is held in whose place the claim comes, so that all that is held stays beside it.
+fn replaces_none(alloc: Global, parts: &Parts, claim: &Claim) -> Result<bool, AllocError>
+    ensures { IfOk result (λ b. b ≡ replaces_none claim.now parts.now.table) }
+{
+    match claim.what {
+        What::Share(_, _) => Ok(parts.table.share_of(claim.file, claim.owner).is_none()),
+        What::Range(Extent::Bytes(_, _), _) => {
+            if !is_posix(claim.owner) {
+                return Ok(true);
+            }
+            let spans = parts.table.spans_of(alloc, claim.file, claim.owner)?;
+            Ok(spans.len() == 0)
+        }
+        What::Range(Extent::Empty(_), _) => Ok(true),
+        What::Cache(_, _) => Ok(true),
+    }
+}
+
+/// Whether so it is with all of these, of which several are ranges of an SMB open.
+fn replace_none(alloc: Global, parts: &Parts, asked: &[Claim]) -> Result<bool, AllocError>
+    ensures { IfOk result (λ b. b ≡ replace_none asked.now parts.now.table) }
+{
+    match asked {
+        [] => Ok(true),
+        [claim] => replaces_none(alloc, parts, claim),
+        [_, _, ..] => Ok(are_elements(asked)),
+    }
+}
+
+/// Whether a grant to the one who is called frees nobody in front of it: no cache is on the file, nor wished for, and what is
+/// held stays.
+pub(crate) fn frees_nobody(
+    alloc: Global,
+    parts: &Parts,
+    called: &Called,
+    file: u32,
+) -> Result<bool, AllocError>
+    requires { IsGood (state_of parts.now) }
+    ensures { IfOk result (λ b. b ≡ true → FreesNobody called.now file (state_of parts.now)) }
+{
+    if !called.wish.is_empty() {
+        return Ok(false);
+    }
+    if parts.table.has_cache(file) {
+        return Ok(false);
+    }
+    let free = replace_none(alloc, parts, called.asked.as_slice())?;
+    Ok(free)
+}
+
+/// Those who were passed before the one who is called, if its turn frees none of them and began no break.
+pub(crate) fn passed_then(front: Passed, frees_nobody: bool, begun: &[Effect]) -> Passed
+    ensures { 0 < result.count → (result ≡ front) × (frees_nobody ≡ true) × (begun.now ≡ []) }
+{
+    if frees_nobody && begun.is_empty() {
+        front
+    } else {
+        NOBODY
+    }
+}
