@@ -209,6 +209,13 @@ def waiting_for(exclusive, host, count):
     return [(LOCK, 1, 0, 0, 1, True, False)] + [(LOCK, 1, 2 + at, 0, 1, exclusive, True, host) for at in range(count)]
 
 
+def waiting_behind(count):
+    """The same of half as many for a shared lock of it, behind as many who wait for another byte."""
+    half = count // 2
+    others = [(LOCK, 1, 1, 9, 1, True, False)] + [(LOCK, 1, 2 + half + at, 9, 1, True, True, HOST) for at in range(half)]
+    return others + waiting_for(False, HOST, half)
+
+
 def ranges_of(count):
     return [(LOCK, 1, 2 + at, STEP * at, 1, False, False) for at in range(count)]
 
@@ -240,6 +247,12 @@ MESSAGES = [
         "UNLOCK that n shared locks wait for",
         OF_WAITERS,
         lambda count: by_rpc(waiting_for(False, HOST, count)),
+        next_of_rpc(UNLOCK, 1, 0, 0, 1),
+    ),
+    (
+        "the same of n / 2, behind as many who wait on",
+        OF_WAITERS,
+        lambda count: by_rpc(waiting_behind(count)),
         next_of_rpc(UNLOCK, 1, 0, 0, 1),
     ),
     (
