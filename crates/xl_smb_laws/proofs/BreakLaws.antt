@@ -31,6 +31,7 @@ use Rattle.xl_core.specs.State.{CoreState}
 use Rattle.xl_core.proofs.DeedLaws.{deed_makes}
 use Rattle.xl_core.specs.Ids.{id_of}
 use Rattle.xl_smb_locks.specs.Levels.{cache_of, first_kind, lease_party, level_held, oplock_of}
+use Rattle.xl_smb_locks.specs.declared.status.SmbStatus.{SmbStatus}
 use Rattle.xl_smb_locks.specs.declared.status.SmbStatus.TheVariants.{InvalidParameter, InvalidOplockProtocol, InvalidDeviceState, FileClosed, ObjectNameNotFound, Unsuccessful, RequestNotAccepted}
 use Rattle.xl_front_smb.specs.Checks.{open_named, refused, found, negotiated_by, in_session, on_open}
 use Rattle.xl_front_smb.specs.Files.{is_refused, left_at, ack_by, ack_of, ack_oplock, may_keep, lease_left, running_of, ack_cache, break_by, acknowledge}
@@ -100,6 +101,23 @@ state_kept state running may = by (and_parts (state == 0 || (state == 1 || state
           ]
         ]
 
+-- ---- answers are apart
+
+failed_told : {status : SmbStatus} {named left : ℕ} → Failed status ≡ Acknowledged named left → ⊥
+failed_told e = cc
+
+failed_answered : {status : SmbStatus} {left : Lease} → Failed status ≡ Answered left → ⊥
+failed_answered e = cc
+
+named_is : {a b c d : ℕ} → Acknowledged a b ≡ Acknowledged c d → a ≡ c
+named_is e = cc
+
+level_is : {a b c d : ℕ} → Acknowledged a b ≡ Acknowledged c d → b ≡ d
+level_is e = cc
+
+answered_is : {a b : Lease} → Answered a ≡ Answered b → a ≡ b
+answered_is e = cc
+
 -- ---- why it is told so
 
 -- of an open that is there
@@ -152,6 +170,36 @@ module _ (n : ℕ) (s : CoreState) (files : List (List ℕ)) (others : ℕ) (l :
         pub ack_left : is_refused level kind (Some running) ≡ false → IsGood s → level_held (outcome_of n s files others l conn h (OplockBreak (held.Oplock level id))).3 row.file number ≡ level
         ack_left taken good = ap (λ (r : Outcome). level_held r.3 row.file number) (ack_taken taken) ∙ left_held s row.file number level cache kind running good at is taken
 
+    -- ---- if it is told that this level is left
+
+    abbrev acked : Outcome
+    acked = outcome_of n s files others l conn h (OplockBreak (held.Oplock level id))
+
+    abbrev IsTaken : ℕ → ℕ → Type 0
+    IsTaken named left = (named ≡ id_of s number) × (left ≡ level) × (level_held acked.3 row.file number ≡ left)
+
+    pub ack_told : (named left : ℕ) → IsGood s → acked.0 ≡ Acknowledged named left → IsTaken named left
+    ack_told named left good told = by_found (oplock_of row.file number s.claims) refl
+      where
+        failed : {x : Outcome} {status : SmbStatus} → acked ≡ x → x.0 ≡ Failed status → ⊥
+        failed e fails = failed_told (sym fails ∙ sym (ap (λ (y : Outcome). y.0) e) ∙ told)
+
+        by_kept : (cache : Claim) → oplock_of row.file number s.claims ≡ Some cache → (w : What) → cache.what ≡ w → IsTaken named left
+        by_kept cache at (whats.Share access deny) is = absurd (failed (ap (carried n s l) (acked_plan (Some cache) at ∙ ap (ack_by l (id_of s number) level cache) is)) refl)
+        by_kept cache at (whats.Range extent exclusive) is = absurd (failed (ap (carried n s l) (acked_plan (Some cache) at ∙ ap (ack_by l (id_of s number) level cache) is)) refl)
+        by_kept cache at (whats.Cache kind None) is = absurd (failed (ack_resting cache kind at is) refl)
+        by_kept cache at (whats.Cache kind (Some running)) is =
+            elim (cases_Bool (is_refused level kind (Some running))) [
+              | inl unfit ↦ absurd (failed (ack_refused cache kind at running is unfit) refl)
+              | inr taken ↦ (
+                  let e : Acknowledged (id_of s number) level ≡ Acknowledged named left = sym (ap (λ (y : Outcome). y.0) (ack_taken cache kind at running is taken)) ∙ told in
+                  (sym (named_is e), sym (level_is e), ack_left cache kind at running is taken good ∙ level_is e))
+            ]
+
+        by_found : (o : Option Claim) → oplock_of row.file number s.claims ≡ o → IsTaken named left
+        by_found None at = absurd (failed (ack_bare at) refl)
+        by_found (Some cache) at = by_kept cache at cache.what refl
+
   -- ---- of a lease
 
   module _ (lease : Lease) (named : IsInSession s l conn h client session) where
@@ -199,3 +247,40 @@ module _ (n : ℕ) (s : CoreState) (files : List (List ℕ)) (others : ℕ) (l :
               ap (λ (r : Outcome). state_of (first_kind (held_at r.3 (CacheOf row.file party)))) (lease_taken keeps)
               ∙ ap state_of (kind_held s row.file party cache kind running (kind_of_state lease.state) good at is (kept_within lease.state running keeps))
               ∙ state_kept lease.state running keeps
+
+      -- ---- if it is told that this state is left
+
+      abbrev answered : Outcome
+      answered = outcome_of n s files others l conn h (OplockBreak (held.Lease lease))
+
+      abbrev IsLeft : Lease → Type 0
+      IsLeft left = (left.key ≡ lease.key) × (left.state ≡ lease.state) × (state_of (first_kind (held_at answered.3 (CacheOf row.file party))) ≡ left.state)
+
+      pub lease_told : (left : Lease) → IsGood s → answered.0 ≡ Answered left → IsLeft left
+      lease_told left good told = by_found (cache_of row.file party s.claims) refl
+        where
+          failed : {x : Outcome} {status : SmbStatus} → answered ≡ x → x.0 ≡ Failed status → ⊥
+          failed e fails = failed_answered (sym fails ∙ sym (ap (λ (y : Outcome). y.0) e) ∙ told)
+
+          bare : (cache : Claim) (w : What) → cache_of row.file party s.claims ≡ Some cache → cache.what ≡ w → running_of w ≡ None → answered ≡ (Failed Unsuccessful, [], l, s)
+          bare cache w at is none =
+              ap (carried n s l) (
+              lease_plan (Some cache) at
+              ∙ ap (λ (x : What). found (running_of x) Unsuccessful (λ r. refused ((not (may_keep lease.state r), RequestNotAccepted) ∷ []) (answers cache))) is
+              ∙ ap (λ (o : Option Break). found o Unsuccessful (λ r. refused ((not (may_keep lease.state r), RequestNotAccepted) ∷ []) (answers cache))) none)
+
+          by_kept : (cache : Claim) → cache_of row.file party s.claims ≡ Some cache → (w : What) → cache.what ≡ w → IsLeft left
+          by_kept cache at (whats.Share access deny) is = absurd (failed (bare cache (whats.Share access deny) at is refl) refl)
+          by_kept cache at (whats.Range extent exclusive) is = absurd (failed (bare cache (whats.Range extent exclusive) at is refl) refl)
+          by_kept cache at (whats.Cache kind None) is = absurd (failed (bare cache (whats.Cache kind None) at is refl) refl)
+          by_kept cache at (whats.Cache kind (Some running)) is =
+              elim (cases_Bool (may_keep lease.state running)) [
+                | inr unfit ↦ absurd (failed (lease_refused cache kind at running is unfit) refl)
+                | inl keeps ↦ (
+                    let e : lease_left lease ≡ left = answered_is (sym (ap (λ (y : Outcome). y.0) (lease_taken cache kind at running is keeps)) ∙ told) in
+                    (sym (ap (λ (x : Lease). x.key) e), sym (ap (λ (x : Lease). x.state) e), lease_holds cache kind at running is keeps good ∙ ap (λ (x : Lease). x.state) e))
+              ]
+
+          by_found : (o : Option Claim) → cache_of row.file party s.claims ≡ o → IsLeft left
+          by_found None at = absurd (failed (lease_bare at) refl)
+          by_found (Some cache) at = by_kept cache at cache.what refl

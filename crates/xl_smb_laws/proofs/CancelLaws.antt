@@ -1,12 +1,12 @@
 -- What is sent for a CANCEL.
-use Rattle.std.proofs.Common.{◌≡◌, ℕ, Bool, true, false, eqb, List, [], ◌∷◌, ◌++◌, Option, Some, None, refl, sym, ap, subst, ◌∙◌, append-nil, inl, inr}
-use Rattle.std.proofs.lemmas.Bool.{cases_Bool, true≢false, eqb-true}
+use Rattle.std.proofs.Common.{◌≡◌, ℕ, Bool, true, false, not, eqb, List, [], ◌∷◌, ◌++◌, Option, Some, None, if◌then◌else◌, refl, sym, ap, subst, ◌∙◌, append-nil, inl, inr}
+use Rattle.std.proofs.lemmas.Bool.{cases_Bool, false≢true, true≢false, eqb-true}
 use Rattle.std.proofs.lemmas.Map.Keys.{IsDistinct-head, IsDistinct-tail}
 use Rattle.std.specs.Prelude.{nat_eq, ◌==◌}
 use Rattle.std.specs.List.{AllByRecursion, IsDistinct}
 use Rattle.std.specs.Map.{keys_of, lookup}
 use Rattle.xl_base.proofs.Members.{all_in}
-use Rattle.xl_base.specs.Lists.{IsIn}
+use Rattle.xl_base.specs.Lists.{IsIn, Pairwise}
 use Rattle.xl_base.specs.declared.event.Out.{Out}
 use Rattle.xl_base.specs.declared.journal.Exports.{Exports}
 use Rattle.xl_base.specs.declared.name.Party.{Party}
@@ -17,8 +17,9 @@ use Rattle.xl_smb_state.proofs.RowLaws.{equal_from, equal_self}
 use Rattle.xl_smb_state.specs.State.{Lists, client_of, covers, keys_where, waiting_dropped, waiting_of}
 use Rattle.xl_smb_state.specs.declared.row.Scope.TheVariants as scope
 use Rattle.xl_smb_state.specs.declared.row.Waiting.{Waiting}
-use Rattle.xl_wait.specs.Waiting.{is_waiting}
+use Rattle.xl_wait.specs.Waiting.{cancelled, is_waiting}
 use Rattle.xl_wait.specs.declared.waiter.Waiter.{Waiter}
+use Rattle.xl_core.specs.Good.{IsGood, are_apart}
 use Rattle.xl_core.specs.Settle.{cancel as cancel_of, told_of_one}
 use Rattle.xl_core.specs.State.{CoreState}
 use Rattle.xl_core.specs.declared.ask.Effect.{Effect}
@@ -31,7 +32,7 @@ use Rattle.xl_front_smb.specs.Ending.{all_dismissed}
 use Rattle.xl_front_smb.specs.FrontSmb.{answered, sent_by, smb_step}
 use Rattle.xl_front_smb.specs.Laws.{IsRequest, outcome_of}
 use Rattle.xl_front_smb.specs.Locks.{came_by, cancel, cancel_named, request_named}
-use Rattle.xl_front_smb.specs.Plans.{Plan, carried}
+use Rattle.xl_front_smb.specs.Plans.{Outcome, Plan, carried}
 use Rattle.xl_front_smb.specs.Replies.{reply_of}
 use Rattle.xl_front_smb.specs.Requests.{commanded, planned}
 use Rattle.xl_front_smb.specs.State.{FrontSmb}
@@ -147,6 +148,40 @@ cancel_over n exports others f s conn bytes h client id is known named over =
 
 waits_plan : (n : ℕ) (s : CoreState) (l : Lists) (id : ℕ) → is_waiting id s.waiters ≡ true → carried n s l (cancel_named s l (Some id)) ≡ (told.Nothing, (cancel_of s id).0, l, (cancel_of s id).1)
 waits_plan n s l id waits = rw waits (λ i. (told.Nothing, append-nil (cancel_of s id).0 i, l, (cancel_of s id).1))
+
+-- ---- whom it names waits no more
+
+none_named : (w : Waiter) (id : ℕ) (ws : List Waiter) → eqb w.id id ≡ true → AllByRecursion (λ v. are_apart w v ≡ true) ws → is_waiting id ws ≡ false
+none_named w id [] same all = refl
+none_named w id (v ∷ ws) same all =
+    elim (cases_Bool (eqb v.id id)) [
+      | inl it ↦ (
+          let one : eqb w.id v.id ≡ true = subst (λ (k : ℕ). eqb k v.id ≡ true) (equal_from w.id id same) (subst (λ (k : ℕ). eqb id k ≡ true) (equal_from v.id id it) (equal_self id)) in
+          let apart : not (eqb w.id v.id) ≡ true = all.0 in
+          let f : false ≡ true = rw one at apart in absurd (false≢true f))
+      | inr other ↦ rw other (none_named w id ws same all.1)
+    ]
+
+cancelled_gone : (id : ℕ) (ws : List Waiter) → Pairwise are_apart ws → is_waiting id (cancelled id ws) ≡ false
+cancelled_gone id [] apart = refl
+cancelled_gone id (w ∷ ws) apart = by (eqb w.id id) refl (cancelled_gone id ws apart.1)
+  where
+    by : (b : Bool) → eqb w.id id ≡ b → is_waiting id (cancelled id ws) ≡ false → is_waiting id (if b then ws else w ∷ cancelled id ws) ≡ false
+    by true same rest = none_named w id ws same apart.0
+    by false other rest = rw other rest
+
+left_waiting : (s : CoreState) (id : ℕ) → (cancel_of s id).1.waiters ≡ cancelled id s.waiters
+unfolding cancel_of
+left_waiting s id = refl
+
+pub cancel_ends : (n : ℕ) (s : CoreState) (files : List (List ℕ)) (others : ℕ) (l : Lists) (conn : ℕ) (h : SmbHead) (client : List ℕ) (id : ℕ) → IsGood s → client_of conn l ≡ Some client → request_named conn l h.message_id h.route ≡ Some id
+    → is_waiting id (outcome_of n s files others l conn h Cancel).3.waiters ≡ false
+cancel_ends n s files others l conn h client id good known named =
+    let so = ap (λ (p : Plan). (carried n s l p).3.waiters) (named_plan s files others l conn h client (Some id) known named) in
+    elim (cases_Bool (is_waiting id s.waiters)) [
+      | inl waits ↦ ap (is_waiting id) (so ∙ ap (λ (r : Outcome). r.3.waiters) (waits_plan n s l id waits) ∙ left_waiting s id) ∙ cancelled_gone id s.waiters good.apart
+      | inr over ↦ ap (is_waiting id) (so ∙ ap (λ (r : Outcome). r.3.waiters) (over_plan n s l id (is_waiting id s.waiters) refl over)) ∙ over
+    ]
 
 -- it is told of one, by its party
 told_among : (id : ℕ) (ws : List Waiter) → is_waiting id ws ≡ true → (party : Party) × (told_of_one id ws ≡ one_over party id)

@@ -222,7 +222,7 @@ deed_rises n s names conn l last (Expires id) good fit own = absurd own
 deed_rises n s names conn l last (FailsStore stable) good fit own = absurd own
 deed_rises n s names conn l last EndsGrace good fit own = absurd own
 
-deeds_rise : (n : ℕ) (s : CoreState) (names : List Name) (conn : ℕ) (l : Lists) (last : ℕ) (ds : List Deed) → IsGood s → AreFit n s ds → AllByRecursion (IsOwn names conn l last) ds → s.counter + draws ds ≤ (all_done n s ds).counter
+pub deeds_rise : (n : ℕ) (s : CoreState) (names : List Name) (conn : ℕ) (l : Lists) (last : ℕ) (ds : List Deed) → IsGood s → AreFit n s ds → AllByRecursion (IsOwn names conn l last) ds → s.counter + draws ds ≤ (all_done n s ds).counter
 deeds_rise n s names conn l last [] good fit own = omega arith
 deeds_rise n s names conn l last (d ∷ ds) good fit own =
     let one = deed_rises n s names conn l last d good fit.0 own.0 in

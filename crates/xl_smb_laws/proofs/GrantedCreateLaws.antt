@@ -95,7 +95,7 @@ each_room earlier left rows bytes kept last c d s due =
 
 -- ---- who is served is the waiter of the row
 
-none_served : (party : Party) (id : ℕ) (answer : Answer) (es : List Effect) → who_left es ≡ [] → IsIn (effects.Served party id answer) es → ⊥
+pub none_served : (party : Party) (id : ℕ) (answer : Answer) (es : List Effect) → who_left es ≡ [] → IsIn (effects.Served party id answer) es → ⊥
 none_served party id answer [] none here = absurd here
 none_served party id answer (effects.Served other k told ∷ es) none here = cc
 none_served party id answer (effects.Cancelled other k ∷ es) none here = cc
@@ -108,7 +108,7 @@ none_served party id answer (effects.Expired client ∷ es) none here = elim her
     differs : effects.Expired client ≡ effects.Served party id answer → ⊥
     differs e = cc
 
-in_either : (e : Effect) (xs ys : List Effect) → IsIn e (xs ++ ys) → IsIn e xs ⊎ IsIn e ys
+pub in_either : (e : Effect) (xs ys : List Effect) → IsIn e (xs ++ ys) → IsIn e xs ⊎ IsIn e ys
 in_either e [] ys here = inr here
 in_either e (x ∷ xs) ys here = elim here [ inl same ↦ inl (inl same) | inr rest ↦ elim (in_either e xs ys rest) [ inl old ↦ inl (inr old) | inr new ↦ inr new ] ]
 
@@ -129,22 +129,22 @@ one_waiter (x ∷ ws) v w apart here there same =
     not_apart : (y z : Waiter) → y.id ≡ z.id → are_apart y z ≡ true → ⊥
     not_apart y z e apart = false≢true (ap not (sym (ap (λ (k : ℕ). eqb y.id k) (sym e) ∙ equal_self y.id)) ∙ apart)
 
-first_of : {c d : Claim} {cs ds : List Claim} → c ∷ cs ≡ d ∷ ds → c ≡ d
+pub first_of : {c d : Claim} {cs ds : List Claim} → c ∷ cs ≡ d ∷ ds → c ≡ d
 first_of e = cc
 
-rest_of : {c d : Claim} {cs ds : List Claim} → c ∷ cs ≡ d ∷ ds → cs ≡ ds
+pub rest_of : {c d : Claim} {cs ds : List Claim} → c ∷ cs ≡ d ∷ ds → cs ≡ ds
 rest_of e = cc
 
 same_granted : {c d : Claim} → answers.Granted c ≡ answers.Granted d → c ≡ d
 same_granted e = cc
 
-same_party : {party other : Party} {id k : ℕ} {answer told : Answer} → effects.Served other k told ≡ effects.Served party id answer → other ≡ party
+pub same_party : {party other : Party} {id k : ℕ} {answer told : Answer} → effects.Served other k told ≡ effects.Served party id answer → other ≡ party
 same_party e = cc
 
-same_id : {party other : Party} {id k : ℕ} {answer told : Answer} → effects.Served other k told ≡ effects.Served party id answer → k ≡ id
+pub same_id : {party other : Party} {id k : ℕ} {answer told : Answer} → effects.Served other k told ≡ effects.Served party id answer → k ≡ id
 same_id e = cc
 
-same_answer : {party other : Party} {id k : ℕ} {answer told : Answer} → effects.Served other k told ≡ effects.Served party id answer → told ≡ answer
+pub same_answer : {party other : Party} {id k : ℕ} {answer told : Answer} → effects.Served other k told ≡ effects.Served party id answer → told ≡ answer
 same_answer e = cc
 
 -- what is served with a grant

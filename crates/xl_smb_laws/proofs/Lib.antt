@@ -25,6 +25,10 @@ pub mod AskedRowLaws
 pub mod AskedMessageLaws
 pub mod HeardLaws
 pub mod AsToldLaws
+pub mod SharedOpenLaws
+pub mod TiedRowLaws
+pub mod GrantedShareLaws
+pub mod TiedLaws
 pub mod WaitRowLaws
 pub mod LockCauseLaws
 pub mod OnceAnsweredLaws

@@ -1,5 +1,6 @@
 -- What LOCK leaves of an open's ranges, and what CANCEL leaves.
 use Rattle.std.proofs.Common.{◌≡◌, ℕ, ◌≤◌, ◌||◌, Bool, true, false, is_some, List, [], ◌∷◌, ◌++◌, length, map, Option, Some, None, refl, sym, ap, subst, ◌∙◌, ◌⊎◌, inl, inr, find, append-nil}
+use Rattle.std.specs.List.{AllByRecursion}
 use Rattle.std.specs.Option.{option_or}
 use Rattle.std.proofs.lemmas.Bool.{true≢false}
 use Rattle.xl_matrix.specs.declared.claim.Extent.{Extent}
@@ -13,6 +14,7 @@ use Rattle.xl_base.specs.Lists.{IsIn}
 use Rattle.xl_base.specs.declared.name.Owner.TheVariants as owners
 use Rattle.xl_matrix.specs.declared.claim.Claim.{Claim}
 use Rattle.xl_matrix.specs.declared.claim.What.{What}
+use Rattle.xl_names.specs.declared.name.Name.{Name}
 use Rattle.xl_smb.specs.Calls.{Lock, Cancel}
 use Rattle.xl_smb.specs.Locks.{LockItem, elements_of}
 use Rattle.xl_smb.specs.declared.head.SmbHead.{SmbHead}
@@ -26,10 +28,11 @@ use Rattle.xl_smb_state.specs.declared.row.Waiting.{Waiting}
 use Rattle.xl_table.specs.Elements.{element_held, is_element, unlocked_elements}
 use Rattle.xl_table.specs.Elements.{elements_of as ranges_of}
 use Rattle.xl_wait.specs.Waiting.{no_rows, is_waiting}
-use Rattle.xl_core.specs.Askers.{known_claim, range_what}
+use Rattle.xl_core.proofs.DeedLaws.{ask_queue}
+use Rattle.xl_core.specs.Askers.{asked_claims, asker, asking_party, known_claim, range_what}
 use Rattle.xl_core.specs.BreaksBegun.{others_of}
-use Rattle.xl_core.specs.Decide.{Answered, way, ask}
-use Rattle.xl_core.specs.Deeds.{Deed, Asks, all_done}
+use Rattle.xl_core.specs.Decide.{Answered, way, ask, waiter_of}
+use Rattle.xl_core.specs.Deeds.{Deed, Asks, all_done, queue_with}
 use Rattle.xl_core.specs.Good.{IsGood}
 use Rattle.xl_core.specs.Places.{RangesOf, held_at}
 use Rattle.xl_core.specs.Settle.{cancel as cancel_of}
@@ -52,7 +55,7 @@ use Rattle.xl_smb_locks.proofs.PlainLaws.{plain_noted}
 use Rattle.xl_smb_locks.proofs.UnlockLaws.{any_stores}
 use Rattle.xl_front_smb.specs.Checks.{tree_named, open_named, negotiated_by, in_session, on_tree, on_open}
 use Rattle.xl_front_smb.specs.Laws.{OnlyBreaks, outcome_of}
-use Rattle.xl_smb_laws.specs.LockLaws.{IsOfOpen, held_as, all_unlocked, before_fault, has_range, unlocks_told}
+use Rattle.xl_smb_laws.specs.LockLaws.{IsOfOpen, OnlyWaits, held_as, all_unlocked, before_fault, has_range, unlocks_told}
 use Rattle.xl_front_smb.specs.Locks.{waiting_row, place_of, lock_by, lock_on, lock_found, lock, request_named, cancel_named, cancel}
 use Rattle.xl_front_smb.specs.Plans.{Plan, Outcome, told_as, lists_as, carried}
 use Rattle.xl_front_smb.specs.Requests.{commanded, planned}
@@ -144,6 +147,62 @@ asked_stays n s l conn number held es row good fault some status is =
     let same = (ask_own n no_rows s a good fits.fit.party).refused none.0 none.1 ∙ plain_noted (way no_rows s a).1 a (ask n no_rows s a).0 fits in
     (kept_by row l (ask n no_rows s a).0 none.1, subst (λ (t : CoreState). OnlyBreaks s t) (sym same) (way_breaks no_rows s a))
 
+-- ---- locks that wait
+
+queued_by : (answer : Answer) (id : ℕ) → told_as (lock_told answer) ≡ told.Pending id → answer ≡ answers.Queued id
+queued_by (answers.Queued k) id h = ap (λ (j : ℕ). answers.Queued j) (one_number h)
+  where
+    one_number : {k id : ℕ} → told.Pending k ≡ told.Pending id → k ≡ id
+    one_number e = cc
+queued_by (answers.Granted c) id h = absurd cc
+queued_by (answers.Conflict c) id h = absurd cc
+queued_by (answers.Recall c) id h = absurd cc
+queued_by (answers.Grace until) id h = absurd cc
+queued_by (answers.NoGrace clock) id h = absurd cc
+queued_by answers.NotRecorded id h = absurd cc
+queued_by (answers.Full limit) id h = absurd cc
+queued_by answers.NotHeld id h = absurd cc
+queued_by answers.StoreFailed id h = absurd cc
+
+whats_back : (a : Ask) (names : List Name) (ws : List What) → map (λ (c : Claim). c.what) (asked_claims a ws names) ≡ ws
+whats_back a names [] = refl
+whats_back a names (w ∷ ws) = ap (λ (vs : List What). w ∷ vs) (whats_back a names ws)
+
+own_claims : (a : Ask) (names : List Name) (file number : ℕ) (ws : List What) → a.file ≡ file → asker a names ≡ owners.Open number → AllByRecursion (λ (c : Claim). (c.file ≡ file) × (c.owner ≡ owners.Open number)) (asked_claims a ws names)
+own_claims a names file number [] at by = tt
+own_claims a names file number (w ∷ ws) at by = ((at, by), own_claims a names file number ws at by)
+
+not_pending : {status : SmbStatus} {id : ℕ} → told.Failed status ≡ told.Pending id → ⊥
+not_pending h = cc
+
+-- what holds of an outcome that was told Pending
+abbrev Waits : ℕ → ℕ → List LockElement → CoreState → Outcome → Type 0
+Waits file number es s r = (id : ℕ) → r.0 ≡ told.Pending id → OnlyWaits s file number id es r.3
+
+asked_waits : (n : ℕ) (s : CoreState) (conn number : ℕ) (held : Open) (es : List LockElement) → IsGood s → lock_fault es ≡ None → 1 ≤ length es
+    → (id : ℕ) → (let r = ask n no_rows s (lock_ask conn number held es) in told_as (lock_told r.0) ≡ told.Pending id → OnlyWaits s held.file number id es r.2)
+unfolding lock_ask
+asked_waits n s conn number held es good fault some id is =
+    let a = lock_ask conn number held es in
+    let fits = lock_fits conn number held es fault some in
+    let queued = queued_by (ask n no_rows s a).0 id is in
+    let whats = map range_what (map range_of es) in
+    record {
+      claims = ap others_of ((ask_own n no_rows s a good fits.fit.party).claims (λ c e. different (sym e ∙ queued))) ∙ (way_breaks no_rows s a).claims;
+      waiter = waiter_of id a (asking_party a s.names) (asked_claims a whats s.names);
+      waiters = ask_queue n no_rows s a good fits.fit ∙ ap (λ (x : Answer). queue_with s a x s.waiters) queued;
+      number_is = refl;
+      ranges = whats_back a s.names whats ∙ all_held es;
+      own = own_claims a s.names held.file number whats refl refl;
+    }
+  where
+    different : {c : Claim} {k : ℕ} → answers.Granted c ≡ answers.Queued k → ⊥
+    different h = cc
+
+by_waits : (n : ℕ) (s : CoreState) (l : Lists) (conn : ℕ) (row : Waiting) (number : ℕ) (held : Open) (es : List LockElement) (o : Option SmbStatus) → IsGood s → lock_fault es ≡ o → 1 ≤ length es → Waits held.file number es s (carried n s l (lock_by conn row number held es o))
+by_waits n s l conn row number held es (Some status) good fault some = λ id h. absurd (not_pending h)
+by_waits n s l conn row number held es None good fault some = asked_waits n s conn number held es good fault some
+
 by_holds : (n : ℕ) (s : CoreState) (l : Lists) (conn : ℕ) (row : Waiting) (number : ℕ) (held : Open) (es : List LockElement) (o : Option SmbStatus) → IsGood s → lock_fault es ≡ o → 1 ≤ length es → Holds held.file number es s l (carried n s l (lock_by conn row number held es o)) × Stays s l (carried n s l (lock_by conn row number held es o))
 by_holds n s l conn row number held es (Some status) good fault some = (λ h. absurd (not_locked h), λ other h. (refl, unbroken s))
 by_holds n s l conn row number held es None good fault some =
@@ -179,6 +238,15 @@ module _ (n : ℕ) (s : CoreState) (files : List (List ℕ)) (others : ℕ) (l :
       → Holds row.file number (elements_of c.elements) s l (outcome_of n s files others l conn h (Lock c)) × Stays s l (outcome_of n s files others l conn h (Lock c))
   locked_holds c session place number row of first good =
       by_lock (λ r. Holds row.file number (elements_of c.elements) s l r × Stays s l r) c session place number row of (locks_on number place (elements_of c.elements) row (is_count (length (elements_of c.elements))) refl first good)
+
+  waits_on : (number : ℕ) (place : Place) (es : List LockElement) (row : Open) (count : Bool) → is_count (length es) ≡ count → unlocks_first es ≡ false → IsGood s → Waits row.file number es s (carried n s l (lock_on s l conn h number place es row))
+  waits_on number place es row true is first good =
+      rw (is, first) (by_waits n s l conn (waiting_row h (place_of row.holder place) number request.Lock) number row es (lock_fault es) good refl (counted (length es) is))
+  waits_on number place es row false is first good = rw is (λ id e. absurd (not_pending e))
+
+  pub locks_wait : (c : LockItem) (session : ℕ) (place : Place) (number : ℕ) (row : Open) → IsOfOpen s l conn h client c.file_id session place number row → unlocks_first (elements_of c.elements) ≡ false → IsGood s → Waits row.file number (elements_of c.elements) s (outcome_of n s files others l conn h (Lock c))
+  locks_wait c session place number row of first good =
+      by_lock (Waits row.file number (elements_of c.elements) s) c session place number row of (waits_on number place (elements_of c.elements) row (is_count (length (elements_of c.elements))) refl first good)
 
 -- ---- unlocks
 

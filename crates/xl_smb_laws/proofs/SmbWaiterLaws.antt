@@ -37,7 +37,7 @@ one_party a names (x ∷ xs) = (refl, one_party a names xs)
 -- ---- its protocol
 
 -- a lease is of SMB
-lease_is : (name : Name) → is_lease name ≡ true → protocol_of name ≡ Smb
+pub lease_is : (name : Name) → is_lease name ≡ true → protocol_of name ≡ Smb
 lease_is (SmbLease guid key) lease = refl
 lease_is (NlmRange caller svid oh) lease = absurd (false≢true lease)
 lease_is (NlmShare caller oh) lease = absurd (false≢true lease)

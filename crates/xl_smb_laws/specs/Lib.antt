@@ -4,6 +4,7 @@ pub mod LockCauses
 pub mod LockLaws
 pub mod AskedMessages
 pub mod AsTold
+pub mod TiedRows
 pub mod OpenRights
 pub mod ReplyHeads
 pub mod Heard

@@ -1,5 +1,7 @@
 -- Words of the laws of LOCK and CANCEL.
-use Rattle.std.specs.Prelude.{◌≡◌, ℕ, Bool, not, ◌&&◌, ◌||◌, true, false, if◌then◌else◌, List, [], ◌∷◌, Option, Some, None, is_some}
+use Rattle.std.specs.Prelude.{◌≡◌, ℕ, Bool, not, ◌&&◌, ◌||◌, true, false, if◌then◌else◌, List, [], ◌∷◌, ◌++◌, map, Option, Some, None, is_some}
+use Rattle.std.specs.List.{AllByRecursion}
+use Rattle.xl_base.specs.declared.name.Owner.TheVariants as owners
 use Rattle.xl_matrix.specs.declared.claim.Extent.{Extent}
 use Rattle.xl_matrix.specs.declared.claim.What.{What}
 use Rattle.xl_matrix.specs.declared.claim.What.TheVariants.{Range}
@@ -10,6 +12,8 @@ use Rattle.xl_smb_state.specs.State.{Lists, open_of}
 use Rattle.xl_smb_state.specs.declared.row.Open.{Open}
 use Rattle.xl_smb_state.specs.declared.row.Place.{Place}
 use Rattle.xl_table.specs.Elements.{is_among, unlocked_elements}
+use Rattle.xl_wait.specs.declared.waiter.Waiter.{Waiter}
+use Rattle.xl_core.specs.BreaksBegun.{others_of}
 use Rattle.xl_core.specs.State.{CoreState}
 use Rattle.xl_smb_locks.specs.Elements.{extent_of, is_exclusive, unlock_fault}
 use Rattle.xl_smb_locks.specs.declared.status.SmbStatus.{SmbStatus}
@@ -26,6 +30,16 @@ IsOfOpen s l conn h client id session place number row = IsOnTree s l conn h cli
 -- a range as it is held once it is locked
 abbrev pub held_as : LockElement → What
 held_as e = Range (extent_of e) (is_exclusive e)
+
+-- No share or range changed; and behind those who waited one waits, under this number, for all these ranges of the open on the file, in
+-- order.
+pub record OnlyWaits (s : CoreState) (file number id : ℕ) (es : List LockElement) (t : CoreState) : Type 0 where
+  pub claims : others_of t.claims ≡ others_of s.claims
+  pub waiter : Waiter
+  pub waiters : t.waiters ≡ s.waiters ++ waiter ∷ []
+  pub number_is : waiter.id ≡ id
+  pub ranges : map (λ c. c.what) waiter.asked ≡ map held_as es
+  pub own : AllByRecursion (λ c. (c.file ≡ file) × (c.owner ≡ owners.Open number)) waiter.asked
 
 -- what is held after these are unlocked, one after the other: each takes out one that is equal, exclusive before shared
 abbrev pub all_unlocked : List LockElement → List What → List What

@@ -12,3 +12,4 @@ pub mod opens;
 pub mod replying;
 pub mod requests;
 pub mod telling;
+pub mod tying;

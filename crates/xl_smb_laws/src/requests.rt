@@ -43,7 +43,7 @@ ghost use Rattle.xl_front_smb.specs.Ending.{all_dismissed, leavers_under, number
 ghost use Rattle.xl_front_smb.specs.Files.{access_of, deny_of, open_row, is_refused, left_at, lease_left, may_keep};
 ghost use Rattle.xl_front_smb.specs.FrontSmb.{answered, smb_deeds, smb_replies, smb_step};
 ghost use Rattle.xl_front_smb.specs.Checks.{id_of, session_named, tree_named, open_named};
-ghost use Rattle.xl_smb_laws.specs.LockLaws.{IsOfOpen, held_as, all_unlocked, before_fault, unlocks_told};
+ghost use Rattle.xl_smb_laws.specs.LockLaws.{IsOfOpen, OnlyWaits, held_as, all_unlocked, before_fault, unlocks_told};
 ghost use Rattle.xl_front_smb.specs.Laws.{rows_but, Without, OnlyBreaks, IsLeased, goes_among, outcome_of, IsRequest, IsInSession, IsOnTree, IsAckOf, rest_status, IsCreateDue};
 ghost use Rattle.xl_front_smb.specs.Owners.{AreOwn, is_end};
 ghost use Rattle.xl_front_smb.specs.State.{FrontSmb};
@@ -231,11 +231,12 @@ pub fn a_lease_outlives_its_other_opens()
 
 /// LOCK of locks of an open that is found (MS-SMB2 3.3.5.14.2): if it is answered that they are locked each range is
 /// held once more, in order behind those that the open had on its file, and the lists stay; if it fails no share, range,
-/// waiter or name changed, and of the caches, as the law of those says, only those of whose break it tells. What others hold
-/// stays, as the core's laws of one ask say.
+/// waiter or name changed, and of the caches, as the law of those says, only those of whose break it tells; if it waits no share or
+/// range changed, and one waits for all its ranges, behind those who waited. What others hold stays, as the core's laws of one ask say.
 pub fn locked_ranges_are_held()
     ensures held { (n : ℕ) (s : CoreState) (files : List (List ℕ)) (others : ℕ) (l : Lists) (conn : ℕ) (h : SmbHead) (client : List ℕ) (c : LockItem) (session : ℕ) (place : Place) (number : ℕ) (row : Open) → IsOfOpen s l conn h client c.file_id session place number row → unlocks_first (elements_of c.elements) ≡ false → IsGood s → (outcome_of n s files others l conn h (CallItem.Lock c)).0 ≡ Told.Locked → (held_at (outcome_of n s files others l conn h (CallItem.Lock c)).3 (RangesOf row.file number) ≡ held_at s (RangesOf row.file number) ++ map held_as (elements_of c.elements)) × ((outcome_of n s files others l conn h (CallItem.Lock c)).2 ≡ l) }
     ensures refused { (n : ℕ) (s : CoreState) (files : List (List ℕ)) (others : ℕ) (l : Lists) (conn : ℕ) (h : SmbHead) (client : List ℕ) (c : LockItem) (session : ℕ) (place : Place) (number : ℕ) (row : Open) → IsOfOpen s l conn h client c.file_id session place number row → unlocks_first (elements_of c.elements) ≡ false → IsGood s → (status : SmbStatus) → (outcome_of n s files others l conn h (CallItem.Lock c)).0 ≡ Told.Failed status → ((outcome_of n s files others l conn h (CallItem.Lock c)).2 ≡ l) × OnlyBreaks s (outcome_of n s files others l conn h (CallItem.Lock c)).3 }
+    ensures waits { (n : ℕ) (s : CoreState) (files : List (List ℕ)) (others : ℕ) (l : Lists) (conn : ℕ) (h : SmbHead) (client : List ℕ) (c : LockItem) (session : ℕ) (place : Place) (number : ℕ) (row : Open) → IsOfOpen s l conn h client c.file_id session place number row → unlocks_first (elements_of c.elements) ≡ false → IsGood s → (id : ℕ) → (outcome_of n s files others l conn h (CallItem.Lock c)).0 ≡ Told.Pending id → OnlyWaits s row.file number id (elements_of c.elements) (outcome_of n s files others l conn h (CallItem.Lock c)).3 }
 {}
 
 /// LOCK of unlocks of an open that is found (MS-SMB2 3.3.5.14.1): if it is answered that they are done each has taken
