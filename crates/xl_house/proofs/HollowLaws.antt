@@ -47,6 +47,7 @@ use Rattle.xl_core.specs.Settle.{settle, waits_as}
 use Rattle.xl_core.specs.declared.ask.Answer.TheVariants.{Granted}
 use Rattle.xl_core.specs.declared.ask.Effect.{Effect}
 use Rattle.xl_core.specs.declared.ask.Effect.TheVariants.{Served}
+use Rattle.xl_smb_laws.proofs.TiedLaws.{shareless_is}
 use Rattle.xl_smb_laws.specs.WaitingRequests.{IsKept as HasRequest}
 use Rattle.xl_front_smb.specs.Checks.{is_open_on}
 use Rattle.xl_house.specs.Awaited.{AreServed, HaveOpens, IsServed, OpenStands}
@@ -107,6 +108,10 @@ request_forgotten_in n s t e w number there waits none served =
     let l : Lists = t.front.smb.state in
     let kept = all_in (HasRequest l) w t.core.waiters served.0.keeps there number waits in
     none_some (sym (ap (λ (es : List (ℕ × Waiting)). lookup (nat_eq w.id) es) none) ∙ kept.1)
+
+-- one that keeps an open, and nothing of it
+pub open_shareless_in : (n : ℕ) (s t : Whole) (e : Entry) (number : ℕ) (row : Open) → open_of number t.front.smb.state ≡ Some row → t.core.claims ≡ [] → IsServed n s e t → ⊥
+open_shareless_in n s t e number row at none served = shareless_is t.core t.front.smb.state number row at none served.0.tied
 
 -- an open that isn't there doesn't stand
 none_stands : (last : Lists) (row : Waiting) (claim : Claim) (r : Request) → open_of row.opened last ≡ None → OpenStands last row claim r → ⊥

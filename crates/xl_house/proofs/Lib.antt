@@ -42,6 +42,7 @@ pub mod OpensLaws
 pub mod LeasedLaws
 pub mod TellLaws
 pub mod AwaitedLaws
+pub mod TiedLaws
 pub mod ServedLaws
 pub mod JournalLaws
 pub mod OrderLaws

@@ -35,7 +35,7 @@ nlm_meant n s number bytes free = λ rpc r asked program.
     (request_told n s.exports s.front.nlm core number r (begun_good s.core free.good))))
 
 abbrev SmbMeans : ℕ → Exports → Fronts → CoreState → ℕ → List ℕ → Own → Type 0
-SmbMeans n exports f s conn bytes o = smb.AreAsTold exports.files f.smb.state s conn bytes o.replies (all_done n s o.deeds)
+SmbMeans n exports f s conn bytes o = smb.AreAsTold exports.files f.smb.state s conn bytes o.replies (all_done n s o.deeds) o.given.2.smb.state
 
 smb_meant : (n : ℕ) (s : Whole) (number : ℕ) (bytes : List ℕ) → IsFree s → IsMeantBySmb n s number bytes
 smb_meant n s number bytes free = λ packet.

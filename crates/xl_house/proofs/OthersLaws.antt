@@ -45,7 +45,7 @@ caller_plain (calls.Unshare a) client is = subst (λ (name : Name). is_lease nam
 caller_plain (calls.NmLock a) client is = subst (λ (name : Name). is_lease name ≡ false) (same_Some is) refl
 caller_plain (calls.FreeAll a) client is = subst (λ (name : Name). is_lease name ≡ false) (same_Some is) refl
 
-call_plain : (o : Option calls.CallItem) (client : Name) → option_and_then (λ call. client_of call) o ≡ Some client → is_lease client ≡ false
+pub call_plain : (o : Option calls.CallItem) (client : Name) → option_and_then (λ call. client_of call) o ≡ Some client → is_lease client ≡ false
 call_plain None client is = absurd (none_some is)
 call_plain (Some call) client is = caller_plain call client is
 
@@ -65,7 +65,7 @@ plain_apart (NfsParty client) plain is = nfs_apart is
 plain_apart (SmbLease guid key) plain is = true≢false plain
 
 -- so is the party that it names
-named_apart : (names : List Name) (client : Name) (party : Party) → is_lease client ≡ false → party_named names client ≡ Some party → party_protocol party ≡ Smb → ⊥
+pub named_apart : (names : List Name) (client : Name) (party : Party) → is_lease client ≡ false → party_named names client ≡ Some party → party_protocol party ≡ Smb → ⊥
 named_apart names client party plain at is = by (number_of client names) at
   where
     by : (o : Option ℕ) → option_map (λ (number : ℕ). parties.Name (protocol_of client) number) o ≡ Some party → ⊥

@@ -35,6 +35,7 @@ use Rattle.xl_smb_locks.specs.Levels.{caching}
 use Rattle.xl_smb_locks.specs.declared.levels.Caching.{Caching}
 use Rattle.xl_smb_laws.proofs.AwaitedRequestLaws.{row_in}
 use Rattle.xl_smb_laws.proofs.GrantedCreateLaws.{granted_lease, granted_reply, granted_row, granted_share, one_waiter, served_grant, turn_of}
+use Rattle.xl_smb_laws.proofs.TiedLaws.{start_tied}
 use Rattle.xl_smb_laws.specs.WaitingRequests.{IsAwaited, IsGranted, IsKept, IsUnder}
 use Rattle.xl_front_smb.specs.FrontSmb.{smb_shown}
 use Rattle.xl_front_smb.specs.Laws.{IsLeased}
@@ -57,6 +58,7 @@ use Rattle.xl_house.proofs.SettleLaws.{turned_good}
 use Rattle.xl_house.proofs.ShownLaws.{all_shown_good, all_shown_is}
 use Rattle.xl_house.proofs.LeasedLaws.{leased_stays}
 use Rattle.xl_house.proofs.OpensLaws.{asks_as, lock_told, open_stays, same_caching, stays_on}
+use Rattle.xl_house.proofs.TiedLaws.{found_tied, round_tied}
 use Rattle.xl_house.proofs.TellLaws.{last_ends, last_shows, quiet_shows, taken_so, told_so}
 use Rattle.xl_house.proofs.TurnLaws.{of_turns}
 
@@ -178,7 +180,7 @@ round_has n s event good ready stand = (let h = heard n s event in turns_have n 
 
 restart_waits : (n : ℕ) (s : Whole) → IsAwaiting (step n s Restart).next
 unfolding step
-restart_waits n s = record { awaits = tt; keeps = tt }
+restart_waits n s = record { awaits = tt; keeps = tt; tied = start_tied (step n s Restart).next.core }
 
 step_waits : (n : ℕ) (s : Whole) (event : Event) → is_restart event ≡ false → IsFree s → Ready s.front → IsAwaiting s → IsAwaiting (step n s event).next
 step_waits n s event other free ready awaiting =
@@ -186,7 +188,8 @@ step_waits n s event other free ready awaiting =
     let h = heard n found event in
     let r = settled n s.exports h.1 h.2 in
     let is = same_stand r.2 (step_begun r.2) r.1.smb.state (begun_waits r.2) (round_stands n found event (begun_good s.core free.good) ready (stand_of s ready awaiting)) in
-    subst (λ (x : Turn). IsAwaiting x.next) (sym (step_is n s event other)) (record { awaits = is.awaits; keeps = is.keeps })
+    let tied = round_tied n found event (begun_good s.core free.good) ready (stand_of s ready awaiting) (found_tied s.core s.front.smb.state awaiting.tied) in
+    subst (λ (x : Turn). IsAwaiting x.next) (sym (step_is n s event other)) (record { awaits = is.awaits; keeps = is.keeps; tied = found_tied r.2 r.1.smb.state tied })
 
 pub step_awaits : (n : ℕ) (s : Whole) (event : Event) → IsFree s → Ready s.front → IsAwaiting s → IsAwaiting (step n s event).next
 step_awaits n s event free ready awaiting = each_event (λ e. IsAwaiting (step n s e).next) (λ e other. step_waits n s e other free ready awaiting) (restart_waits n s) event
@@ -206,11 +209,12 @@ step_serves n s event free ready awaiting = (
   step_awaits n s event free ready awaiting,
   each_event (λ e. AreServed (step n s e).next (rounds n s e)) (λ e other. step_grants n s e other free ready awaiting) (no_rounds n s (step n s Restart).next) event,
   gone_by n s event ready.0,
+  record { sound = ready.0; distinct = ready.1 },
 )
 
 -- at a start nobody waits
 pub begin_awaits : (head : Head) → IsAwaiting (start_of head)
-begin_awaits head = record { awaits = tt; keeps = tt }
+begin_awaits head = record { awaits = tt; keeps = tt; tied = start_tied (start_of head).core }
 
 -- ---- journals
 

@@ -1,5 +1,5 @@
 -- What each entry leaves alone, and how many numbers it gives out.
-use Rattle.std.proofs.Common.{◌≡◌, ℕ, ◌+◌, false, List, [], ◌∷◌, Option, Some, None, refl, sym, ap, ◌∙◌, arith}
+use Rattle.std.proofs.Common.{◌≡◌, ℕ, ◌+◌, ◌≤◌, false, List, [], ◌∷◌, Option, Some, None, refl, sym, ap, ◌∙◌, arith}
 use Rattle.std.specs.Prelude.{IfSome}
 use Rattle.xl_base.specs.declared.event.Event.{Event}
 use Rattle.xl_base.specs.declared.event.Event.TheVariants.{Message, Restart}
@@ -84,6 +84,10 @@ deeds_count n s (d ∷ ds) good fit =
     let first = deed_counts n s d good fit.0 in
     let later = deeds_count n (done n s d) ds (deed_good n s d good fit.0) fit.1 in
     record { times = later.times ∙ first.times; epoch = later.epoch ∙ first.epoch; counter = omega (arith, first.counter, later.counter) }
+
+-- numbers are not taken back
+pub deeds_rise : (n : ℕ) (s : CoreState) (ds : List Deed) → IsGood s → AreFit n s ds → s.counter ≤ (all_done n s ds).counter
+deeds_rise n s ds good fit = let counted = deeds_count n s ds good fit in omega (arith, counted.counter)
 
 -- ---- an entry
 

@@ -10,6 +10,7 @@ use Rattle.xl_base.specs.declared.journal.Exports.{Exports}
 use Rattle.xl_base.specs.declared.name.Owner.TheVariants as owners
 use Rattle.xl_base.specs.declared.name.Party.{Party}
 use Rattle.xl_matrix.specs.declared.claim.Claim.{Claim}
+use Rattle.xl_smb_state.specs.Links.{AreDistinct, IsSound}
 use Rattle.xl_smb_state.specs.State.{Lists, open_of, waiting_of}
 use Rattle.xl_smb_state.specs.declared.row.Request.{Request}
 use Rattle.xl_smb_state.specs.declared.row.Request.TheVariants as request
@@ -23,6 +24,7 @@ use Rattle.xl_smb_locks.specs.declared.finals.FinalReply.{FinalReply}
 use Rattle.xl_smb_locks.specs.declared.finals.FinalReply.TheVariants.{Locked, Opened}
 use Rattle.xl_core.specs.Ids.{id_of}
 use Rattle.xl_smb_locks.specs.Levels.{caching}
+use Rattle.xl_smb_laws.specs.TiedRows.{AreSmbTied}
 use Rattle.xl_smb_laws.specs.WaitingRequests.{AreAwaited, AreKept}
 use Rattle.xl_front_smb.specs.Checks.{is_open_on}
 use Rattle.xl_front_smb.specs.Laws.{IsLeased}
@@ -32,10 +34,17 @@ use Rattle.xl_house.specs.Owed.{IsGoneBy}
 use Rattle.xl_house.specs.State.{Whole}
 use Rattle.xl_house.specs.Telling.{TurnTaken, all_shown, turn_sent, framed}
 
--- each request that waits in SMB's lists is a waiter of the core, and each waiter of an SMB open has its request there
+-- each request that waits in SMB's lists is a waiter of the core, and each waiter of an SMB open has its request there; and what the
+-- lists have has its number, and each open its share
 pub record IsAwaiting (s : Whole) : Type 0 where
   pub awaits : AreAwaited s.core s.front.smb.state
   pub keeps : AreKept s.core s.front.smb.state
+  pub tied : AreSmbTied s.core s.front.smb.state
+
+-- what a row of SMB's lists names is there, no list outgrows its limit, and no two rows of one have one key
+pub record IsInOrder (s : Whole) : Type 0 where
+  pub sound : IsSound s.front.smb.state
+  pub distinct : AreDistinct s.front.smb.state
 
 -- ---- what a turn grants
 
@@ -72,13 +81,13 @@ HaveOpens exports last turn = (party : Party) (id number : ℕ) (claim : Claim) 
 abbrev pub AreServed : Whole → List Round → Type 0
 AreServed t rs = AllByRecursion (λ r. AllByRecursion (λ turn. HaveOpens r.found.exports t.front.smb.state turn) r.turns) rs
 
--- who waits afterwards, what was granted, and what a connection's end leaves, by the event
+-- who waits afterwards, what was granted, what a connection's end leaves, and how the lists were found, by the event
 abbrev pub IsServedBy : ℕ → Whole → Event → Whole → Type 0
-IsServedBy n s event t = IsAwaiting t × AreServed t (rounds n s event) × IsGoneBy n s event
+IsServedBy n s event t = IsAwaiting t × AreServed t (rounds n s event) × IsGoneBy n s event × IsInOrder s
 
 -- After the entry each request of SMB that waits is a waiter of the core, and each waiter of an SMB open has its
 -- request. What a turn of the entry grants to an SMB open was waited for by a request of that open, which is there
 -- after the entry, and the request is answered that it succeeded. The end of a connection of SMB leaves nothing of the
--- opens that were under it.
+-- opens that were under it. The lists of SMB are in order before the entry, and tied to the core after it.
 abbrev pub IsServed : Law
 IsServed n s e t = IsServedBy n s e.event t

@@ -20,7 +20,7 @@ IsMeantByNlm n s number bytes = kind_of s.connections number ≡ Some Rpc → (r
 -- and so does that to a message of SMB
 abbrev pub IsMeantBySmb : ℕ → Whole → ℕ → List ℕ → Type 0
 IsMeantBySmb n s number bytes = kind_of s.connections number ≡ Some Smb
-    → (let o = own_of n (as_found s) (Message number bytes) in smb.AreAsTold s.exports.files s.front.smb.state (as_found s).core number bytes o.replies (all_done n (as_found s).core o.deeds))
+    → (let o = own_of n (as_found s) (Message number bytes) in smb.AreAsTold s.exports.files s.front.smb.state (as_found s).core number bytes o.replies (all_done n (as_found s).core o.deeds) o.given.2.smb.state)
 
 abbrev pub IsMeantBy : ℕ → Whole → Event → Type 0
 IsMeantBy n s (Message number bytes) = IsMeantByNlm n s number bytes × IsMeantBySmb n s number bytes

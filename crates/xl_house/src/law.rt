@@ -89,7 +89,8 @@ ghost use Rattle.xl_house.specs.State.{Whole, as_found, rooms_of};
 /// machine that drops all leases at another's ask has no lawful entry for that; at a reading of the clock that is later one that
 /// leaves the clock as it was has none, and one that leaves a lease that has ended, of a client whose expiry no failed store puts
 /// off, has none that is complete. A machine that forgets all requests of SMB while an SMB open's waiter is there has no entry
-/// that is served, nor has one whose first turn grants a claim to an SMB open that isn't there afterwards. One that makes a share
+/// that is served, nor has one whose first turn grants a claim to an SMB open that isn't there afterwards, or one that keeps an SMB
+/// open in its list and nothing of what is held. One that makes a share
 /// weaker so that it has more than before, or leaves more of a cache than its break does, has none of deeds that are fit.
 /// One that draws a number and gives out none has none that is steady.
 /// One that gives a greater cache than was chosen, or one though someone waits on the file, grants no wish rightly.
@@ -119,6 +120,7 @@ pub fn hollow_machines_are_refused()
     ensures forgotten { (n : ℕ) (s t : Whole) (e : Entry) (w : Waiter) (number : ℕ) → IsIn w t.core.waiters → waits_as number w ≡ true → t.front.smb.state.waiting ≡ [] → IsServed n s e t → ⊥ }
     ensures unmade { (n stores conn : ℕ) (bytes : List ℕ) (outs : List Out) (s t : Whole) (u : CoreState) (told : List Effect) (party : Party) (id number : ℕ) (claim : Claim) → IsFree s → settle n (rooms_of (heard n (as_found s) (Message conn bytes)).1) (heard n (as_found s) (Message conn bytes)).2 ≡ Some (told, u)
         → IsIn (Effect.Served party id (Answer.Granted claim)) told → claim.owner ≡ Owner.Open number → open_of number t.front.smb.state ≡ None → IsServed n s (record { event = Message conn bytes; stores = stores; outs = outs }) t → ⊥ }
+    ensures shareless { (n : ℕ) (s t : Whole) (e : Entry) (number : ℕ) (row : Open) → open_of number t.front.smb.state ≡ Some row → t.core.claims ≡ [] → IsServed n s e t → ⊥ }
     ensures widened { (n stores number : ℕ) (bytes : List ℕ) (outs : List Out) (s t : Whole) (share : Claim) (access deny : Rwd) → deeds n s (Message number bytes) ≡ Weakens share access deny ∷ []
         → share_has share.what access deny ≡ false → IsFitting n s (record { event = Message number bytes; stores = stores; outs = outs }) t → ⊥ }
     ensures more_left { (n stores number : ℕ) (bytes : List ℕ) (outs : List Out) (s t : Whole) (cache : Claim) (to : Option CacheKind) → deeds n s (Message number bytes) ≡ Acks cache to ∷ []

@@ -1,4 +1,4 @@
-use Rattle.xl_house.proofs.HollowLaws.{lease_runs_on_in, nothing_kept_in, open_unmade_in, request_forgotten_in, record_changed_in, let_in_in}
+use Rattle.xl_house.proofs.HollowLaws.{lease_runs_on_in, nothing_kept_in, open_shareless_in, open_unmade_in, request_forgotten_in, record_changed_in, let_in_in}
 use Rattle.xl_house.proofs.law.hollow_machines_are_refused.Goals as goal
 
 pub returns-clause-kept : goal.returns-clause-kept
@@ -18,3 +18,6 @@ returns-clause-let_in c = let_in_in
 
 pub returns-clause-ended : goal.returns-clause-ended
 returns-clause-ended c = lease_runs_on_in
+
+pub returns-clause-shareless : goal.returns-clause-shareless
+returns-clause-shareless c = open_shareless_in
