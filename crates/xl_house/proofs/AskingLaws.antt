@@ -12,7 +12,7 @@ use Rattle.xl_base.specs.declared.journal.Head.{Head}
 use Rattle.xl_nlm.specs.Items.{CallItem, LockItem, LockArgsItem, Null, Test, Lock, Cancel, Unlock, Granted, Share, Unshare, NmLock, FreeAll}
 use Rattle.xl_programs.specs.Programs.{RequestItem, IncomingItem}
 use Rattle.xl_programs.specs.declared.program.Program.{Program}
-use Rattle.xl_programs.specs.declared.program.Program.TheVariants.{Nlm}
+use Rattle.xl_programs.specs.declared.program.Program.TheVariants.{Nlm, Nfs}
 use Rattle.xl_wait.specs.declared.waiter.Rooms.{Rooms}
 use Rattle.xl_core.specs.State.{CoreState}
 use Rattle.xl_core.specs.Deeds.{Deed, Asks}
@@ -29,12 +29,15 @@ use Rattle.xl_front_nlm.specs.declared.aim.Aim.{Aim}
 use Rattle.xl_front_nlm.specs.declared.outcome.Outcome.{Outcome}
 use Rattle.xl_front_nlm.specs.declared.outcome.Outcome.TheVariants.{Waits}
 use Rattle.xl_front_nlm.specs.Asking.{handle_of, monitors, reclaims, IsAskFor}
+use Rattle.xl_nfs.specs.Ops.{OpItem}
+use Rattle.xl_nfs_laws.proofs.AskedRequestLaws.{request_asks}
+use Rattle.xl_nfs_laws.specs.AskedRequests.{AreRequestAsks, IsItsAsk, says_reclaim}
 use Rattle.xl_smb_laws.specs.AskedMessages.{AreMessageAsks}
 use Rattle.xl_smb_laws.proofs.AskedMessageLaws.{message_asks}
-use Rattle.xl_house.specs.Asking.{AreNlmAsks, AreSmbAsks, IsAskingBy, IsAsking}
+use Rattle.xl_house.specs.Asking.{AreNlmAsks, AreNfsAsks, AreSmbAsks, IsAskingBy, IsAsking}
 use Rattle.xl_house.specs.Lawful.{Always}
 use Rattle.xl_house.specs.Own.{program_own, record_own, message_own}
-use Rattle.xl_house.specs.State.{Whole, as_found, nfs_opens, start_of}
+use Rattle.xl_house.specs.State.{Whole, as_found, nfs_opens, smb_opens, start_of}
 use Rattle.xl_house.specs.declared.layers.Fronts.{Fronts}
 use Rattle.xl_house.proofs.EachEntry.{always}
 
@@ -113,6 +116,18 @@ nlm_asking n s number bytes = λ rpc r asked nlm call e.
     (subst (λ (incoming : IncomingItem). Rights s.exports s.front call (record_own n s.exports s.front found.core number incoming).deeds) (sym asked)
     (program_right n s.exports s.front found.core number r r.program call nlm e))
 
+-- of NFSv4
+abbrev NfsRights : ℕ → Exports → Fronts → CoreState → RequestItem → List Deed → Type 0
+NfsRights n exports f s r ds = AreRequestAsks n exports (smb_opens f) f.nfs s r ds
+
+nfs_asking : (n : ℕ) (s : Whole) (number : ℕ) (bytes : List ℕ) → AreNfsAsks n s number bytes
+nfs_asking n s number bytes = λ rpc r asked nfs.
+    let found = as_found s in
+    subst (λ (kind : Option Kind). NfsRights n s.exports s.front found.core r (message_own n s.exports s.front found.core kind number bytes).deeds) (sym rpc)
+    (subst (λ (incoming : IncomingItem). NfsRights n s.exports s.front found.core r (record_own n s.exports s.front found.core number incoming).deeds) (sym asked)
+    (subst (λ (p : Program). NfsRights n s.exports s.front found.core r (program_own n s.exports s.front found.core number r p).deeds) (sym nfs)
+    (request_asks n s.exports (smb_opens s.front) s.front.nfs found.core r)))
+
 -- of SMB
 smb_asking : (n : ℕ) (s : Whole) (number : ℕ) (bytes : List ℕ) → AreSmbAsks n s number bytes
 smb_asking n s number bytes = λ packet.
@@ -121,7 +136,7 @@ smb_asking n s number bytes = λ packet.
     (message_asks n s.exports (nfs_opens s.front) s.front.smb core number bytes)
 
 asking_by : (n : ℕ) (s : Whole) (event : Event) → IsAskingBy n s event
-asking_by n s (Message number bytes) = (nlm_asking n s number bytes, smb_asking n s number bytes)
+asking_by n s (Message number bytes) = (nlm_asking n s number bytes, nfs_asking n s number bytes, smb_asking n s number bytes)
 asking_by n s event = tt
 
 pub always_asking : (head : Head) (es : List Entry) → Always IsAsking (start_of head) es
@@ -132,3 +147,7 @@ always_asking head es = always IsAsking (λ n s e free. asking_by n s e.event) h
 -- one makes a reclaim of each ask
 pub always_reclaims_is : (count hosts : ℕ) (call : CallItem) (left : Rooms) (a : Ask) → reclaims call ≡ false → a.reclaim ≡ true → IsAskFor count hosts call (Asks left a) → ⊥
 always_reclaims_is count hosts call left a plain asked right = both_ways (reclaims call) plain (sym right.1 ∙ asked)
+
+-- and one of each ask of NFSv4
+pub nfs_always_reclaims_is : (files : List (List ℕ)) (current : Option ℕ) (op : OpItem) (left : Rooms) (a : Ask) → says_reclaim op ≡ false → a.reclaim ≡ true → IsItsAsk files current op left a → ⊥
+nfs_always_reclaims_is files current op left a plain asked right = both_ways (says_reclaim op) plain (sym right.reclaim ∙ asked)

@@ -255,7 +255,7 @@ gone_tells s client = by (party_named s.names (NfsParty client)) where
   by None = refl
   by (Some party) = expired_both (end_party t party).0 (Expired client ∷ []) ∙ ap (λ (ids : List (List ℕ)). ids ++ client ∷ []) (ended_expires t party)
 
-expire_tells : (s : CoreState) (client : List ℕ) → who_expired (expire s client).0 ≡ client ∷ []
+pub expire_tells : (s : CoreState) (client : List ℕ) → who_expired (expire s client).0 ≡ client ∷ []
 unfolding expire
 expire_tells s client = gone_tells (forgotten s client) client
 
@@ -319,7 +319,7 @@ others_stay n s (d ∷ ds) client clock good fit all =
     others_stay n t ds client clock.1 (deed_good n s d good fit.0) fit.1
     (subst (λ (names : List Name). AllByRecursion (IsOther names client) t.waiters) (sym (clock_names n s d clock.0)) (deed_waits (IsOther s.names client) n s d good fit.0 (clock_comes (IsOther s.names client) s d clock.0) all))
 
-in_either : {A : Type 0} (x : A) (xs ys : List A) → IsIn x (xs ++ ys) → IsIn x xs ⊎ IsIn x ys
+pub in_either : {A : Type 0} (x : A) (xs ys : List A) → IsIn x (xs ++ ys) → IsIn x xs ⊎ IsIn x ys
 in_either x [] ys h = inr h
 in_either x (z ∷ zs) ys (inl e) = inl (inl e)
 in_either x (z ∷ zs) ys (inr later) = elim (in_either x zs ys later) [ inl here ↦ inl (inr here) | inr there ↦ inr there ]

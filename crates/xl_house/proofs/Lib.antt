@@ -44,6 +44,7 @@ pub mod TellLaws
 pub mod AwaitedLaws
 pub mod TiedLaws
 pub mod ServedLaws
+pub mod NfsTiedLaws
 pub mod JournalLaws
 pub mod OrderLaws
 pub mod InTimeLaws

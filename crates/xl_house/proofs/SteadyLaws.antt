@@ -38,10 +38,10 @@ use Rattle.xl_house.proofs.MachineLaws.{next_place, step_is}
 -- ---- one deed
 
 -- the times and the epoch stay, and so many numbers are given out
-record IsCounted (s t : CoreState) (given : ℕ) : Type 0 where
-  times : t.times ≡ s.times
-  epoch : t.stable.epoch ≡ s.stable.epoch
-  counter : t.counter ≡ s.counter + given
+pub record IsCounted (s t : CoreState) (given : ℕ) : Type 0 where
+  pub times : t.times ≡ s.times
+  pub epoch : t.stable.epoch ≡ s.stable.epoch
+  pub counter : t.counter ≡ s.counter + given
 
 framed_counts : (s : CoreState) (told : List Effect) (t : CoreState) (given : ℕ) (known : List Name) (come : List Waiter) → IsFrame s told t given known come → IsCounted s t given
 framed_counts s told t given known come frame = record { times = frame.times; epoch = frame.epoch; counter = frame.counter }
@@ -61,7 +61,7 @@ turned_counts : (s : CoreState) (o : Option (List Effect × CoreState)) → IfSo
 turned_counts s None frame = record { times = refl; epoch = refl; counter = omega arith }
 turned_counts s (Some r) frame = framed_counts s r.0 r.1 (calls_in r.0) s.names [] frame
 
-deed_counts : (n : ℕ) (s : CoreState) (d : Deed) → IsGood s → IsFitDeed s d → IsCounted s (done n s d) (numbers_in n s d)
+pub deed_counts : (n : ℕ) (s : CoreState) (d : Deed) → IsGood s → IsFitDeed s d → IsCounted s (done n s d) (numbers_in n s d)
 deed_counts n s (Asks left a) good fit = let r = ask n left s a in framed_counts s r.1 r.2 (drawn_by r.0 + calls_in r.1) (names_after a r.0 s.names) (come_by a r.0 s.names) (ask_frame n left s a good fit.party)
 deed_counts n s (GivesBack claim) good fit = let r = give_back s claim in framed_counts s r.0 r.1 0 s.names [] (give_back_frame s claim)
 deed_counts n s (Weakens share access deny) good fit = let r = weaken s share access deny in framed_counts s r.0 r.1 0 s.names [] (weaken_frame s share access deny)
@@ -95,7 +95,7 @@ begun_same : (s : CoreState) → s.made ≡ 0 → s.failed ≡ false → s.given
 unfolding step_begun
 begun_same s made failed given = λ i. record s { made = sym made i; failed = sym failed i; given = sym given i }
 
-begun_counts : (s : CoreState) → IsCounted s (step_begun s) 0
+pub begun_counts : (s : CoreState) → IsCounted s (step_begun s) 0
 unfolding step_begun
 begun_counts s = record { times = refl; epoch = refl; counter = omega arith }
 

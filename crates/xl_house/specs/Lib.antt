@@ -23,6 +23,8 @@ pub mod Breaking
 pub mod Keeping
 pub mod Parties
 pub mod Awaited
+pub mod NfsTied
+pub mod Tied
 pub mod Journals
 pub mod Free
 pub mod Housed

@@ -25,6 +25,7 @@ ghost use Rattle.xl_house.specs.Lawful.{Always, IsLawful, IsWaiting, IsKept, IsC
 ghost use Rattle.xl_house.specs.Machine.{step};
 ghost use Rattle.xl_house.specs.Recording.{HasKept, IsRecording, IsAdmitting};
 ghost use Rattle.xl_house.specs.Starts.{IsGiven, IsStored};
+ghost use Rattle.xl_house.specs.Tied.{IsTied};
 ghost use Rattle.xl_house.specs.Truthful.{AlwaysCut, Happening, happened, NeverCollide};
 ghost use Rattle.xl_reclaims.specs.Truthful.{Before, WereHeld};
 ghost use Rattle.xl_house.specs.State.{no_fronts, times_of, start_of};
@@ -471,15 +472,19 @@ impl<K: Keeper> House<K> {
     /// - fit: each deed is one that may be done where it is done;
     /// - wished: a wish got one of its choices, the least kind with one of them and what its party had, or nothing;
     /// - asking: an ask of a request of NLM is on the file that it names, a reclaim if it says so, and within the room for hosts; those
-    ///   of a LOCK and a CREATE of SMB are of the open and on the file that they name;
+    ///   of an operation of NFSv4 are for what it says, on the file of its current handle or that it claims there, a reclaim if it says
+    ///   so; those of a LOCK and a CREATE of SMB are of the open and on the file that they name;
     /// - owed: a grant that its client refuses is given up;
-    /// - meant: what the reply to a request of NLM, or to a LOCK, CREATE or CLOSE of SMB, says is done is done;
+    /// - meant: what the reply to a request of NLM, or to a LOCK, CREATE or CLOSE of SMB, says is done is done, and the stateids that a
+    ///   reply of NFSv4 tells name what is there;
     /// - caused: the deeds are those that the event may cause;
     /// - replied: each call of ONC RPC has one reply, on its own connection and with its own xid;
     /// - told: what is sent follows from the deeds and their answers;
     /// - notified: each effect of an entry is told by one message to whom it is due, each break that begins has its effect, and besides
     ///   only the message is replied to;
     /// - served: each request of SMB that waits has its waiter and each waiter its request, and a granted one has its open;
+    /// - tied: each stateid of NFSv4 is its owner's, under a number of its own that was given out, and each client of NFSv4 has on each
+    ///   file just the delegation that its cache there is;
     /// - orderly: nothing is sent to a connection before its opening or after its end;
     /// - most: it has at most 1,048,576 entries.
     ///
@@ -511,6 +516,7 @@ impl<K: Keeper> House<K> {
         ensures told { Always IsTold (start_of result.0.head) result.0.entries }
         ensures notified { Always IsNotified (start_of result.0.head) result.0.entries }
         ensures served { Always IsServed (start_of result.0.head) result.0.entries }
+        ensures tied { Always IsTied (start_of result.0.head) result.0.entries }
         ensures orderly { IsOrderly [] 0 result.0.entries }
         ensures most { length result.0.entries ≤ most_entries }
         ensures holds { is_spoiled self.halt ≡ false → Holds (K.held result.1) (replay (start_of result.0.head) result.0.entries).core.stable }

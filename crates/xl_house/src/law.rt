@@ -74,6 +74,13 @@ ghost use Rattle.xl_house.specs.Notices.{IsNlmNews, IsSmbNews};
 ghost use Rattle.xl_house.specs.Notified.{AreAnnounced};
 ghost use Rattle.xl_nlm.specs.Items.{CallItem};
 ghost use Rattle.xl_front_nlm.specs.Asking.{reclaims, IsAskFor};
+ghost use Rattle.xl_nfs.specs.Ops.{OpItem};
+ghost use Rattle.xl_nfs.specs.declared.basics.Stateid.{Stateid};
+ghost use Rattle.xl_nfs_state.specs.State.{NfsLists};
+ghost use Rattle.xl_nfs_opens.specs.Plans.{Outcome};
+ghost use Rattle.xl_nfs_laws.specs.AnsweredStateids.{IsAnswered};
+ghost use Rattle.xl_nfs_laws.specs.AskedRequests.{says_reclaim, IsItsAsk};
+ghost use Rattle.xl_nfs_laws.specs.Delegated.{delegation_held};
 ghost use Rattle.xl_house.specs.Awaited.{IsServed};
 ghost use Rattle.xl_house.specs.Done.{deeds};
 ghost use Rattle.xl_house.specs.Fitting.{IsFitting};
@@ -82,6 +89,7 @@ ghost use Rattle.xl_house.specs.Lawful.{found, IsLawful, IsWaiting, IsKept, IsCo
 ghost use Rattle.xl_house.specs.Machine.{heard};
 ghost use Rattle.xl_house.specs.Own.{own_of};
 ghost use Rattle.xl_house.specs.State.{Whole, as_found, rooms_of};
+ghost use Rattle.xl_house.specs.Tied.{IsTied};
 
 /// A machine that answers that a lock is granted and keeps nothing has no lawful entry for a lock of one byte at a start; if one
 /// waits, a machine that drops it at another's test has none in which who waits is right; and if a break of a cache runs, a
@@ -103,8 +111,8 @@ ghost use Rattle.xl_house.specs.State.{Whole, as_found, rooms_of};
 /// One whose record gains a name as a number is drawn doesn't record rightly; and one that grants a lock while grace runs to who
 /// doesn't reclaim it lets nobody in rightly.
 /// One that comes to hold a claim as it draws a number holds it for nobody, and so does one that does at a turn that serves none.
-/// One that makes a reclaim of an ask of NLM which says that it is none doesn't ask rightly.
-#[tactic(auto, using(crate::proofs::HollowLaws::waiter_dropped_in, crate::proofs::HollowLaws::cache_let_go_in, crate::proofs::HollowLaws::leases_dropped_in, crate::proofs::HollowLaws::clock_stands_in, crate::proofs::FittingLaws::share_widened_in, crate::proofs::FittingLaws::more_left_in, crate::proofs::SteadyLaws::numbers_stand_in, crate::proofs::WishedLaws::unchosen_is, crate::proofs::WishedLaws::beside_waiter_is, crate::proofs::BreakingLaws::gone_at_once_is, crate::proofs::BreakingLaws::raised_is, crate::proofs::BreakingLaws::uncaused_is, crate::proofs::BreakingLaws::unbroken_is, crate::proofs::EntryLaws::cache_dropped_in, crate::proofs::OwedLaws::refusal_dropped_in, crate::proofs::OwedLaws::left_behind_is, crate::proofs::ReplyingLaws::reply_astray_is, crate::proofs::PartiesLaws::for_nobody_is, crate::proofs::PartiesLaws::unserved_is, crate::proofs::AskingLaws::always_reclaims_is))]
+/// One that makes a reclaim of an ask of NLM, or of an operation of NFSv4, which says that it is none doesn't ask rightly.
+#[tactic(auto, using(crate::proofs::HollowLaws::waiter_dropped_in, crate::proofs::HollowLaws::cache_let_go_in, crate::proofs::HollowLaws::leases_dropped_in, crate::proofs::HollowLaws::clock_stands_in, crate::proofs::FittingLaws::share_widened_in, crate::proofs::FittingLaws::more_left_in, crate::proofs::SteadyLaws::numbers_stand_in, crate::proofs::WishedLaws::unchosen_is, crate::proofs::WishedLaws::beside_waiter_is, crate::proofs::BreakingLaws::gone_at_once_is, crate::proofs::BreakingLaws::raised_is, crate::proofs::BreakingLaws::uncaused_is, crate::proofs::BreakingLaws::unbroken_is, crate::proofs::EntryLaws::cache_dropped_in, crate::proofs::OwedLaws::refusal_dropped_in, crate::proofs::OwedLaws::left_behind_is, crate::proofs::ReplyingLaws::reply_astray_is, crate::proofs::PartiesLaws::for_nobody_is, crate::proofs::PartiesLaws::unserved_is, crate::proofs::AskingLaws::always_reclaims_is, crate::proofs::AskingLaws::nfs_always_reclaims_is))]
 pub fn hollow_machines_are_refused()
     ensures kept { (n stores number epoch : ℕ) (bytes : List ℕ) (outs : List Out) (s t : Whole) (clock : Moment) (times : Times) → found s ≡ started (unnamed epoch) clock times → deeds n s (Message number bytes) ≡ Asks all_room smallest_lock ∷ []
         → t.core.claims ≡ [] → IsLawful n s (record { event = Message number bytes; stores = stores; outs = outs }) t → ⊥ }
@@ -146,6 +154,15 @@ pub fn hollow_machines_are_refused()
     ensures let_in { (n stores number : ℕ) (bytes : List ℕ) (outs : List Out) (s t : Whole) (left : Rooms) (a : Ask) (g : Running) (c : Claim) → deeds n s (Message number bytes) ≡ Asks left a ∷ [] → s.core.grace ≡ Some g → asks_claims a.act ≡ true
         → a.reclaim ≡ false → (ask n left (found s) a).0 ≡ Answer.Granted c → IsAdmitting n s (record { event = Message number bytes; stores = stores; outs = outs }) t → ⊥ }
     ensures always_reclaims { (count hosts : ℕ) (call : CallItem) (left : Rooms) (a : Ask) → reclaims call ≡ false → a.reclaim ≡ true → IsAskFor count hosts call (Asks left a) → ⊥ }
+    ensures nfs_always_reclaims { (files : List (List ℕ)) (current : Option ℕ) (op : OpItem) (left : Rooms) (a : Ask) → says_reclaim op ≡ false → a.reclaim ≡ true → IsItsAsk files current op left a → ⊥ }
+{}
+
+/// A machine that forgets the stateids while a client of NFSv4 has a cache has no entry after which rows and claims are tied; and one
+/// that does so as it tells a stateid tells none of NFSv4 rightly.
+#[tactic(auto, using(crate::proofs::NfsTiedLaws::delegation_lost_in, crate::proofs::MeantLaws::answered_lost_is))]
+pub fn machines_that_lose_rows_are_refused()
+    ensures delegation_lost { (n : ℕ) (s t : Whole) (e : Entry) (id : List ℕ) (file : ℕ) (write : Bool) → delegation_held t.core id file ≡ Some write → t.front.nfs.state.stateids ≡ [] → IsTied n s e t → ⊥ }
+    ensures answered_lost { (s : CoreState) (l : NfsLists) (asked told : Stateid) (closed : Bool) (done : Outcome) → done.3.stateids ≡ [] → IsAnswered s l asked told closed done → ⊥ }
 {}
 
 /// An entry tells nobody rightly by a machine that begins the break of an open's oplock and sends no notice to the connection that

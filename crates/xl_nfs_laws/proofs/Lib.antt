@@ -55,3 +55,6 @@ pub mod ReclaimedDelegationLaws
 pub mod ExactStatusLaws
 pub mod GraceStandings
 pub mod RecordedClientLaws
+pub mod AskedRequestLaws
+pub mod OtherDeedLaws
+pub mod AsToldLaws

@@ -118,7 +118,7 @@ find_inserted : (p : Claim → Bool) (claim : Claim) (cs : List Claim) → p cla
 unfolding inserted
 find_inserted p claim cs other = find_placed p goes_first claim cs other
 
-find_changed : (p : Claim → Bool) (claim : Claim) (to : What) (cs : List Claim) → p claim ≡ false → p (with_what claim to) ≡ false → find p (changed claim to cs) ≡ find p cs
+pub find_changed : (p : Claim → Bool) (claim : Claim) (to : What) (cs : List Claim) → p claim ≡ false → p (with_what claim to) ≡ false → find p (changed claim to cs) ≡ find p cs
 unfolding changed
 find_changed p claim to cs other still = find_inserted p (with_what claim to) (removed claim cs) still ∙ find_removed p claim cs other
 
@@ -256,7 +256,7 @@ broken_kind deadline ask shares file number (c ∷ cs) each = by (break_of ask s
           ])
         ]
 
-begun_kind : (ask : Claim) (s : CoreState) (file number : ℕ) → IsGood s → kind_in (breaks_begun ask s).1.claims file number ≡ kind_in s.claims file number
+pub begun_kind : (ask : Claim) (s : CoreState) (file number : ℕ) → IsGood s → kind_in (breaks_begun ask s).1.claims file number ≡ kind_in s.claims file number
 unfolding breaks_begun once_broken
 begun_kind ask s file number good =
     broken_kind (moment_after s.clock s.times.break_time) ask (blocking_shares ask s.claims) file number s.claims

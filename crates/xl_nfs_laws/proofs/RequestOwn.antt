@@ -42,17 +42,17 @@ use Rattle.xl_nfs_laws.proofs.RenewedLaws.{plan_renews}
 use Rattle.xl_front_nfs.specs.Steps.{planned, Step, Runs, Garbled, Cut, Course, CoursePlan, begun, noted, step_plan, goes_on, compound}
 
 -- it draws a number, or it ends as a party, or renews, a client for which this holds
-abbrev IsPlain : CoreState → (List ℕ → Type 0) → Deed → Type 0
+abbrev pub IsPlain : CoreState → (List ℕ → Type 0) → Deed → Type 0
 IsPlain s Client Draws = Unit {0}
 IsPlain s Client (Ends party) = (id : List ℕ) × Client id × IsOf s (NfsParty id) (Ends party)
 IsPlain s Client (Renews id) = Client id
 IsPlain s Client _ = ⊥
 
-abbrev ArePlain : ℕ → CoreState → (List ℕ → Type 0) → List Deed → Type 0
+abbrev pub ArePlain : ℕ → CoreState → (List ℕ → Type 0) → List Deed → Type 0
 ArePlain n s Client [] = Unit {0}
 ArePlain n s Client (d ∷ ds) = IsPlain s Client d × ArePlain n (done n s d) Client ds
 
-abbrev By : ℕ → CoreState → (List ℕ → Type 0) → Plan → Type 0
+abbrev pub By : ℕ → CoreState → (List ℕ → Type 0) → Plan → Type 0
 By n s Client plan = ArePlain n s Client (deeds_of n s plan)
 
 plain_own : (n : ℕ) (s : CoreState) (Client : List ℕ → Type 0) (ds : List Deed) → ArePlain n s Client ds → AreFit n s ds × AreBy n s Client ds
@@ -68,7 +68,7 @@ named_by : (s : CoreState) (l : NfsLists) (clientid number : ℕ) (confirmed : B
 named_by s l clientid number confirmed r named found =
     ap (λ (o : Option ℕ). option_map (λ r. r.id) (option_and_then (λ m. find (is_client m confirmed) l.clients) o)) named ∙ ap (λ (o : Option ClientRow). option_map (λ r. r.id) o) found
 
-renew_by : (n : ℕ) (s : CoreState) (l : NfsLists) (current : Option ℕ) (clientid : ℕ) → By n s (λ id. is_named s l clientid true id) (renew s l current clientid)
+pub renew_by : (n : ℕ) (s : CoreState) (l : NfsLists) (current : Option ℕ) (clientid : ℕ) → By n s (λ id. is_named s l clientid true id) (renew s l current clientid)
 unfolding renew
 renew_by n s l current clientid = by (number_in s clientid) refl
   where
@@ -84,7 +84,7 @@ draws_by : (n : ℕ) (s : CoreState) (Client : List ℕ → Type 0) (kept : Opti
 draws_by n s Client None = (tt, (tt, tt))
 draws_by n s Client (Some number) = (tt, tt)
 
-set_by_none : (n : ℕ) (s : CoreState) (l : NfsLists) (current : Option ℕ) (a : SetClientIdArgsItem) (kept : Option ℕ) (Client : List ℕ → Type 0) → By n s Client (set_by s l current a kept)
+pub set_by_none : (n : ℕ) (s : CoreState) (l : NfsLists) (current : Option ℕ) (a : SetClientIdArgsItem) (kept : Option ℕ) (Client : List ℕ → Type 0) → By n s Client (set_by s l current a kept)
 set_by_none n s l current a kept Client =
     elim (cases_Bool (has_room l)) [
       | inl e ↦ rw e (draws_by n s Client kept)
@@ -111,7 +111,7 @@ confirmed_is verifier (Some x) r e =
       | inr h ↦ (let no : None ≡ Some r = rw h at e in absurd cc)
     ]
 
-confirm_by : (n : ℕ) (s : CoreState) (l : NfsLists) (current : Option ℕ) (a : ClientConfirm) → By n s (λ id. is_named s l a.clientid true id ⊎ is_named s l a.clientid false id) (set_client_id_confirm s l current a)
+pub confirm_by : (n : ℕ) (s : CoreState) (l : NfsLists) (current : Option ℕ) (a : ClientConfirm) → By n s (λ id. is_named s l a.clientid true id ⊎ is_named s l a.clientid false id) (set_client_id_confirm s l current a)
 unfolding set_client_id_confirm
 confirm_by n s l current a = by (number_in s a.clientid) refl
   where
@@ -134,7 +134,7 @@ confirm_by n s l current a = by (number_in s a.clientid) refl
 
 -- ---- without deeds
 
-put_by : (n count : ℕ) (s : CoreState) (l : NfsLists) (current o : Option ℕ) (Client : List ℕ → Type 0) → By n s Client (put_file count l current o)
+pub put_by : (n count : ℕ) (s : CoreState) (l : NfsLists) (current o : Option ℕ) (Client : List ℕ → Type 0) → By n s Client (put_file count l current o)
 put_by n count s l current None Client = tt
 put_by n count s l current (Some file) Client =
     elim (cases_Bool (nat_le file count)) [
@@ -142,7 +142,7 @@ put_by n count s l current (Some file) Client =
       | inr e ↦ rw e tt
     ]
 
-get_by : (n : ℕ) (s : CoreState) (l : NfsLists) (current : Option ℕ) (Client : List ℕ → Type 0) → By n s Client (get_fh l current)
+pub get_by : (n : ℕ) (s : CoreState) (l : NfsLists) (current : Option ℕ) (Client : List ℕ → Type 0) → By n s Client (get_fh l current)
 unfolding get_fh
 get_by n s l None Client = tt
 get_by n s l (Some file) Client = tt
@@ -151,7 +151,7 @@ found_by : (n : ℕ) (s : CoreState) (l : NfsLists) (current o : Option ℕ) (Cl
 found_by n s l current None Client = tt
 found_by n s l current (Some file) Client = tt
 
-look_by : (n : ℕ) (files : List (List ℕ)) (s : CoreState) (l : NfsLists) (current : Option ℕ) (name : List ℕ) (Client : List ℕ → Type 0) → By n s Client (look_up files l current name)
+pub look_by : (n : ℕ) (files : List (List ℕ)) (s : CoreState) (l : NfsLists) (current : Option ℕ) (name : List ℕ) (Client : List ℕ → Type 0) → By n s Client (look_up files l current name)
 unfolding look_up
 look_by n files s l None name Client = tt
 look_by n files s l (Some file) name Client =
@@ -209,7 +209,7 @@ abbrev Taken : ℕ → CoreState → List Deed → Type 0
 Taken n s ds = AreFit n s ds × AreBy n s (λ _. Unit {0}) ds
 
 -- what is true of an operation's deeds is true of the step's
-of_step : (n : ℕ) (files : List (List ℕ)) (others : ℕ) (c : Course) (s : CoreState) (l : NfsLists) (item : OpItem) (Holds : List Deed → Type 0) → Holds (deeds_of n s (planned files others s l c.current item)) → Holds (deeds_of n s (step_plan files others c s l (Runs item)))
+pub of_step : (n : ℕ) (files : List (List ℕ)) (others : ℕ) (c : Course) (s : CoreState) (l : NfsLists) (item : OpItem) (Holds : List Deed → Type 0) → Holds (deeds_of n s (planned files others s l c.current item)) → Holds (deeds_of n s (step_plan files others c s l (Runs item)))
 unfolding step_plan
 of_step n files others c s l item Holds holds = subst Holds (sym (within_does n s l (λ m. m) (λ told m. (noted c (op_number item) told, m)) (planned files others s l c.current item))) holds
 

@@ -15,3 +15,6 @@ pub mod Statuses
 pub mod Denied
 pub mod OpenAnswers
 pub mod OwnersStay
+pub mod AskedRequests
+pub mod OtherDeeds
+pub mod AsTold

@@ -1,6 +1,7 @@
 //! Laws of the stateids that operations are answered. The functions do nothing: each has laws as its clauses.
 ghost use Rattle.std.specs.Prelude.{◌≡◌, ◌+◌, ℕ, true, false, Option, Some, None};
 ghost use Rattle.std.specs.List.{find};
+ghost use Rattle.xl_base.specs.declared.journal.Exports.{Exports};
 ghost use Rattle.xl_nfs.specs.Locks.{LockArgsItem, NewLockerItem};
 ghost use Rattle.xl_nfs.specs.declared.basics.Stateid.{Stateid};
 ghost use Rattle.xl_nfs.specs.declared.locks.KnownLocker.{KnownLocker as Locker};
@@ -14,6 +15,8 @@ ghost use Rattle.xl_nfs_state.specs.declared.owner.OwnerKind.TheVariants.{Lock a
 ghost use Rattle.xl_nfs_state.specs.declared.owner.OwnerRow.{OwnerRow};
 ghost use Rattle.xl_nfs_state.specs.declared.owner.SeqidState.{SeqidState as OwnerSeqids};
 ghost use Rattle.xl_nfs_state.specs.declared.stateid.StateidRow.{StateidRow};
+ghost use Rattle.xl_programs.specs.Programs.{RequestItem};
+ghost use Rattle.xl_programs.specs.Sent.{sent_to};
 ghost use Rattle.xl_core.specs.Good.{IsGood};
 ghost use Rattle.xl_core.specs.State.{CoreState};
 ghost use Rattle.xl_nfs_locks.specs.Checks.{locks_found};
@@ -31,7 +34,10 @@ ghost use Rattle.xl_nfs_opens.specs.Seqids.{is_opener};
 ghost use Rattle.xl_nfs_opens.specs.declared.opener.Checked.TheVariants.{Passed};
 ghost use Rattle.xl_nfs_opens.specs.declared.opener.Opener.{Opener as LockOwner};
 ghost use Rattle.xl_nfs_opens.specs.declared.told.Told.TheVariants.{State};
+ghost use Rattle.xl_front_nfs.specs.FrontNfs.{nfs_reply};
+ghost use Rattle.xl_front_nfs.specs.State.{FrontNfs};
 ghost use Rattle.xl_nfs_laws.specs.AnsweredStateids.{AreNewLocks, IsAnswered, LockersCloseNothing, can_join, new_locks};
+ghost use Rattle.xl_nfs_laws.specs.AsTold.{AreRequestTold};
 ghost use Rattle.xl_nfs_laws.specs.Orderly.{IsOrderly};
 ghost use Rattle.xl_nfs_laws.specs.StateidNumbers.{AreGivenOut};
 
@@ -63,4 +69,13 @@ pub fn first_locks_stand()
     ensures comes { (n : ℕ) (s : CoreState) (l : NfsLists) (current : Option ℕ) (a : LockArgsItem) (x : NewLockerItem) (r : StateidRow) (owner : ℕ) (seqids : OwnerSeqids) (o : LockOwner) (told : Stateid) → checked s l current 12 x.open_seqid x.open_stateid ≡ Passed r owner seqids → locker_under r x.owner.owner (client_in s l x.owner.clientid) ≡ Some o → IsGood s → IsOrderly l → LockersCloseNothing l → AreGivenOut s.counter l → found_joined l r o x.lock_seqid ≡ Joins None → (carried n s l (join_checked s l current a x (checked s l current 12 x.open_seqid x.open_stateid))).0 ≡ State told → AreNewLocks r o told (carried n s l (join_checked s l current a x (checked s l current 12 x.open_seqid x.open_stateid))) }
     ensures again { (n : ℕ) (s : CoreState) (l : NfsLists) (current : Option ℕ) (a : LockArgsItem) (x : NewLockerItem) (r : StateidRow) (owner : ℕ) (seqids : OwnerSeqids) (o : LockOwner) (told : Stateid) → checked s l current 12 x.open_seqid x.open_stateid ≡ Passed r owner seqids → locker_under r x.owner.owner (client_in s l x.owner.clientid) ≡ Some o → (q : StateidRow) → found_joined l r o x.lock_seqid ≡ Joins (Some q) → (carried n s l (join_checked s l current a x (checked s l current 12 x.open_seqid x.open_stateid))).0 ≡ State told → told ≡ stateid_of (carried n s l (join_checked s l current a x (checked s l current 12 x.open_seqid x.open_stateid))).4 q.number (next_seqid q.standing.seqid) }
     ensures stood { (l : NfsLists) (r : StateidRow) (o : LockOwner) (seqid : ℕ) (w : OwnerRow) (q : StateidRow) (j : Option StateidRow) → IsOrderly l → LockersCloseNothing l → o.kind ≡ OfLocks → find (is_opener o) l.owners ≡ Some w → find (owned_on w.number r.file) l.stateids ≡ Some q → found_joined l r o seqid ≡ Joins j → j ≡ Some q }
+{}
+
+/// So the reply to a COMPOUND has the results of its operations in order, up to the first that fails, and the stateids that they tell
+/// name what is there once each is done: that of an OPEN one open of the owner that it names, on the file that is the current one
+/// then, with the access and the deny that were asked, and a delegation that it tells the client's; that of an OPEN_CONFIRM,
+/// OPEN_DOWNGRADE, CLOSE, LOCKU or of a LOCK by a lock's stateid the one that was named, by its next seqid (RFC 7530 9.1.4, 14.2).
+#[tactic(auto, using(crate::proofs::AsToldLaws::request_told))]
+pub fn replies_are_as_told()
+    ensures { (n : ℕ) (exports : Exports) (others : ℕ) (f : FrontNfs) (s : CoreState) (conn : ℕ) (r : RequestItem) → IsGood s → IsOrderly f.state → LockersCloseNothing f.state → AreGivenOut s.counter f.state → AreRequestTold n exports others f s conn r (sent_to conn (nfs_reply n exports others f s r)) }
 {}

@@ -13,15 +13,16 @@ ghost use Rattle.xl_matrix.specs.Blocks.{is_cache};
 ghost use Rattle.xl_matrix.specs.declared.claim.CacheKind.{CacheKind};
 ghost use Rattle.xl_matrix.specs.declared.claim.Claim.{Claim};
 ghost use Rattle.xl_core.specs.BreakAnswers.{client_of, due};
-ghost use Rattle.xl_core.specs.Deeds.{Expires, Lapses, done};
+ghost use Rattle.xl_core.specs.Deeds.{Deed, Expires, Lapses, done, IsFitDeed};
 ghost use Rattle.xl_core.specs.Good.{IsGood};
 ghost use Rattle.xl_core.specs.Leases.{ended};
 ghost use Rattle.xl_core.specs.State.{CoreState, started};
 ghost use Rattle.xl_core.specs.declared.ask.Effect.TheVariants.{Expired};
 ghost use Rattle.xl_core.specs.declared.lease.Times.{Times as CoreTimes};
 ghost use Rattle.xl_core.specs.declared.ask.Effect.{Effect as CoreEffect};
-ghost use Rattle.xl_nfs_laws.specs.Delegated.{AreTied, AreTiedBut};
+ghost use Rattle.xl_nfs_laws.specs.Delegated.{AreDelegated, AreTied, AreTiedBut};
 ghost use Rattle.xl_nfs_laws.specs.Orderly.{IsOrderly};
+ghost use Rattle.xl_nfs_laws.specs.OtherDeeds.{SparesNfs};
 ghost use Rattle.xl_nfs_opens.specs.Plans.{carried};
 ghost use Rattle.xl_front_nfs.specs.FrontNfs.{nfs_step};
 ghost use Rattle.xl_front_nfs.specs.Recalls.{IsRecalledOnce};
@@ -50,7 +51,7 @@ pub fn only_owners_requests_count()
 /// Each client has a delegation on a file exactly if it has a cache there, both of one kind (RFC 7530 10.4). So it is
 /// at a start, and stays by each operation, by a whole request, and as unconfirmed records go. If a client expires,
 /// whose lease has ended or who didn't return a delegation in time, all its caches go, and once the front is told all
-/// its delegations.
+/// its delegations. It stays so too by each deed of others: an ask, an answer or an end of no client of NFSv4, or a turn.
 pub fn delegations_are_caches()
     ensures start { (stable : StableRecord) (clock : Moment) (times : CoreTimes) → AreTied (started stable clock times) empty_nfs_front.state }
     ensures operations { (n : ℕ) (files : List (List ℕ)) (others : ℕ) (s : CoreState) (l : NfsLists) (current : Option ℕ) (item : OpItem) → IsGood s → IsOrderly l → AreTied s l → AreTied (carried n s l (planned files others s l current item)).4 (carried n s l (planned files others s l current item)).3 }
@@ -59,6 +60,7 @@ pub fn delegations_are_caches()
     ensures expires { (n : ℕ) (s : CoreState) (gone : List (List ℕ)) (l : NfsLists) (id : List ℕ) → IsGood s → IsIn id (ended s.clock s.leases) → AreTiedBut gone s l → AreTiedBut (id ∷ gone) (done n s (Expires id)) l }
     ensures lapses { (n : ℕ) (s : CoreState) (gone : List (List ℕ)) (l : NfsLists) (cache : Claim) (id : List ℕ) → IsGood s → IsIn cache (due s) → client_of s.names cache.party ≡ Some id → AreTiedBut gone s l → AreTiedBut (id ∷ gone) (done n s (Lapses cache)) l }
     ensures shown { (s : CoreState) (gone : List (List ℕ)) (f : FrontNfs) (id : List ℕ) → AreTiedBut (id ∷ gone) s f.state → AreTiedBut gone s (nfs_shown f (Expired id)).state }
+    ensures others { (n : ℕ) (s : CoreState) (l : NfsLists) (d : Deed) → IsGood s → IsFitDeed s d → SparesNfs d → AreDelegated s l → AreDelegated (done n s d) l }
 {}
 
 /// So each break of a client's delegation, whose call has a later number than were given out before, is sent by one

@@ -23,6 +23,7 @@ ghost use Rattle.xl_core.specs.declared.ask.Effect.TheVariants.{Begun};
 ghost use Rattle.xl_front_nfs.specs.Recalls.{recalls, IsRecall};
 ghost use Rattle.xl_front_nfs.specs.State.{FrontNfs, nfs_tick};
 ghost use Rattle.xl_front_nfs.specs.Steps.{planned, Step, Course, step_plan, goes_on, compound};
+ghost use Rattle.xl_nfs_laws.specs.AskedRequests.{AreRequestAsks};
 ghost use Rattle.xl_nfs_laws.specs.RequestOwners.{IsToRenew, AreTheirs};
 
 /// A request leaves the core as its deeds do, and tells of what they tell of.
@@ -49,6 +50,15 @@ pub fn deeds_are_the_clients()
     ensures renewed { (n : ℕ) (files : List (List ℕ)) (others : ℕ) (s : CoreState) (l : NfsLists) (current : Option ℕ) (item : OpItem) (id : List ℕ) → IsToRenew s l item id → IsIn (Renews id) (deeds_of n s (planned files others s l current item)) }
     ensures requests { (n : ℕ) (exports : Exports) (others : ℕ) (f : FrontNfs) (s : CoreState) (r : RequestItem) → IsGood s → AreTheirs n exports others f s r }
     ensures kinds { (n : ℕ) (exports : Exports) (others : ℕ) (f : FrontNfs) (s : CoreState) (r : RequestItem) → IsGood s → AreBy n s (λ _. Unit {0}) (nfs_deeds n exports others f s r) }
+{}
+
+/// What a request asks for is its own: its deeds are those of its operations in order, up to the first that fails, and each
+/// operation asks for what it says, on the file of its current handle or that an OPEN claims there, and reclaims exactly if it says
+/// so: OPEN by CLAIM_PREVIOUS, LOCK by its argument (RFC 7530 9.6.2, 16.10, 16.16). CLOSE asks that the locks under its open go. No
+/// other operation asks. None waits, and none is judged by the room in the fronts' tables.
+#[tactic(auto, using(crate::proofs::AskedRequestLaws::request_asks))]
+pub fn asks_are_the_operations()
+    ensures { (n : ℕ) (exports : Exports) (others : ℕ) (f : FrontNfs) (s : CoreState) (r : RequestItem) → AreRequestAsks n exports others f s r (nfs_deeds n exports others f s r) }
 {}
 
 /// A request is answered by one message, which goes back to the connection that it came from: a function of the request

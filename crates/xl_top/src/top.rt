@@ -20,6 +20,7 @@ ghost use Rattle.xl_house.specs.Replying.{IsReplied};
 ghost use Rattle.xl_house.specs.Notified.{IsNotified};
 ghost use Rattle.xl_house.specs.Asking.{IsAsking};
 ghost use Rattle.xl_house.specs.Meant.{IsMeant};
+ghost use Rattle.xl_house.specs.Tied.{IsTied};
 ghost use Rattle.xl_house.specs.Free.{AlwaysFree};
 ghost use Rattle.xl_house.specs.Housed.{Holds};
 ghost use Rattle.xl_house.specs.Starts.{IsLoaded};
@@ -464,8 +465,8 @@ fn work<I: Source, O: Sink, R: Wait>(
 /// `serve` reads what is exported, serves the lanes and the callers, and writes the capture of what was entered.
 ///
 /// The journal that comes back has each event that was stepped, with what was sent for it. The clauses from `legal` to
-/// `served` hold for it whatever the input is, and at every status.
-#[tactic(auto, using(crate::proofs::ReadLaws::most_same, xl_replay::proofs::ReplayLaws::remade_so, xl_house::proofs::MachineLaws::begun_free, xl_house::proofs::LawfulLaws::always_lawful, xl_house::proofs::LawfulLaws::always_waiting, xl_house::proofs::LawfulLaws::always_kept, xl_house::proofs::LawfulLaws::always_complete, xl_house::proofs::FittingLaws::always_fitting, xl_house::proofs::LawfulLaws::always_caused, xl_house::proofs::LawfulLaws::always_told, xl_house::proofs::SteadyLaws::always_steady, xl_house::proofs::RecordLaws::always_recording, xl_house::proofs::RecordLaws::always_admitting, xl_house::proofs::CrashLaws::always_cut, xl_house::proofs::TruthfulLaws::never_collide, xl_house::proofs::EntryLaws::always_wishing, xl_house::proofs::EntryLaws::always_breaking, xl_house::proofs::EntryLaws::always_keeping, xl_house::proofs::OwedLaws::always_owed, xl_house::proofs::ReplyingLaws::always_replied, xl_house::proofs::EntryLaws::always_partied, xl_house::proofs::AskingLaws::always_asking, xl_house::proofs::NotifiedLaws::always_notified, xl_house::proofs::MeantLaws::always_meant))]
+/// `tied` hold for it whatever the input is, and at every status.
+#[tactic(auto, using(crate::proofs::ReadLaws::most_same, xl_replay::proofs::ReplayLaws::remade_so, xl_house::proofs::MachineLaws::begun_free, xl_house::proofs::LawfulLaws::always_lawful, xl_house::proofs::LawfulLaws::always_waiting, xl_house::proofs::LawfulLaws::always_kept, xl_house::proofs::LawfulLaws::always_complete, xl_house::proofs::FittingLaws::always_fitting, xl_house::proofs::LawfulLaws::always_caused, xl_house::proofs::LawfulLaws::always_told, xl_house::proofs::SteadyLaws::always_steady, xl_house::proofs::RecordLaws::always_recording, xl_house::proofs::RecordLaws::always_admitting, xl_house::proofs::CrashLaws::always_cut, xl_house::proofs::TruthfulLaws::never_collide, xl_house::proofs::EntryLaws::always_wishing, xl_house::proofs::EntryLaws::always_breaking, xl_house::proofs::EntryLaws::always_keeping, xl_house::proofs::OwedLaws::always_owed, xl_house::proofs::ReplyingLaws::always_replied, xl_house::proofs::EntryLaws::always_partied, xl_house::proofs::AskingLaws::always_asking, xl_house::proofs::NotifiedLaws::always_notified, xl_house::proofs::MeantLaws::always_meant, xl_house::proofs::NfsTiedLaws::always_tied))]
 pub fn run<
     I: Source,
     O: Sink,
@@ -597,9 +598,11 @@ pub fn run<
     // wished: a wish gets one of its choices, or the least kind in which one of them and what its party had lie, and nothing if
     // someone waits on the file.
     // asking: an ask of a request of NLM is on the exported file that it names, a reclaim exactly if it says so, and with the room that
-    // is left for hosts. One of a LOCK or a CREATE of SMB is of the open and on the file that it names.
+    // is left for hosts. One of an operation of NFSv4 is for what it says, on the file of its current handle or that it claims there,
+    // and a reclaim exactly if it says so. One of a LOCK or a CREATE of SMB is of the open and on the file that it names.
     // owed: if a client refuses a lock whose grant it was sent, just that is unlocked.
-    // meant: what the reply to a request of NLM, or to a LOCK, CREATE or CLOSE of SMB, says is done is done.
+    // meant: what the reply to a request of NLM, or to a LOCK, CREATE or CLOSE of SMB, says is done is done; and the stateids that a
+    // reply of NFSv4 tells name what is there once its operation is done.
     // caused: an event does only what such an event may do, and only for the clients that it names.
     // replied: each call of ONC RPC that a record is has one reply, on its own connection and with its own xid.
     // told: what is sent follows from what the event did and what it was answered.
@@ -631,6 +634,11 @@ pub fn run<
     // LOCK that waited is granted, its open is there, and its final reply says that it succeeded. The end of a connection of SMB leaves
     // nothing of the opens that were under it.
     ensures served { Always IsServed (start_of result.journal.head) result.journal.entries }
+
+    // After each entry no two stateids of NFSv4 have one number, and each has one that was given out, stands in a place of its own, and
+    // is its owner's, who is its client's; an open is closed exactly if its owner's last request closed it. No two confirmed clients
+    // have one number or one id string, and each client has on each file just the delegation that its cache there is.
+    ensures tied { Always IsTied (start_of result.journal.head) result.journal.entries }
 {
     let Ok(room) = Vec::with_capacity(alloc, outside.lanes.len()) else {
         return end_starved(alloc, outside);

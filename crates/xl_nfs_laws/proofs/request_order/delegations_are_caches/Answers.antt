@@ -1,3 +1,4 @@
+use Rattle.xl_nfs_laws.proofs.OtherDeedLaws.{others_delegated}
 use Rattle.xl_nfs_laws.proofs.RequestDelegationLaws.{expire_tied, expired_tied, item_tied, lapse_tied, request_tied, start_tied, tick_tied}
 use Rattle.xl_nfs_laws.proofs.request_order.delegations_are_caches.Goals as goal
 
@@ -21,3 +22,6 @@ returns-clause-lapses c = lapse_tied
 
 pub returns-clause-shown : goal.returns-clause-shown
 returns-clause-shown c = expired_tied
+
+pub returns-clause-others : goal.returns-clause-others
+returns-clause-others c = others_delegated

@@ -10,6 +10,7 @@ use Rattle.xl_house.proofs.JournalLaws.{holds_stands}
 use Rattle.xl_house.proofs.LawfulLaws.{always_lawful, always_waiting, always_kept, always_complete, always_caused, always_told}
 use Rattle.xl_house.proofs.MachineLaws.{begun_free}
 use Rattle.xl_house.proofs.MeantLaws.{always_meant}
+use Rattle.xl_house.proofs.NfsTiedLaws.{always_tied}
 use Rattle.xl_house.proofs.NotifiedLaws.{always_notified}
 use Rattle.xl_house.proofs.OrderLaws.{legal_orderly}
 use Rattle.xl_house.proofs.RecordLaws.{always_admitting, always_recording}
@@ -82,6 +83,9 @@ returns-clause-told g c = rw c.from_vec-entries.ensures (always_told _ _ c.self.
 
 pub returns-clause-notified : goal.returns-clause-notified
 returns-clause-notified g c = rw c.from_vec-entries.ensures (always_notified _ _ c.self.invariant.legal)
+
+pub returns-clause-tied : goal.returns-clause-tied
+returns-clause-tied g c = always_tied _ _
 
 pub returns-clause-orderly : goal.returns-clause-orderly
 returns-clause-orderly g c = rw c.from_vec-entries.ensures (legal_orderly _ _ c.self.invariant.legal)
