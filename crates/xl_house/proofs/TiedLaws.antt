@@ -25,51 +25,47 @@ use Rattle.xl_smb_locks.specs.Finals.{told_of}
 use Rattle.xl_smb_state.specs.Links.{most_opens}
 use Rattle.xl_smb_state.specs.State.{Lists, open_of}
 use Rattle.xl_smb_state.specs.declared.row.Open.{Open as OpenRow}
-use Rattle.xl_wait.specs.declared.waiter.Waiter.{Waiter}
 use Rattle.xl_core.proofs.DeedLaws.{deed_good}
 use Rattle.xl_core.proofs.FrameLaws.{tick_unserved, turn_frame, way_leaves}
 use Rattle.xl_core.specs.Askers.{is_lease}
-use Rattle.xl_core.specs.Causes.{IsTurn, Answered, WaitsOn}
+use Rattle.xl_core.specs.Causes.{Answered, WaitsOn}
 use Rattle.xl_core.specs.Clients.{IsOf, IsOfSome}
-use Rattle.xl_core.specs.Deeds.{Deed, Asks, GivesBack, Weakens, Acks, Cancels, Ends, Closes, Serves, Draws, Advances, Lapses, Renews, Expires, FailsStore, EndsGrace, AreFit, IsFitDeed, all_done, all_told_of, done, given, tick_deeds, turned}
+use Rattle.xl_core.specs.Deeds.{Deed, GivesBack, Ends, Closes, Serves, AreFit, IsFitDeed, all_done, done, given, tick_deeds, turned}
 use Rattle.xl_core.specs.Frames.{IsFrame, calls_in, who_left}
 use Rattle.xl_core.specs.Good.{IsGood, IsHeld}
 use Rattle.xl_core.specs.Places.{ShareOf, held_in}
 use Rattle.xl_core.specs.Settle.{plea_again, settle, way_again}
 use Rattle.xl_core.specs.State.{CoreState, step_begun}
 use Rattle.xl_core.specs.Ticks.{tick}
-use Rattle.xl_core.specs.Told.{party_protocol, told_to}
+use Rattle.xl_core.specs.Told.{told_to}
 use Rattle.xl_core.specs.declared.ask.Answer.{Answer}
-use Rattle.xl_core.specs.declared.ask.Answer.TheVariants.{Granted}
 use Rattle.xl_core.specs.declared.ask.Effect.{Effect}
 use Rattle.xl_core.specs.declared.ask.Effect.TheVariants as effects
-use Rattle.xl_plan.proofs.PlanLaws.{at_both, at_weaker, fit_at}
 use Rattle.xl_plan.specs.Plans.{AllAt}
 use Rattle.xl_front_nlm.proofs.DoesLaws as nlm
 use Rattle.xl_front_nlm.specs.Answers.{refusal_deeds}
 use Rattle.xl_front_nlm.specs.FrontNlm.{call_in, nlm_client, nlm_deeds}
 use Rattle.xl_front_nlm.specs.declared.grant.Grant.{Grant}
 use Rattle.xl_front_nfs.specs.FrontNfs.{nfs_deeds}
-use Rattle.xl_nfs_opens.specs.Owners.{AreBy, IsBy}
+use Rattle.xl_nfs_opens.specs.Owners.{IsBy}
 use Rattle.xl_nfs_laws.proofs.RequestOwn as nfs_own
 use Rattle.xl_front_smb.specs.FrontSmb.{smb_shown}
 use Rattle.xl_front_smb.specs.State.{FrontSmb}
 use Rattle.xl_smb_laws.specs.Beginnings.{AreNumbered}
 use Rattle.xl_smb_laws.specs.TiedRows.{AreSmbTied, HoldsShare, IsShare, SparesShare}
-use Rattle.xl_smb_laws.specs.WaitingRequests.{IsGranted}
 use Rattle.xl_smb_laws.proofs.GivenNumberLaws.{later_numbered, shown_numbered}
 use Rattle.xl_smb_laws.proofs.GrantedCreateLaws.{turn_of}
 use Rattle.xl_smb_laws.proofs.GrantedShareLaws.{IsMade, granted_holds, shown_was}
 use Rattle.xl_smb_laws.proofs.SharedOpenLaws.{deed_keeps_share, open_smb}
-use Rattle.xl_smb_laws.proofs.TiedLaws.{begun_tied, end_tied, start_tied, step_tied}
-use Rattle.xl_smb_laws.proofs.TiedRowLaws.{HaveShares, spared_shares}
+use Rattle.xl_smb_laws.proofs.TiedLaws.{begun_tied, end_tied, step_tied}
+use Rattle.xl_smb_laws.proofs.TiedRowLaws.{spared_shares}
 use Rattle.xl_house.specs.Lawful.{may_do}
 use Rattle.xl_house.specs.Machine.{heard}
 use Rattle.xl_house.specs.Own.{Given, Own, begun_by, end_own, message_own, own_of, program_own, record_own}
 use Rattle.xl_house.specs.State.{Whole, kind_of, most_connections, nfs_opens, rooms_of, smb_opens}
 use Rattle.xl_house.specs.Telling.{all_shown, grants, is_grant, settled, shown_by, showing, turns_sent}
 use Rattle.xl_house.specs.declared.layers.Fronts.{Fronts}
-use Rattle.xl_house.proofs.AwaitedLaws.{Ready, heard_stand, settled_stand, shown_stand, turn_tells}
+use Rattle.xl_house.proofs.AwaitedLaws.{Ready, heard_stand, shown_stand, turn_tells}
 use Rattle.xl_house.proofs.DoneLaws.{IsRow, own_row, program_row}
 use Rattle.xl_house.proofs.MachineLaws.{heard_good}
 use Rattle.xl_house.proofs.MayLaws.{end_quiet, may_quiet, unserved_quiet}

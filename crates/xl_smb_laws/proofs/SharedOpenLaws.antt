@@ -23,7 +23,6 @@ use Rattle.xl_names.specs.declared.name.Name.{Name}
 use Rattle.xl_names.specs.declared.name.Name.TheVariants.{NfsParty}
 use Rattle.xl_smb_state.proofs.RowLaws.{none_some, same_Some}
 use Rattle.xl_table.proofs.WriteBack.{is_of-true}
-use Rattle.xl_table.specs.Flat.{with_what}
 use Rattle.xl_table.specs.Held.{is_cache, is_of}
 use Rattle.xl_table.specs.Relock.{granted_claims}
 use Rattle.xl_core.proofs.DeedLaws.{deed_good, deed_makes}

@@ -8,7 +8,6 @@ use Rattle.std.proofs.lemmas.Map.Keys.{IsDistinct-head, IsDistinct-tail}
 use Rattle.xl_base.proofs.Members.{all_in}
 use Rattle.xl_base.specs.Lists.{IsIn}
 use Rattle.xl_base.specs.declared.journal.Exports.{Exports}
-use Rattle.xl_base.specs.declared.name.Owner.TheVariants as owners
 use Rattle.xl_base.specs.declared.name.Party.{Party}
 use Rattle.xl_matrix.specs.declared.claim.Claim.{Claim}
 use Rattle.xl_matrix.specs.declared.claim.Rwd.{Rwd}
@@ -23,11 +22,10 @@ use Rattle.xl_smb.specs.declared.fault.SmbBad.{SmbBad}
 use Rattle.xl_smb.specs.declared.file.FileId.{FileId}
 use Rattle.xl_smb.specs.declared.head.SmbHead.{SmbHead}
 use Rattle.xl_smb_state.proofs.LeaseLaws.{with_keeps}
-use Rattle.xl_smb_state.proofs.RowLaws.{equal_from, equal_self, lookup_removed, none_some, same_Some, unequal_both}
+use Rattle.xl_smb_state.proofs.RowLaws.{equal_from, lookup_removed, none_some, same_Some, unequal_both}
 use Rattle.xl_smb_state.specs.Links.{AreDistinct, most_connections}
-use Rattle.xl_smb_state.specs.State.{Lists, client_of, closed, connection_added, connection_changed, connection_of, covers, covers_holder, creates_under, made_in, makes_open, makes_under, open_of, opens_under, session_added, tree_added, tree_dropped, waiting_added, with_open, keys_where}
+use Rattle.xl_smb_state.specs.State.{Lists, client_of, closed, connection_added, connection_changed, connection_of, covers, covers_holder, creates_under, made_in, makes_open, makes_under, open_of, opens_under, tree_dropped, waiting_added}
 use Rattle.xl_smb_state.specs.declared.row.Open.{Open}
-use Rattle.xl_smb_state.specs.declared.row.Place.{Place}
 use Rattle.xl_smb_state.specs.declared.row.Request.{Request}
 use Rattle.xl_smb_state.specs.declared.row.Request.TheVariants as request
 use Rattle.xl_smb_state.specs.declared.row.Scope.{Scope}
@@ -40,37 +38,35 @@ use Rattle.xl_core.proofs.WayAsks.{ask_shared}
 use Rattle.xl_core.specs.Decide.{ask}
 use Rattle.xl_core.specs.Deeds.{Acks, Advances, AreFit, Asks, Cancels, Closes, Deed, Draws, Ends, EndsGrace, Expires, FailsStore, GivesBack, Lapses, Renews, Serves, Weakens, all_done, done}
 use Rattle.xl_core.specs.Good.{IsGood}
-use Rattle.xl_core.specs.Places.{ShareOf, held_at, share_held}
+use Rattle.xl_core.specs.Places.{share_held}
 use Rattle.xl_core.specs.State.{CoreState, drawn}
 use Rattle.xl_core.specs.declared.ask.Answer.{Answer}
 use Rattle.xl_core.specs.declared.ask.Answer.TheVariants as answers
 use Rattle.xl_core.specs.declared.ask.Ask.{Ask}
-use Rattle.xl_core.specs.declared.ask.Effect.{Effect}
 use Rattle.xl_plan.specs.Plans.{AllAt}
 use Rattle.xl_smb_locks.proofs.FitLaws.{party_fits}
 use Rattle.xl_smb_locks.proofs.UnlockLaws.{unlocks_are}
-use Rattle.xl_smb_locks.specs.Locks.{lock_told, unlocks}
+use Rattle.xl_smb_locks.specs.Locks.{lock_told}
 use Rattle.xl_smb_locks.specs.declared.locking.Locking.{Locking}
 use Rattle.xl_smb_locks.specs.declared.locking.Locking.TheVariants as locking
 use Rattle.xl_smb_locks.specs.declared.status.SmbStatus.{SmbStatus}
 use Rattle.xl_smb_locks.specs.declared.status.SmbStatus.TheVariants as status
 use Rattle.xl_front_smb.specs.Checks.{file_number, is_fresh, is_open_on, negotiated_by, session_named}
-use Rattle.xl_front_smb.specs.Ending.{all_closed, all_dismissed, ends, leavers_under, numbers_under, party_going, session_gone, smb_end, smb_end_deeds}
+use Rattle.xl_front_smb.specs.Ending.{all_closed, ends, leavers_under, numbers_under, session_gone, smb_end, smb_end_deeds}
 use Rattle.xl_front_smb.specs.Files.{access_of, close, close_open, deny_of, open_ask}
 use Rattle.xl_front_smb.specs.FrontSmb.{head_heard, plan_for, smb_step, stepped}
 use Rattle.xl_front_smb.specs.Laws.{rows_but}
 use Rattle.xl_front_smb.specs.Locks.{cancel, cancel_named, lock, request_named}
-use Rattle.xl_front_smb.specs.Plans.{Does, Fails, Locks, Opens, Plan, carried, deeds_of, has_room_to_wait, lists_by, opened_lists, told_as, with_waiting}
+use Rattle.xl_front_smb.specs.Plans.{Does, Fails, Locks, Opens, Plan, carried, deeds_of, has_room_to_wait, lists_by, opened_lists, with_waiting}
 use Rattle.xl_front_smb.specs.Requests.{commanded, planned, read_as, requested}
 use Rattle.xl_front_smb.specs.Sessions.{connect, connect_as, disconnect, has_room_for_session, has_room_for_tree, logoff, negotiate, offers, session_setup, set_up_as, tree_connect, tree_disconnect}
 use Rattle.xl_front_smb.specs.State.{FrontSmb, smb_begin}
 use Rattle.xl_front_smb.specs.Texts.{is_share}
-use Rattle.xl_front_smb.specs.declared.told.Told.{Told as Answered}
 use Rattle.xl_front_smb.specs.declared.told.Told.TheVariants as told
 use Rattle.xl_front_smb.proofs.EndLaws.{IsFound, dismissed_keeps, numbers_going}
 use Rattle.xl_front_smb.proofs.GoneLaws.{end_opens, off_opens, opens_out}
 use Rattle.xl_smb_laws.specs.TiedRows.{HoldsShare, SparesShare}
-use Rattle.xl_smb_laws.specs.WaitingRequests.{AreAwaited, IsAwaited, IsUnder, MayStand}
+use Rattle.xl_smb_laws.specs.WaitingRequests.{AreAwaited, IsAwaited, IsUnder}
 use Rattle.xl_smb_laws.proofs.AwaitedRequestLaws.{numbers_in}
 use Rattle.xl_smb_laws.proofs.CancelLaws.{found_once}
 use Rattle.xl_smb_laws.proofs.PlanWalks.{by_open, walk_acknowledge, walk_client, walk_created, walk_if, walk_lock, walk_refused, walk_session, walk_tree}
