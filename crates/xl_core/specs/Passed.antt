@@ -1,7 +1,8 @@
 -- How far the queue of a file was gone through: who stands in front of a turn that frees nobody there is held up behind it too.
-use Rattle.std.specs.Prelude.{◌≡◌, ℕ, Bool, true, false, not, ◌&&◌, ◌||◌, ◌==◌, List, [], ◌∷◌, length, take, is_some, find}
+use Rattle.std.specs.Prelude.{◌≡◌, ℕ, Bool, true, false, not, ◌&&◌, ◌||◌, ◌==◌, if◌then◌else◌, List, [], ◌∷◌, length, take, is_some, find}
 use Rattle.std.specs.List.{AllByRecursion, list_all, list_any}
 use Rattle.xl_matrix.specs.Owners.{posix}
+use Rattle.xl_matrix.specs.declared.claim.CacheKind.{CacheKind}
 use Rattle.xl_matrix.specs.declared.claim.Claim.{Claim}
 use Rattle.xl_matrix.specs.declared.claim.Extent.TheVariants.{Bytes, Empty}
 use Rattle.xl_matrix.specs.declared.claim.What.{What}
@@ -14,6 +15,7 @@ use Rattle.xl_wait.specs.declared.waiter.Waiter.{Waiter}
 use Rattle.xl_core.specs.State.{CoreState}
 use Rattle.xl_core.specs.Good.{holds_up, of_first}
 use Rattle.xl_core.specs.Judge.{all_granted}
+use Rattle.xl_core.specs.declared.ask.Effect.{Effect}
 use Rattle.xl_core.specs.declared.passed.Passed.{Passed}
 use Rattle.xl_core.specs.declared.settling.Called.{Called}
 
@@ -47,6 +49,24 @@ replaces_none c cs = replaces_none_by c c.what cs
 abbrev pub replace_none : List Claim → List Claim → Bool
 replace_none (c ∷ []) cs = replaces_none c cs
 replace_none asked cs = list_all is_element asked
+
+-- how many of those who wait on the file are known to be held up: those who were passed there, while it has no cache
+abbrev pub known_on : Passed → ℕ → List Claim → ℕ
+known_on p file cs = if (p.file == file) && not (has_cache file cs) then p.count else 0
+
+-- no cache is wished for
+abbrev pub wishes_none : List CacheKind → Bool
+wishes_none [] = true
+wishes_none (kind ∷ kinds) = false
+
+-- a grant to who is called is seen to free nobody who waits on the file
+abbrev pub is_seen_free : Called → ℕ → List Claim → Bool
+is_seen_free called file cs = (wishes_none called.wish && not (has_cache file cs)) && replace_none called.asked cs
+
+-- those who were passed before who is called, as far as its turn is seen to free none of them and began no break
+abbrev pub passed_then : Passed → Bool → List Effect → Passed
+passed_then front true [] = front
+passed_then front frees_nobody begun = record { file = 0; count = 0 }
 
 -- a grant to who is called frees nobody who waits on the file: no cache is there, none is wished for, and whatever is held stays
 pub record FreesNobody (called : Called) (file : ℕ) (s : CoreState) : Type 0 where

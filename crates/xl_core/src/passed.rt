@@ -3,7 +3,7 @@ ghost use Rattle.std.specs.Prelude.{◌≡◌, ◌<◌, [], true, take, IfOk};
 ghost use Rattle.std.specs.List.{AllByRecursion, list_all};
 ghost use Rattle.xl_wait.specs.Waiting.{waiting_on};
 ghost use Rattle.xl_core.specs.Good.{holds_up, IsGood};
-ghost use Rattle.xl_core.specs.Passed.{is_element, replaces_none, replace_none, ArePassed, FreesNobody};
+ghost use Rattle.xl_core.specs.Passed.{is_element, replaces_none, replace_none, known_on, is_seen_free, passed_then, ArePassed, FreesNobody};
 ghost use Rattle.xl_core.specs.Whole.{state_of};
 
 use crate::ask::Effect;
@@ -28,7 +28,8 @@ pub(crate) const NOBODY: Passed = Passed { file: 0, count: 0 };
 #[tactic(auto, using(crate::proofs::PassedLaws::none_up))]
 pub(crate) fn known_on(parts: &Parts, file: u32, passed: Passed) -> usize
     requires { ArePassed passed (state_of parts.now) }
-    ensures { AllByRecursion (λ w. holds_up [] (state_of parts.now) w w.asked ≡ true) (take result (waiting_on file parts.now.queue)) }
+    ensures exact { result ≡ known_on passed file parts.now.table }
+    ensures up { AllByRecursion (λ w. holds_up [] (state_of parts.now) w w.asked ≡ true) (take result (waiting_on file parts.now.queue)) }
 {
     if passed.file != file {
         return 0;
@@ -90,7 +91,8 @@ pub(crate) fn frees_nobody(
     file: u32,
 ) -> Result<bool, AllocError>
     requires { IsGood (state_of parts.now) }
-    ensures { IfOk result (λ b. b ≡ true → FreesNobody called.now file (state_of parts.now)) }
+    ensures exact { IfOk result (λ b. b ≡ is_seen_free called.now file parts.now.table) }
+    ensures free { IfOk result (λ b. b ≡ true → FreesNobody called.now file (state_of parts.now)) }
 {
     if !called.wish.is_empty() {
         return Ok(false);
@@ -104,11 +106,11 @@ pub(crate) fn frees_nobody(
 
 /// Those who were passed before the one who is called, if its turn frees none of them and began no break.
 pub(crate) fn passed_then(front: Passed, frees_nobody: bool, begun: &[Effect]) -> Passed
-    ensures { 0 < result.count → (result ≡ front) × (frees_nobody ≡ true) × (begun.now ≡ []) }
+    ensures exact { result ≡ passed_then front frees_nobody begun.now }
+    ensures seen { 0 < result.count → (result ≡ front) × (frees_nobody ≡ true) × (begun.now ≡ []) }
 {
-    if frees_nobody && begun.is_empty() {
-        front
-    } else {
-        NOBODY
+    match begun {
+        [] if frees_nobody => front,
+        _ => NOBODY,
     }
 }

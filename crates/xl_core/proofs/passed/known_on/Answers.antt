@@ -3,5 +3,5 @@ use Rattle.xl_core.specs.Whole.{state_of}
 use Rattle.xl_core.proofs.PassedLaws.{passed_up}
 use Rattle.xl_core.proofs.passed.known_on.Goals as goal
 
-pub returns : goal.returns
-returns c = passed_up c.args.passed (state_of c.args.parts.now) c.args.file c.if-passed-file.false (sym c.has_cache.ensures ∙ c.if-has_cache.false) c.requires
+pub returns-clause-up : goal.returns-clause-up
+returns-clause-up c = passed_up c.args.passed (state_of c.args.parts.now) c.args.file c.if-passed-file.false (sym c.has_cache.ensures ∙ c.if-has_cache.false) c.requires

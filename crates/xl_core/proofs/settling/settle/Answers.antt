@@ -72,10 +72,10 @@ returns-clause-keeper g c =
 pub returns-clause-before : goal.returns-clause-before
 returns-clause-before g c = λ some.
     let s = state_of c.args.parts.now in
-    let kept = c.passed_then-stay.ensures some in
+    let kept = c.passed_then-stay.ensures.seen some in
     let found = sym c.in_ok-called.ensures.called ∙ ap (λ (r : Option (Called × Passed)). option_map (λ x. x.0) r) c.in-Some.is in
     subst (λ (o : Option Called). IfSome o (λ called. FreesNobody called c.passed_then-stay.result.file s × StandBefore called c.passed_then-stay.result s × ((earlier : List Waiter) → (made_way earlier called.plea called.asked s).0 ≡ []))) (sym found) (
-      subst (λ (p : Passed). FreesNobody c.in-Some.called p.file s) (sym kept.0) (c.in_ok-frees_nobody.ensures kept.1),
+      subst (λ (p : Passed). FreesNobody c.in-Some.called p.file s) (sym kept.0) (c.in_ok-frees_nobody.ensures.free kept.1),
       subst (λ (p : Passed). StandBefore c.in-Some.called p s) (sym kept.0) (subst (λ (r : Option (Called × Passed)). IfSome r (λ x. StandBefore x.0 x.1 s)) c.in-Some.is c.in_ok-called.ensures.before),
       λ earlier. ap (λ (way : List Effect × CoreState). way.0) (ap (λ (cs : List Claim). made_way earlier c.in-Some.called.plea cs s) (sym c.as_slice.ensures) ∙ c.in_ok-begun.ensures.way earlier) ∙ sym c.as_slice-2.ensures ∙ kept.2,
     )
