@@ -476,7 +476,7 @@ impl<K: Keeper> House<K> {
     ///   so; those of a LOCK and a CREATE of SMB are of the open and on the file that they name;
     /// - owed: a grant that its client refuses is given up;
     /// - meant: what the reply to a request of NLM, or to a LOCK, CREATE or CLOSE of SMB, says is done is done, and the stateids that a
-    ///   reply of NFSv4 tells name what is there;
+    ///   reply of NFSv4 tells name what is there, but for that of a lock owner's first LOCK under an open;
     /// - caused: the deeds are those that the event may cause;
     /// - replied: each call of ONC RPC has one reply, on its own connection and with its own xid;
     /// - told: what is sent follows from the deeds and their answers;

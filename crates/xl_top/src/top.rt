@@ -602,7 +602,7 @@ pub fn run<
     // and a reclaim exactly if it says so. One of a LOCK or a CREATE of SMB is of the open and on the file that it names.
     // owed: if a client refuses a lock whose grant it was sent, just that is unlocked.
     // meant: what the reply to a request of NLM, or to a LOCK, CREATE or CLOSE of SMB, says is done is done; and the stateids that a
-    // reply of NFSv4 tells name what is there once its operation is done.
+    // reply of NFSv4 tells name what is there once its operation is done, but for that of a lock owner's first LOCK under an open.
     // caused: an event does only what such an event may do, and only for the clients that it names.
     // replied: each call of ONC RPC that a record is has one reply, on its own connection and with its own xid.
     // told: what is sent follows from what the event did and what it was answered.
