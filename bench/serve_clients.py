@@ -156,13 +156,13 @@ def check_call_back(program, folder):
 
 
 def epoch_in(path):
-    """The epoch of a record file, 0 without one: the mark XLR1, the epoch, the count of names, and the names (docs/LIMITS.md)."""
+    """The epoch of a record file, 0 without one: the mark XLR2, the epoch, the count of names, and the names (docs/LIMITS.md)."""
     if not os.path.exists(path):
         return 0
     with open(path, "rb") as file:
         content = file.read()
     mark, epoch, count = struct.unpack(">4sII", content[:12])
-    if mark != b"XLR1" or len(content) != 12 or count != 0:
+    if mark != b"XLR2" or len(content) != 12 or count != 0:
         sys.exit(f"the record file has {content!r}")
     return epoch
 

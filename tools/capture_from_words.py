@@ -10,7 +10,7 @@ reads the file WORDS, or standard input if none is named, and writes a capture (
     file NAME                     exports a file; one that a call names is exported anyway, in order of appearance
     address CALLER ADDRESS        where the caller is called back
     epoch N                       the epoch of the record before the start, which else is 0
-    recorded nfs|nlm NAME         a client that this record names
+    recorded nfs|nlm NAME [MARK]  a client that this record names, and its verifier or its host's state
     open [NAME] [smb]             opens a connection, by which all goes that follows; a call before any opens one
     use NAME                      goes on by that connection
     end [NAME]                    ends the connection, or the one of that name
@@ -180,10 +180,10 @@ class Maker:
         self.out.epoch(words.number_of(Usage("epoch", "N").read(given)[0][0], 2**32 - 1))
 
     def do_recorded(self, given):
-        protocol, name = Usage("recorded", "nfs|nlm NAME").read(given)[0]
+        protocol, name, *marks = Usage("recorded", "nfs|nlm NAME [MARK]").read(given)[0]
         if protocol not in RECORDED:
             raise WordError(f"{protocol} is none of {', '.join(RECORDED)}")
-        self.out.recorded(protocol, words.bytes_of(name))
+        self.out.recorded(protocol, words.bytes_of(name), *(words.fixed_of(mark, RECORDED[protocol]) for mark in marks))
 
     def do_restart(self, given):
         Usage("restart", "").read(given)

@@ -95,7 +95,9 @@ CAPTURES = [
     ("open\nO rpc\nB 1 00\n", ["O rpc", "O rpc", "B 1 00"]),
     ("open smb\nB 0 00\n", ["O smb", "B 0 00"]),
     ("recorded nlm 0x00ff\nopen\nepoch 7\nrecorded nfs -", ["N nlm 00ff", "K 7", "N nfs -", "O rpc"]),
+    ("recorded nlm a 3\nrecorded nfs c 7\nrecorded nlm b 0xffff0000", ["N nlm 61 00000003", "N nfs 63 0000000000000007", "N nlm 62 ffff0000"]),
     ("K 4294967295\nN nfs 63\nT 5 !0", ["K 4294967295", "N nfs 63", "T 5 !0"]),
+    ("N nlm 61 00000003\nN nfs - 0000000000000007", ["N nlm 61 00000003", "N nfs - 0000000000000007"]),
     ("open a\nopen b\nrestart\nopen b\nend b", ["O rpc", "O rpc", "R", "O rpc", "E 3"]),
     ("open\nR !0\ncall 100003 4 0 xid=1", ["O rpc", "R !0", "O rpc", "B 2 80000028" + "00000001 00000000 00000002 000186a3 00000004 00000000".replace(" ", "") + "0" * 32]),
     ("open\nend\nopen !0\nrestart !9999\nR !1", ["O rpc", "E 0", "O rpc !0", "R !9999", "R !1"]),
@@ -112,6 +114,7 @@ REFUSED = [
     "open smb\nsmb create a.txt r lease=a_key_of_17_bytes", "xid", "xid 4294967296", "message x",
     "compound open_previous 1 1.1 o r delegation=none", "restart now", "restart\nuse b", "epoch", "epoch 4294967296", "recorded smb k", "recorded nfs", "address a 1.2 !0", "epoch 1 !0",
     "open !x", "null !10000", "R !10000", "T 1 !", "K 4294967296", "N smb 61", "N nfs 6", "F a !0", "!0",
+    "recorded nlm a 4294967296", "recorded nfs c 0x00000003", "recorded nlm a 3 4", "N nlm 61 0000000000000003", "N nfs 63 00000003", "N nlm 61 -",
 ]  # fmt: skip
 
 # Each call is said again as it was written.

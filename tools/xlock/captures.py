@@ -8,13 +8,13 @@ from xlock.words import Files
 MOST_OPEN = 64
 # The lines, by how many words stand behind the first.
 LINES = {
-    "F": (1,), "H": (2,), "L": (3,), "K": (1,), "N": (2,),
+    "F": (1,), "H": (2,), "L": (3,), "K": (1,), "N": (2, 3),
     "O": (1,), "B": (2,), "E": (1,), "C": (1, 2), "T": (1,), "R": (0,),
 }  # fmt: skip
 HEADERS = ("F", "H", "L", "K", "N")
 MOST_STORES = 9999
-# Whose clients the record names.
-RECORDED = ("nfs", "nlm")
+# Whose clients the record names, and how many bytes their marks have.
+RECORDED = {"nfs": 8, "nlm": 4}
 CUTTERS = {"rpc": RecordCutter, "smb": FrameCutter}
 
 
@@ -93,10 +93,12 @@ class Capture:
         if int(epoch) >= 2**32:
             raise CaptureError("an epoch is below 2^32")
 
-    def _line_n(self, protocol, name):
+    def _line_n(self, protocol, name, mark=None):
         if protocol not in RECORDED:
             raise CaptureError(f"no client of {protocol} is recorded")
         _hex(name)
+        if mark is not None and len(_hex(mark)) != RECORDED[protocol]:
+            raise CaptureError(f"a mark of {protocol} has {RECORDED[protocol]} bytes")
 
     def _line_o(self, kind):
         place = len(self.events)
@@ -207,9 +209,9 @@ class Writer:
         """The epoch of the record before the start."""
         self.line(f"K {epoch}")
 
-    def recorded(self, protocol, name):
-        """A client that the record before the start names."""
-        self.line(f"N {protocol} {hex_word(name)}")
+    def recorded(self, protocol, name, mark=b""):
+        """A client that the record before the start names, and its mark if it has one."""
+        self.line(f"N {protocol} {hex_word(name)} {mark.hex()}".rstrip())
 
     def address(self, caller, address):
         if caller not in self.capture.addresses:

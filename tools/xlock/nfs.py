@@ -118,10 +118,7 @@ def _lock(given, flags, locker):
 
 
 def _verifier(word):
-    data = bytes_of(word) if word.startswith("0x") else u64(words.number_of(word))
-    if len(data) != 8:
-        raise WordError(f"{word} isn't eight bytes")
-    return data
+    return words.fixed_of(word, 8)
 
 
 def _set_client_id_bytes(given, options):

@@ -37,6 +37,14 @@ def number_of(word, most=2**64 - 1, least=0):
     return value
 
 
+def fixed_of(word, count):
+    """So many bytes of a word: `0x..` those in hex, else a number, big-endian."""
+    data = bytes_of(word) if word.startswith("0x") else number_of(word, 2 ** (8 * count) - 1).to_bytes(count, "big")
+    if len(data) != count:
+        raise WordError(f"{word} isn't {count} bytes")
+    return data
+
+
 def length_of(word):
     """A length; `end` reaches the last byte there is, which protocols spell as 0 or as all ones."""
     return None if word == "end" else number_of(word)

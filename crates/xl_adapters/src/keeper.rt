@@ -6,8 +6,8 @@ use std::fs::{File, Files, OpenFile, OpenOptions};
 use std::io::{ErrorKind, Read, Write};
 use std::{fs, io};
 use xl_base::{
-    Keeper, LoadOutcome, MOST_RECORD_BYTES, Record, RecordBad, StoreOutcome, read_record,
-    record_bytes, record_length,
+    Keeper, LoadOutcome, MOST_RECORD_BYTES, Record, RecordBad, StoreOutcome, has_file, read_record,
+    record_bytes,
 };
 
 /// A record in a file. A store writes a file beside it, has the system write that to the disk, and gives it the file's name in one step;
@@ -92,7 +92,7 @@ impl<R: Files> FileKeeper<R> {
 
     /// Stores the record, but counts no fault. A record without a file, since it is too long, is not stored.
     fn put(&self, alloc: Global, stable: &Record) -> StoreOutcome {
-        if record_length(stable) > MOST_RECORD_BYTES as u64 {
+        if !has_file(stable) {
             return StoreOutcome::Failed;
         }
         let Ok(bytes) = record_bytes(alloc, stable) else {

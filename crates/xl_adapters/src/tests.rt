@@ -189,6 +189,24 @@ fn epoch_of(outcome: LoadOutcome) -> u64 {
     }
 }
 
+/// A record file of the older form is loaded, and is stored as one of the newer.
+#[test]
+fn an_older_record_is_taken_over(rt: HostRuntime) -> Result<(), Fail> {
+    let alloc = rt.alloc();
+    fs::write(&rt, "older", b"XLR1\0\0\0\x02\0\0\0\x01\x01\0\x01c")?;
+    let mut keeper = FileKeeper::new(alloc, &rt, "older")?;
+    let LoadOutcome::Loaded(stable) = keeper.load(alloc) else {
+        return Err(Fail::new("no record"));
+    };
+    assert!(rt; matches!(keeper.store(alloc, &stable), StoreOutcome::Stored));
+    let written = fs::read(&rt, "older")?;
+    assert_eq!(rt;
+        written.as_slice(),
+        &b"XLR2\0\0\0\x02\0\0\0\x01\x01\0\x01c\0"[..]
+    );
+    Ok(())
+}
+
 /// A record that was stored is loaded again, by another keeper too; a file that is no record isn't.
 #[test]
 fn a_record_is_kept(rt: HostRuntime) -> Result<(), Fail> {

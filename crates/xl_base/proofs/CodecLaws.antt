@@ -7,7 +7,7 @@ use Rattle.std.proofs.lemmas.Bool.Decides.{nat_tests}
 use Rattle.std.proofs.lemmas.List.{take_at, drop_at, take-append-drop, length-append, length-take, get_or-drop, get_or-take, get_or_past}
 use Rattle.std.proofs.lemmas.Nat.{be_bytes_4, be_bytes_8, from_be_bytes-to_be_bytes_4, from_be_bytes-to_be_bytes_8}
 use Rattle.xl_base.specs.Results.{Gives}
-use Rattle.xl_base.specs.Codec.{big_endian, ◌>>=◌, pair_at, as_at, guard_at, exactly_at, tagged_at, if_at, choose_at, nothing_at, never_at, fixed_at, big_endian_at, IsBytes, Takes, IsCodec, Advances}
+use Rattle.xl_base.specs.Codec.{big_endian, ◌>>=◌, pair_at, as_at, guard_at, exactly_at, tagged_at, if_at, nothing_at, never_at, fixed_at, big_endian_at, IsBytes, Takes, IsCodec, Advances}
 
 -- ---- bytes
 

@@ -39,9 +39,12 @@ pub use lane_end::LaneEnd;
 pub use limits::{MOST_CONNECTIONS, MOST_MESSAGE_BYTES, MOST_OPENS, MOST_OWNERS, MOST_WAITERS};
 pub use memory_lane::{MemoryLane, Part, Peer};
 pub use name::{Owner, Party, Protocol};
-pub use record_file::{MOST_RECORD_BYTES, RecordBad, read_record, record_bytes, record_length};
+pub use record_file::{
+    MOST_RECORD_BYTES, RecordBad, RecordForm, has_file, length_with, read_record, record_bytes,
+    record_length,
+};
 pub use sequence::Sequence;
 pub use serial::Serial;
 pub use sink::{MemorySink, Sink, WriteOutcome};
 pub use source::{MemorySource, ReadOutcome, Source};
-pub use stable::{Record, RecordNameError, Recorded};
+pub use stable::{Mark, Record, RecordNameError, Recorded, agree};

@@ -1,5 +1,5 @@
 //! Lists that contracts compare by their elements.
-ghost use Rattle.std.specs.Prelude.{◌≡◌, List, [], ◌∷◌, ◌++◌, length, bytes_eq, OnOk, OnErr, IfOk, IfErr, IsTrue, ◌↔◌};
+ghost use Rattle.std.specs.Prelude.{◌≡◌, ◌<◌, List, [], ◌∷◌, ◌++◌, length, set, bytes_eq, OnOk, OnErr, IfOk, IfErr, IsTrue, ◌↔◌};
 ghost use Rattle.std.proofs.Common.{rules};
 ghost use Rattle.std.specs.Hash as fed;
 ghost use Rattle.std.specs.Cmp.{on_equiv, on_per, partial_equiv_from_equiv};
@@ -82,6 +82,16 @@ impl<T> Sequence<T> {
         ensures returned { IfErr result (λ e. e.value ≡ item) }
     {
         self.items.push(item)
+    }
+}
+
+impl<T: Drop> Sequence<T> {
+    /// Puts an element in the place of another.
+    pub fn set(&mut self, place: usize, item: T)
+        requires { place < length self.old }
+        ensures { self.new ≡ set self.old place item }
+    {
+        self.items[place] = item;
     }
 }
 

@@ -1,5 +1,5 @@
 -- The header lines that are written of a head are read.
-use Rattle.std.proofs.Common.{◌≡◌, ℕ, ◌+◌, ◌<◌, ◌≤◌, ◌^◌, Bool, true, false, ltb, leb, ◌&&◌, ◌||◌, not, inl, inr, List, [], ◌∷◌, ◌++◌, length, Some, None, refl, sym, ap, subst, ◌∙◌, append_assoc, arith}
+use Rattle.std.proofs.Common.{◌≡◌, ℕ, ◌+◌, ◌<◌, ◌≤◌, ◌^◌, Bool, true, false, ltb, leb, ◌&&◌, ◌||◌, not, inl, inr, List, [], ◌∷◌, ◌++◌, length, Option, Some, None, refl, sym, ap, subst, ◌∙◌, append_assoc, arith}
 use Rattle.std.specs.Prelude.{codes, if◌then◌else◌}
 use Rattle.std.specs.Option.{option_and_then}
 use Rattle.std.specs.Fmt.{decimal}
@@ -13,15 +13,17 @@ use Rattle.xl_base.specs.declared.journal.Exports.{Exports}
 use Rattle.xl_base.specs.declared.journal.Head.{Head}
 use Rattle.xl_base.specs.declared.name.Protocol.{Protocol}
 use Rattle.xl_base.specs.declared.name.Protocol.TheVariants.{Nlm, Nfs, Smb}
+use Rattle.xl_base.specs.declared.stable.Mark.{Mark}
+use Rattle.xl_base.specs.declared.stable.Mark.TheVariants.{Verifier, State}
 use Rattle.xl_base.specs.declared.stable.Recorded.{Recorded}
-use Rattle.xl_base.specs.Stable.{Stable, AreRecordable, same_name, is_recordable, is_recorded}
+use Rattle.xl_base.specs.Stable.{Stable, AreRecordable, IsWhole, mark_bytes, same_name, is_mark_of, is_reclaiming, is_recordable, is_recorded}
 use Rattle.xl_base.proofs.StableLaws.{same_name-sym}
 use Rattle.xl_names.specs.Texts.{hex_word}
 use Rattle.xl_capture.specs.Addresses.{has_address}
-use Rattle.xl_capture.specs.Again.{AreNamed, AreAddressed, IsTime, IsHeaded}
-use Rattle.xl_capture.specs.Capture.{most_files, is_name_byte, is_file_name, is_graphic, is_address, is_named, no_record, no_lines, no_reading, bytes_of, time_of, takes_file, takes_address, takes_client, with_file, with_host, with_address, with_lasting, with_epoch, with_count, with_named, with_client, protocol_of, with_words}
+use Rattle.xl_capture.specs.Again.{AreNamed, AreAddressed, IsTime, IsMarkBytes, IsHeaded}
+use Rattle.xl_capture.specs.Capture.{most_files, is_name_byte, is_file_name, is_graphic, is_address, is_named, no_record, no_lines, no_reading, bytes_of, time_of, takes_file, takes_address, takes_client, with_file, with_host, with_address, with_lasting, with_epoch, with_count, with_named, with_marked, mark_said, with_client, protocol_of, with_words}
 use Rattle.xl_capture.specs.declared.capture.Reading.{Reading}
-use Rattle.xl_capture.specs.Written.{file_lines, address_lines, times_line, epoch_line, protocol_word, name_lines, header_lines}
+use Rattle.xl_capture.specs.Written.{file_lines, address_lines, times_line, epoch_line, protocol_word, mark_word, name_lines, header_lines}
 use Rattle.xl_capture.proofs.WordLaws.{AreShown, line_of, Reads, reads_none, reads_both, reads_line, two_words, three_words, bytes_read, word_shown, decimal_shown, time_read, epoch_read}
 
 -- what is known behind these files, behind these addresses, behind all that is exported, and behind these names
@@ -167,36 +169,78 @@ recordable_at : (before : List Recorded) (n : Recorded) (rest : List Recorded) �
 recordable_at [] n rest ok = ok.0
 recordable_at (b ∷ bs) n rest ok = recordable_at bs n rest ok.2
 
-protocol_read : (p : Protocol) (name : List ℕ) → is_recordable (record { protocol = p; name = name }) ≡ true → protocol_of (protocol_word p) ≡ Some p
-protocol_read Nlm name able = refl
-protocol_read Nfs name able = refl
-protocol_read Smb name able = absurd cc
+protocol_read : (p : Protocol) → is_reclaiming p ≡ true → protocol_of (protocol_word p) ≡ Some p
+protocol_read Nlm able = refl
+protocol_read Nfs able = refl
+protocol_read Smb able = absurd cc
 
 protocol_shown : (p : Protocol) → AreShown (protocol_word p)
 protocol_shown Nlm = (omega arith, (omega arith, (omega arith, tt)))
 protocol_shown Nfs = (omega arith, (omega arith, (omega arith, tt)))
 protocol_shown Smb = (omega arith, (omega arith, (omega arith, tt)))
 
-name_taken : (e : Exports) (epoch : ℕ) (before : List Recorded) (n : Recorded) → IsBytes n.name → is_recordable n ≡ true → is_recorded n before ≡ false
-    → with_words (with_names e epoch before) (codes "N" ∷ protocol_word n.protocol ∷ hex_word n.name ∷ []) ≡ Some (with_names e epoch (before ++ n ∷ []))
-unfolding with_words with_named with_client
-name_taken e epoch before n bytes able new =
-    ap (option_and_then (λ protocol. option_and_then (λ name. with_client (with_names e epoch before) protocol name) (bytes_of (hex_word n.name)))) (protocol_read n.protocol n.name able)
-    ∙ ap (option_and_then (λ name. with_client (with_names e epoch before) n.protocol name)) (bytes_read n.name bytes)
-    ∙ passed (takes_client (with_names e epoch before) n) _ None (ap not new)
+abbrev client_of : Protocol → List ℕ → Option Mark → Recorded
+client_of p name mark = record { protocol = p; name = name; mark = mark }
 
-names_read : (e : Exports) (epoch : ℕ) (before rest : List Recorded) → AreRecordable (before ++ rest) → AllByRecursion (λ n. IsBytes n.name) rest → Reads (with_names e epoch before) (name_lines rest) (with_names e epoch (before ++ rest))
-names_read e epoch before [] ok bytes = subst (λ (held : List Recorded). Reads (with_names e epoch before) [] (with_names e epoch held)) (sym (append-nil before)) (reads_none (with_names e epoch before))
-names_read e epoch before (n ∷ rest) ok bytes =
+-- the words behind those of the name
+abbrev mark_words : Option Mark → List (List ℕ)
+mark_words None = []
+mark_words (Some mark) = hex_word (mark_bytes mark) ∷ []
+
+-- a mark is read of its bytes
+mark_read : (p : Protocol) (mark : Mark) → is_mark_of p (Some mark) ≡ true → IsWhole (Some mark) → mark_said p (mark_bytes mark) ≡ Some mark
+mark_read Nfs (Verifier bytes) fits whole = rw whole refl
+mark_read Nlm (State bytes) fits whole = rw whole refl
+mark_read Nfs (State bytes) fits whole = absurd cc
+mark_read Nlm (Verifier bytes) fits whole = absurd cc
+mark_read Smb (Verifier bytes) fits whole = absurd cc
+mark_read Smb (State bytes) fits whole = absurd cc
+
+name_taken : (e : Exports) (epoch : ℕ) (before : List Recorded) (p : Protocol) (name : List ℕ) (mark : Option Mark) → IsBytes name → IsWhole mark → IsMarkBytes mark → is_recordable (client_of p name mark) ≡ true → is_recorded (client_of p name mark) before ≡ false
+    → with_words (with_names e epoch before) (codes "N" ∷ protocol_word p ∷ hex_word name ∷ mark_words mark) ≡ Some (with_names e epoch (before ++ client_of p name mark ∷ []))
+unfolding with_words with_named with_marked with_client
+name_taken e epoch before p name None bytes whole kept able new =
+    let reclaims = (and_parts (is_mark_of p None) (is_reclaiming p) able).1 in
+    ap (option_and_then (λ protocol. option_and_then (λ word. with_client (with_names e epoch before) protocol word None) (bytes_of (hex_word name)))) (protocol_read p reclaims)
+    ∙ ap (option_and_then (λ word. with_client (with_names e epoch before) p word None)) (bytes_read name bytes)
+    ∙ passed (takes_client (with_names e epoch before) (client_of p name None)) _ None (ap not new)
+name_taken e epoch before p name (Some mark) bytes whole kept able new =
+    let parts = and_parts (is_mark_of p (Some mark)) (is_reclaiming p) able in
+    ap (option_and_then (λ protocol. option_and_then (λ word. option_and_then (λ said. option_and_then (λ it. with_client (with_names e epoch before) protocol word (Some it)) (mark_said protocol said)) (bytes_of (hex_word (mark_bytes mark)))) (bytes_of (hex_word name)))) (protocol_read p parts.1)
+    ∙ ap (option_and_then (λ word. option_and_then (λ said. option_and_then (λ it. with_client (with_names e epoch before) p word (Some it)) (mark_said p said)) (bytes_of (hex_word (mark_bytes mark))))) (bytes_read name bytes)
+    ∙ ap (option_and_then (λ said. option_and_then (λ it. with_client (with_names e epoch before) p name (Some it)) (mark_said p said))) (bytes_read (mark_bytes mark) kept)
+    ∙ ap (option_and_then (λ it. with_client (with_names e epoch before) p name (Some it))) (mark_read p mark parts.0 whole)
+    ∙ passed (takes_client (with_names e epoch before) (client_of p name (Some mark))) _ None (ap not new)
+
+-- the line of one client
+abbrev line_said : Protocol → List ℕ → Option Mark → List ℕ
+line_said p name mark = codes "N " ++ protocol_word p ++ codes " " ++ hex_word name ++ mark_word mark ++ codes "\n"
+
+name_read : (e : Exports) (epoch : ℕ) (before : List Recorded) (p : Protocol) (name : List ℕ) (mark : Option Mark) → IsBytes name → IsWhole mark → IsMarkBytes mark → is_recordable (client_of p name mark) ≡ true → is_recorded (client_of p name mark) before ≡ false
+    → Reads (with_names e epoch before) (line_said p name mark) (with_names e epoch (before ++ client_of p name mark ∷ []))
+name_read e epoch before p name None bytes whole kept able new =
+    let next = before ++ client_of p name None ∷ [] in
+    let words : List (List ℕ) = protocol_word p ∷ hex_word name ∷ [] in
+    let first = reads_line (with_names e epoch before) (with_names e epoch next) 78 words (omega arith) refl (protocol_shown p, (word_shown name bytes, tt)) (name_taken e epoch before p name None bytes whole kept able new) in
+    let text : line_of (codes "N" ∷ words) ≡ line_said p name None =
+    ap (λ (t : List ℕ). 78 ∷ 32 ∷ t) (sym (two_words (protocol_word p) (hex_word name) (10 ∷ []))) ∙ ap (λ (t : List ℕ). t ++ codes "\n") (sym (append-nil (codes "N " ++ protocol_word p ++ codes " " ++ hex_word name))) in
+    subst (λ (t : List ℕ). Reads (with_names e epoch before) t (with_names e epoch next)) text first
+name_read e epoch before p name (Some mark) bytes whole kept able new =
+    let next = before ++ client_of p name (Some mark) ∷ [] in
+    let words : List (List ℕ) = protocol_word p ∷ hex_word name ∷ hex_word (mark_bytes mark) ∷ [] in
+    let first = reads_line (with_names e epoch before) (with_names e epoch next) 78 words (omega arith) refl (protocol_shown p, (word_shown name bytes, (word_shown (mark_bytes mark) kept, tt))) (name_taken e epoch before p name (Some mark) bytes whole kept able new) in
+    let text : line_of (codes "N" ∷ words) ≡ line_said p name (Some mark) = ap (λ (t : List ℕ). 78 ∷ 32 ∷ t) (sym (three_words (protocol_word p) (hex_word name) (hex_word (mark_bytes mark)) (10 ∷ [])))
+    ∙ ap (λ (t : List ℕ). t ++ codes "\n") (append_assoc (codes "N " ++ protocol_word p ++ codes " " ++ hex_word name) (codes " ") (hex_word (mark_bytes mark))) in
+    subst (λ (t : List ℕ). Reads (with_names e epoch before) t (with_names e epoch next)) text first
+
+names_read : (e : Exports) (epoch : ℕ) (before rest : List Recorded) → AreRecordable (before ++ rest) → AllByRecursion (λ n. IsBytes n.name) rest → AllByRecursion (λ n. IsWhole n.mark × IsMarkBytes n.mark) rest → Reads (with_names e epoch before) (name_lines rest) (with_names e epoch (before ++ rest))
+names_read e epoch before [] ok bytes marks = subst (λ (held : List Recorded). Reads (with_names e epoch before) [] (with_names e epoch held)) (sym (append-nil before)) (reads_none (with_names e epoch before))
+names_read e epoch before (n ∷ rest) ok bytes marks =
     let next = before ++ n ∷ [] in
-    let words : List (List ℕ) = protocol_word n.protocol ∷ hex_word n.name ∷ [] in
-    let able = recordable_at before n rest ok in
-    let first = reads_line (with_names e epoch before) (with_names e epoch next) 78 words (omega arith) refl (protocol_shown n.protocol, (word_shown n.name bytes.0, tt)) (name_taken e epoch before n bytes.0 able (new_behind before n rest ok)) in
-    let more = names_read e epoch next rest (subst AreRecordable (sym (append_assoc before (n ∷ []) rest)) ok) bytes.1 in
-    let text : line_of (codes "N" ∷ words) ≡ codes "N " ++ protocol_word n.protocol ++ codes " " ++ hex_word n.name ++ codes "\n" = ap (λ (t : List ℕ). 78 ∷ 32 ∷ t) (sym (two_words (protocol_word n.protocol) (hex_word n.name) (10 ∷ []))) in
-    let line = subst (λ (t : List ℕ). Reads (with_names e epoch before) t (with_names e epoch next)) text first in
+    let line = name_read e epoch before n.protocol n.name n.mark bytes.0 marks.0.0 marks.0.1 (recordable_at before n rest ok) (new_behind before n rest ok) in
+    let more = names_read e epoch next rest (subst AreRecordable (sym (append_assoc before (n ∷ []) rest)) ok) bytes.1 marks.1 in
     subst (λ (held : List Recorded). Reads (with_names e epoch before) (name_lines (n ∷ rest)) (with_names e epoch held)) (append_assoc before (n ∷ []) rest)
-    (reads_both (with_names e epoch before) (with_names e epoch next) (with_names e epoch (next ++ rest)) (codes "N " ++ protocol_word n.protocol ++ codes " " ++ hex_word n.name ++ codes "\n") (name_lines rest) line more)
+    (reads_both (with_names e epoch before) (with_names e epoch next) (with_names e epoch (next ++ rest)) (line_said n.protocol n.name n.mark) (name_lines rest) line more)
 
 -- ---- the whole
 
@@ -207,7 +251,7 @@ header_read h is =
     let second = addresses_read e.files [] e.addresses is.addresses in
     let third = times_read e is.lease is.grace is.break_time in
     let fourth = epoch_line_read e h.«record».epoch is.epoch in
-    let last = names_read e h.«record».epoch [] h.«record».names is.names is.bytes in
+    let last = names_read e h.«record».epoch [] h.«record».names is.names is.bytes is.marks in
     let to_addresses = reads_both no_reading (with_files e.files) (with_callers e.files e.addresses) (file_lines e.files) (address_lines e.addresses) first second in
     let to_times = reads_both no_reading (with_callers e.files e.addresses) (with_exports e) (file_lines e.files ++ address_lines e.addresses) (times_line e) to_addresses third in
     let to_epoch = reads_both no_reading (with_exports e) (with_names e h.«record».epoch []) (file_lines e.files ++ address_lines e.addresses ++ times_line e) (epoch_line h.«record».epoch) to_times fourth in

@@ -9,9 +9,10 @@ use Rattle.xl_base.specs.declared.event.Event.{Event}
 use Rattle.xl_base.specs.declared.event.Event.TheVariants.{Open, End, Called, Tick, Restart}
 use Rattle.xl_base.specs.declared.event.Kind.{Kind}
 use Rattle.xl_base.specs.declared.name.Protocol.{Protocol}
+use Rattle.xl_base.specs.declared.stable.Mark.{Mark}
 use Rattle.xl_base.specs.declared.stable.Recorded.{Recorded}
 use Rattle.xl_frame.specs.Frames.{Framed}
-use Rattle.xl_capture.specs.Capture.{IsNumbered, words_of, bytes_of, takes_file, with_name, with_file, takes_address, with_caller, with_address, with_host, time_of, with_times, with_lasting, epoch_of, with_count, with_epoch, protocol_of, takes_client, with_recorded, with_client, with_named, all_stores, steps_of, with_events, kind_of, most_connections, with_link, with_opened, with_open, with_stream, with_piece, with_bytes, with_last, with_ended, with_end, with_called, with_reply, with_no_reply, with_tick, with_restart, with_event, said_stores, all_but_last, with_entries, with_words, is_passed_over, with_line, is_last, with_lines}
+use Rattle.xl_capture.specs.Capture.{IsNumbered, words_of, bytes_of, takes_file, with_name, with_file, takes_address, with_caller, with_address, with_host, time_of, with_times, with_lasting, epoch_of, with_count, with_epoch, protocol_of, takes_client, with_recorded, with_client, with_named, mark_said, with_marked, all_stores, steps_of, with_events, kind_of, most_connections, with_link, with_opened, with_open, with_stream, with_piece, with_bytes, with_last, with_ended, with_end, with_called, with_reply, with_no_reply, with_tick, with_restart, with_event, said_stores, all_but_last, with_entries, with_words, is_passed_over, with_line, is_last, with_lines}
 use Rattle.xl_capture.specs.Links.{Link, opened, link_of, without, framed, events_of, still_open, AreDistinct, AreBelow}
 use Rattle.xl_capture.specs.Numbers.{number_of}
 use Rattle.xl_capture.specs.declared.capture.Reading.{Reading}
@@ -200,16 +201,23 @@ epoch_numbered : (r : Reading) (word : List ℕ) → IsNumbered r → IsNumbered
 unfolding with_epoch
 epoch_numbered r word is = then_numbered (λ epoch. with_count r epoch) (epoch_of word) (λ epoch. count_numbered r epoch is)
 
-client_numbered : (r : Reading) (protocol : Protocol) (name : List ℕ) → IsNumbered r → IsNumberedIf (with_client r protocol name)
+client_numbered : (r : Reading) (protocol : Protocol) (name : List ℕ) (mark : Option Mark) → IsNumbered r → IsNumberedIf (with_client r protocol name mark)
 unfolding with_client
-client_numbered r protocol name is =
-    let client : Recorded = record { protocol = protocol; name = name } in
+client_numbered r protocol name mark is =
+    let client : Recorded = record { protocol = protocol; name = name; mark = mark } in
     either_numbered (takes_client r client) (Some (with_recorded r client)) None (record { places = is.places; distinct = is.distinct }) tt
 
 named_numbered : (r : Reading) (word hex : List ℕ) → IsNumbered r → IsNumberedIf (with_named r word hex)
 unfolding with_named
-named_numbered r word hex is = then_numbered (λ protocol. option_and_then (λ name. with_client r protocol name) (bytes_of hex)) (protocol_of word)
-    (λ protocol. then_numbered (λ name. with_client r protocol name) (bytes_of hex) (λ name. client_numbered r protocol name is))
+named_numbered r word hex is = then_numbered (λ protocol. option_and_then (λ name. with_client r protocol name None) (bytes_of hex)) (protocol_of word)
+    (λ protocol. then_numbered (λ name. with_client r protocol name None) (bytes_of hex) (λ name. client_numbered r protocol name None is))
+
+marked_numbered : (r : Reading) (word hex mark : List ℕ) → IsNumbered r → IsNumberedIf (with_marked r word hex mark)
+unfolding with_marked
+marked_numbered r word hex mark is = then_numbered (λ protocol. option_and_then (λ name. option_and_then (λ bytes. option_and_then (λ kept. with_client r protocol name (Some kept)) (mark_said protocol bytes)) (bytes_of mark)) (bytes_of hex)) (protocol_of word)
+    (λ protocol. then_numbered (λ name. option_and_then (λ bytes. option_and_then (λ kept. with_client r protocol name (Some kept)) (mark_said protocol bytes)) (bytes_of mark)) (bytes_of hex)
+    (λ name. then_numbered (λ bytes. option_and_then (λ kept. with_client r protocol name (Some kept)) (mark_said protocol bytes)) (bytes_of mark)
+    (λ bytes. then_numbered (λ kept. with_client r protocol name (Some kept)) (mark_said protocol bytes) (λ kept. client_numbered r protocol name (Some kept) is))))
 
 open_numbered : (r : Reading) (stores : ℕ) (word : List ℕ) → IsNumbered r → IsNumberedIf (with_open r stores word)
 unfolding with_open
@@ -274,7 +282,8 @@ words_numbered r (a ∷ b ∷ d ∷ []) is =
     (either_numbered (bytes_eq a (codes "N")) (with_named r b d) _ (named_numbered r b d is) (entries_numbered r words (said_stores words) is))
 words_numbered r (a ∷ b ∷ d ∷ e ∷ []) is =
     let words : List (List ℕ) = a ∷ b ∷ d ∷ e ∷ [] in
-    either_numbered (bytes_eq a (codes "L")) (with_lasting r b d e) _ (lasting_numbered r b d e is) (entries_numbered r words (said_stores words) is)
+    either_numbered (bytes_eq a (codes "L")) (with_lasting r b d e) _ (lasting_numbered r b d e is)
+    (either_numbered (bytes_eq a (codes "N")) (with_marked r b d e) _ (marked_numbered r b d e is) (entries_numbered r words (said_stores words) is))
 words_numbered r (a ∷ b ∷ d ∷ e ∷ f ∷ more) is = entries_numbered r (a ∷ b ∷ d ∷ e ∷ f ∷ more) (said_stores (a ∷ b ∷ d ∷ e ∷ f ∷ more)) is
 
 line_numbered : (r : Reading) (line : List ℕ) → IsNumbered r → IsNumberedIf (with_line r line)

@@ -4,7 +4,8 @@ use Rattle.std.specs.List.{AllByRecursion}
 use Rattle.xl_base.specs.Codec.{IsBytes}
 use Rattle.xl_base.specs.Limits.{most_connections, most_message_bytes}
 use Rattle.xl_base.specs.Lists.{IsIn}
-use Rattle.xl_base.specs.Stable.{AreRecordable}
+use Rattle.xl_base.specs.Stable.{AreRecordable, IsWhole, mark_bytes}
+use Rattle.xl_base.specs.declared.stable.Mark.{Mark}
 use Rattle.xl_base.specs.declared.event.Event.{Event}
 use Rattle.xl_base.specs.declared.event.Event.TheVariants.{Open, Message, End, Called, Tick, Restart}
 use Rattle.xl_base.specs.declared.journal.Entry.{Entry}
@@ -31,6 +32,11 @@ AreAddressed before (a ∷ rest) = IsBytes a.0 × (is_address a.1 ≡ true) × (
 abbrev pub IsTime : ℕ → Type 0
 IsTime n = (1 ≤ n) × (n ≤ longest_time)
 
+-- the mark, if there is one, is of bytes
+abbrev pub IsMarkBytes : Option Mark → Type 0
+IsMarkBytes None = Unit {0}
+IsMarkBytes (Some mark) = IsBytes (mark_bytes mark)
+
 -- header lines say this head
 pub record IsHeaded (h : Head) : Type 0 where
   pub files : AreNamed [] h.exports.files
@@ -42,6 +48,7 @@ pub record IsHeaded (h : Head) : Type 0 where
   pub epoch : h.«record».epoch < 2 ^ 32
   pub names : AreRecordable h.«record».names
   pub bytes : AllByRecursion (λ n. IsBytes n.name) h.«record».names
+  pub marks : AllByRecursion (λ n. IsWhole n.mark × IsMarkBytes n.mark) h.«record».names
 
 -- ---- entries
 

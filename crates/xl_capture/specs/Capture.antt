@@ -11,7 +11,9 @@ use Rattle.xl_base.specs.declared.event.Kind.{Kind}
 use Rattle.xl_base.specs.declared.event.Kind.TheVariants.{Rpc, Smb}
 use Rattle.xl_base.specs.declared.name.Protocol.{Protocol}
 use Rattle.xl_base.specs.declared.name.Protocol.TheVariants as protocols
+use Rattle.xl_base.specs.declared.stable.Mark.{Mark}
 use Rattle.xl_base.specs.declared.stable.Recorded.{Recorded}
+use Rattle.xl_base.specs.RecordFile.{mark_length, mark_of}
 use Rattle.xl_base.specs.Stable.{Stable, is_recorded}
 use Rattle.xl_frame.specs.Frames.{Framed}
 use Rattle.xl_capture.specs.Addresses.{has_address}
@@ -191,14 +193,23 @@ takes_client r client = not r.begun && not (is_recorded client r.capture.stable.
 abbrev pub with_recorded : Reading → Recorded → Reading
 with_recorded r client = record r { capture = record r.capture { stable = record r.capture.stable { names = r.capture.stable.names ++ client ∷ [] } } }
 
--- with the client of this name
-unfoldable pub with_client : Reading → Protocol → List ℕ → Option Reading
-with_client r protocol name =
-    if takes_client r (record { protocol = protocol; name = name }) then Some (with_recorded r (record { protocol = protocol; name = name })) else None
+-- with the client of this name, with this mark or none
+unfoldable pub with_client : Reading → Protocol → List ℕ → Option Mark → Option Reading
+with_client r protocol name mark =
+    if takes_client r (record { protocol = protocol; name = name; mark = mark }) then Some (with_recorded r (record { protocol = protocol; name = name; mark = mark })) else None
 
 -- with a line `N PROTOCOL HEX`
 unfoldable pub with_named : Reading → List ℕ → List ℕ → Option Reading
-with_named r word hex = option_and_then (λ protocol. option_and_then (λ name. with_client r protocol name) (bytes_of hex)) (protocol_of word)
+with_named r word hex = option_and_then (λ protocol. option_and_then (λ name. with_client r protocol name None) (bytes_of hex)) (protocol_of word)
+
+-- the mark of these bytes, if a client of this protocol has one of so many
+abbrev pub mark_said : Protocol → List ℕ → Option Mark
+mark_said protocol bytes = if length bytes == mark_length protocol then Some (mark_of protocol bytes) else None
+
+-- with a line `N PROTOCOL HEX MARK`
+unfoldable pub with_marked : Reading → List ℕ → List ℕ → List ℕ → Option Reading
+with_marked r word hex mark =
+    option_and_then (λ protocol. option_and_then (λ name. option_and_then (λ bytes. option_and_then (λ kept. with_client r protocol name (Some kept)) (mark_said protocol bytes)) (bytes_of mark)) (bytes_of hex)) (protocol_of word)
 
 -- these events, in each of which so many stores succeed
 abbrev pub steps_of : ℕ → List Event → List Step
@@ -326,6 +337,7 @@ with_words r (a ∷ b ∷ d ∷ []) =
     else with_entries r (a ∷ b ∷ d ∷ []) (said_stores (a ∷ b ∷ d ∷ []))
 with_words r (a ∷ b ∷ d ∷ e ∷ []) =
     if bytes_eq a (codes "L") then with_lasting r b d e
+    else if bytes_eq a (codes "N") then with_marked r b d e
     else with_entries r (a ∷ b ∷ d ∷ e ∷ []) (said_stores (a ∷ b ∷ d ∷ e ∷ []))
 with_words r words = with_entries r words (said_stores words)
 

@@ -12,7 +12,9 @@ use Rattle.xl_base.specs.declared.journal.Head.{Head}
 use Rattle.xl_base.specs.declared.journal.Journal.{Journal}
 use Rattle.xl_base.specs.declared.name.Protocol.{Protocol}
 use Rattle.xl_base.specs.declared.name.Protocol.TheVariants.{Nlm}
+use Rattle.xl_base.specs.declared.stable.Mark.{Mark}
 use Rattle.xl_base.specs.declared.stable.Recorded.{Recorded}
+use Rattle.xl_base.specs.Stable.{mark_bytes}
 use Rattle.xl_frame.specs.Frames.{wrapped}
 use Rattle.xl_names.specs.Texts.{hex_word}
 
@@ -37,9 +39,14 @@ abbrev pub protocol_word : Protocol → List ℕ
 protocol_word Nlm = codes "nlm"
 protocol_word _ = codes "nfs"
 
+-- the mark of a recorded client behind a blank, if it has one
+abbrev pub mark_word : Option Mark → List ℕ
+mark_word None = []
+mark_word (Some mark) = codes " " ++ hex_word (mark_bytes mark)
+
 abbrev pub name_lines : List Recorded → List ℕ
 name_lines [] = []
-name_lines (n ∷ names) = (codes "N " ++ protocol_word n.protocol ++ codes " " ++ hex_word n.name ++ codes "\n") ++ name_lines names
+name_lines (n ∷ names) = (codes "N " ++ protocol_word n.protocol ++ codes " " ++ hex_word n.name ++ mark_word n.mark ++ codes "\n") ++ name_lines names
 
 -- the lines of what is exported, and of the record that the first start loaded
 abbrev pub header_lines : Head → List ℕ

@@ -3,7 +3,7 @@ ghost use Rattle.std.specs.Prelude.{◌≡◌, ℕ, ◌∷◌, [], ◌++◌, len
 ghost use Rattle.std.specs.List.{list_all};
 ghost use Rattle.std.specs.Option.{option_and_then};
 ghost use Rattle.xl_base.specs.Results.{GivesUnless};
-ghost use Rattle.xl_base.specs.Stable.{is_recordable};
+ghost use Rattle.xl_base.specs.Stable.{is_mark_of, is_reclaiming, is_recordable};
 ghost use Rattle.xl_capture.specs.declared.capture.CaptureError.TheVariants.{NoMemory as capture_no_memory};
 ghost use Rattle.xl_capture.specs.declared.capture.LineError.TheVariants.{NoMemory as line_no_memory};
 
@@ -14,7 +14,8 @@ use crate::step::{ALL_STORES, Step};
 use hex::FromHexError;
 use std::alloc::{AllocError, AllocFailed, Global};
 use xl_base::{
-    Event, Kind, MOST_CONNECTIONS, Moment, Protocol, Record, RecordNameError, Recorded, Sequence,
+    Event, Kind, MOST_CONNECTIONS, Mark, Moment, Protocol, Record, RecordNameError, Recorded,
+    Sequence,
 };
 
 /// The most bytes of a capture.
@@ -106,7 +107,7 @@ impl<T: Drop> From<AllocFailed<T>> for LineError {
     }
 }
 
-ghost use Rattle.xl_capture.specs.Capture.{is_line_end, lines_of, words_of, is_name_byte, is_file_name, is_graphic, is_address, bytes_of, is_named, takes_file, with_file, takes_address, with_address, with_host, time_of, with_times, with_lasting, epoch_of, with_count, with_epoch, protocol_of, with_client, with_named, with_events, kind_of, with_opened, with_open, with_piece, with_bytes, with_ended, with_end, with_reply, with_no_reply, with_tick, with_restart, with_event, few_stores, stores_of, said_stores, with_entries, with_words, is_passed_over, with_line, with_lines, no_reading, capture_in, looked_at, captured, bad_line, Follows, ReadsAs};
+ghost use Rattle.xl_capture.specs.Capture.{is_line_end, lines_of, words_of, is_name_byte, is_file_name, is_graphic, is_address, bytes_of, is_named, takes_file, with_file, takes_address, with_address, with_host, time_of, with_times, with_lasting, epoch_of, with_count, with_epoch, protocol_of, with_client, with_named, mark_said, with_marked, with_events, kind_of, with_opened, with_open, with_piece, with_bytes, with_ended, with_end, with_reply, with_no_reply, with_tick, with_restart, with_event, few_stores, stores_of, said_stores, with_entries, with_words, is_passed_over, with_line, with_lines, no_reading, capture_in, looked_at, captured, bad_line, Follows, ReadsAs};
 ghost use Rattle.xl_capture.specs.Numbers.{number_of};
 
 #[tactic(auto, using(crate::proofs::LineLaws::first_line, crate::proofs::LineLaws::only_line))]
@@ -345,7 +346,8 @@ fn add_epoch(reading: &mut Reading, word: &[u8]) -> Result<(), LineError>
 
 /// Whose clients are recorded by this word.
 fn protocol_of(word: &[u8]) -> Option<Protocol>
-    ensures { result ≡ protocol_of word.now }
+    ensures said { result ≡ protocol_of word.now }
+    ensures reclaims { IfSome result (λ protocol. is_reclaiming protocol ≡ true) }
 {
     if is_text(word, b"nfs") {
         Some(Protocol::Nfs)
@@ -356,23 +358,28 @@ fn protocol_of(word: &[u8]) -> Option<Protocol>
     }
 }
 
-/// Records the client of this name, if it may be recorded.
+/// Records the client of this name, with this mark or none, if it may be recorded.
 #[tactic(auto, unfolding(crate::specs::Capture::with_client))]
 fn add_client(
     reading: &mut Reading,
     protocol: Protocol,
     name: Sequence<u8>,
+    mark: Option<Mark>,
 ) -> Result<(), LineError>
-    requires { is_recordable (record { protocol = protocol; name = name }) ≡ true }
-    ensures { Follows result (with_client reading.old protocol name) reading.new }
+    requires { is_recordable (record { protocol = protocol; name = name; mark = mark }) ≡ true }
+    ensures { Follows result (with_client reading.old protocol name mark) reading.new }
 {
     if reading.begun {
         return Err(LineError::Bad);
     }
-    match reading.capture.stable.add(Recorded { protocol, name }) {
+    match reading.capture.stable.add(Recorded {
+        protocol,
+        name,
+        mark,
+    }) {
         Ok(()) => Ok(()),
         Err(RecordNameError::NoMemory) => Err(LineError::NoMemory),
-        Err(RecordNameError::Smb | RecordNameError::Twice) => Err(LineError::Bad),
+        Err(RecordNameError::Unfit | RecordNameError::Twice) => Err(LineError::Bad),
     }
 }
 
@@ -385,7 +392,58 @@ fn add_named(alloc: Global, reading: &mut Reading, word: &[u8], hex: &[u8]) -> R
         return Err(LineError::Bad);
     };
     let name = Sequence::from_vec(bytes_of(alloc, hex)?);
-    add_client(reading, protocol, name)
+    add_client(reading, protocol, name, None)
+}
+
+/// The mark of an NFSv4 client or an NLM client of these bytes, None if they are too many or too few.
+fn mark_said(protocol: Protocol, bytes: &[u8]) -> Option<Mark>
+    requires { is_reclaiming protocol ≡ true }
+    ensures said { result ≡ mark_said protocol bytes.now }
+    ensures fits { is_mark_of protocol result ≡ true }
+{
+    match protocol {
+        Protocol::Nlm if bytes.len() == 4 => Some(Mark::State(four(bytes))),
+        Protocol::Nfs if bytes.len() == 8 => Some(Mark::Verifier(eight(bytes))),
+        _ => None,
+    }
+}
+
+fn four(bytes: &[u8]) -> [u8; 4]
+    requires { length bytes.now ≡ 4 }
+    ensures { result ≡ bytes.now }
+{
+    let (front, _) = bytes.split_first_chunk::<4>().unwrap();
+    *front
+}
+
+fn eight(bytes: &[u8]) -> [u8; 8]
+    requires { length bytes.now ≡ 8 }
+    ensures { result ≡ bytes.now }
+{
+    let (front, _) = bytes.split_first_chunk::<8>().unwrap();
+    *front
+}
+
+/// Adds a line `N PROTOCOL HEX MARK`.
+#[tactic(auto, unfolding(crate::specs::Capture::with_marked))]
+fn add_marked(
+    alloc: Global,
+    reading: &mut Reading,
+    word: &[u8],
+    hex: &[u8],
+    mark: &[u8],
+) -> Result<(), LineError>
+    ensures { Follows result (with_marked reading.old word.now hex.now mark.now) reading.new }
+{
+    let Some(protocol) = protocol_of(word) else {
+        return Err(LineError::Bad);
+    };
+    let name = Sequence::from_vec(bytes_of(alloc, hex)?);
+    let bytes = bytes_of(alloc, mark)?;
+    let Some(kept) = mark_said(protocol, &bytes) else {
+        return Err(LineError::Bad);
+    };
+    add_client(reading, protocol, name, Some(kept))
 }
 
 /// Adds an event, in which so many stores succeed.
@@ -617,6 +675,9 @@ fn add_words(alloc: Global, reading: &mut Reading, words: &[&[u8]]) -> Result<()
         [a, caller, address] if is_text(a, b"H") => add_host(alloc, reading, caller, address),
         [a, protocol, name] if is_text(a, b"N") => add_named(alloc, reading, protocol, name),
         [a, b, c, d] if is_text(a, b"L") => add_lasting(reading, b, c, d),
+        [a, protocol, name, mark] if is_text(a, b"N") => {
+            add_marked(alloc, reading, protocol, name, mark)
+        }
         _ => add_entries(alloc, reading, words),
     }
 }

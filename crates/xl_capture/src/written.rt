@@ -6,12 +6,13 @@ ghost use Rattle.xl_names.specs.Texts.{hex_word};
 ghost use Rattle.xl_base.specs.Limits.{most_message_bytes};
 ghost use Rattle.xl_capture.specs.Again.{IsSayable, said_by};
 ghost use Rattle.xl_capture.specs.Capture.{captured, most_bytes};
-ghost use Rattle.xl_capture.specs.Written.{answer_words, capture_of, event_line, event_lines, file_lines, address_lines, epoch_line, header_lines, kind_at, kind_word, message_line, name_lines, opened_by, protocol_word, stores_end, times_line};
+ghost use Rattle.xl_capture.specs.Written.{answer_words, capture_of, event_line, event_lines, file_lines, address_lines, epoch_line, header_lines, kind_at, kind_word, message_line, name_lines, opened_by, protocol_word, mark_word, stores_end, times_line};
 
 use std::alloc::{AllocError, Global};
 use std::fmt::Write;
 use xl_base::{
-    Entry, Event, Exports, Head, Journal, Kind, MOST_MESSAGE_BYTES, Protocol, Recorded, Sequence,
+    Entry, Event, Exports, Head, Journal, Kind, MOST_MESSAGE_BYTES, Mark, Protocol, Recorded,
+    Sequence,
 };
 use xl_frame::wrap;
 use xl_names::put_hex_word;
@@ -86,6 +87,17 @@ fn put_protocol(text: &mut Vec<u8>, protocol: Protocol) -> Result<(), AllocError
     }
 }
 
+/// Adds the mark of a recorded client behind a blank, if it has one.
+fn put_mark(alloc: Global, text: &mut Vec<u8>, mark: &Option<Mark>) -> Result<(), AllocError>
+    ensures { OnOk result (text.new.items ≡ text.old.items ++ mark_word mark.now) }
+{
+    if let Some(mark) = mark {
+        text.extend_from_slice(b" ")?;
+        put_word(alloc, text, mark.as_bytes())?;
+    }
+    Ok(())
+}
+
 /// Adds the lines of the recorded clients.
 fn put_names(alloc: Global, text: &mut Vec<u8>, names: &[Recorded]) -> Result<(), AllocError>
     ensures { OnOk result (text.new.items ≡ text.old.items ++ name_lines names.now) }
@@ -95,6 +107,7 @@ fn put_names(alloc: Global, text: &mut Vec<u8>, names: &[Recorded]) -> Result<()
         put_protocol(text, client.protocol)?;
         text.extend_from_slice(b" ")?;
         put_word(alloc, text, client.name.as_slice())?;
+        put_mark(alloc, text, &client.mark)?;
         text.extend_from_slice(b"\n")?;
     }
     Ok(())

@@ -1,7 +1,7 @@
 -- What the code of an ask and of a turn rests on: calls one after another, of which one may store.
 use Rattle.std.proofs.Common.{◌≡◌, ℕ, ◌<◌, ◌≤◌, Bool, true, false, if◌then◌else◌, List, [], ◌∷◌, length, slice_index_or, Result, Ok, Err, OnOk, refl, sym, ap, subst, ◌∙◌, arith}
 use Rattle.std.specs.Option.{IfSome}
-use Rattle.xl_base.specs.Stable.{is_recordable, is_recorded}
+use Rattle.xl_base.specs.Stable.{is_recordable}
 use Rattle.xl_names.specs.declared.name.Name.{Name}
 use Rattle.xl_grace.specs.Grace.{reclaimed}
 use Rattle.xl_matrix.specs.declared.claim.Claim.{Claim}
@@ -10,7 +10,7 @@ use Rattle.xl_core.specs.State.{CoreState, MayBe, GoesOn}
 use Rattle.xl_core.specs.Askers.{both_entered}
 use Rattle.xl_core.specs.Decide.{is_back, named, plea_of, answered, claims_asked, acted, decided}
 use Rattle.xl_core.specs.Judge.{Ruled, judged}
-use Rattle.xl_core.specs.Standings.{recorded_as}
+use Rattle.xl_core.specs.Standings.{recorded_as, asker_as, stores_name}
 use Rattle.xl_core.specs.Stores.{Telling, HandsOn, made_of}
 use Rattle.xl_core.specs.Whole.{state_of}
 use Rattle.xl_core.specs.declared.ask.Act.{Act}
@@ -68,9 +68,9 @@ on_ok (Err e) is = tt
 -- ---- an ask for claims
 
 -- its name is one that the record may have, and lacks
-pub plea_new : (left : Rooms) (s : CoreState) (a : Ask) (p : Plea) → p ≡ plea_of left s a → IfSome p.unrecorded (λ x. (is_recordable x ≡ true) × (is_recorded x s.stable.names ≡ false))
+pub plea_new : (left : Rooms) (s : CoreState) (a : Ask) (p : Plea) → p ≡ plea_of left s a → IfSome p.unrecorded (λ x. is_recordable x ≡ true)
 unfolding plea_of
-plea_new left s a p is = subst (λ (x : Plea). IfSome x.unrecorded (λ y. (is_recordable y ≡ true) × (is_recorded y s.stable.names ≡ false))) (sym is) (unrecorded_new a.monitored (recorded_as a.party) s.stable)
+plea_new left s a p is = subst (λ (x : Plea). IfSome x.unrecorded (λ y. is_recordable y ≡ true)) (sym is) (unrecorded_new (stores_name a) (asker_as a) s.stable)
 
 -- it has them: its client is noted, if it reclaims, and then its names
 pub got_state : (a : Ask) (t : CoreState) (back : Parts) (names : List Name) → state_of back ≡ is_back a t → names ≡ both_entered a back.names → record (state_of back) { names = names } ≡ named a (is_back a t)

@@ -43,7 +43,7 @@ use Rattle.xl_core.proofs.KnownLaws.{known_posix}
 use Rattle.xl_core.proofs.LimitLaws.{IsFound, grant_found, wait_found, grant_least, wait_least, wish_found, wish_least}
 use Rattle.xl_core.proofs.RowLaws.{ruled_by, reclaimed_by, least_blocker, ended, ended_by, judged_graced, judged_stopped, judged_kept_off, judged_conflicts, judged_is, judged_back, judged_row}
 use Rattle.xl_core.proofs.StandingLaws.{enters_cases, timely_asks, late_asks, alone_goes, late}
-use Rattle.xl_core.specs.Standings.{recorded_as, is_smb, standing, stands, stands_alone, refusal, enters}
+use Rattle.xl_core.specs.Standings.{asker_as, is_smb, standing, stands, stands_alone, refusal, enters}
 use Rattle.xl_core.specs.Stores.{may_record, bytes_with}
 use Rattle.xl_core.specs.declared.standings.Standing.{Standing}
 use Rattle.xl_core.specs.declared.standings.Standing.TheVariants.{Timely, Reclaims, Stays, Early, Late, Unrecorded}
@@ -180,7 +180,7 @@ none_beside a claim cs e = ap (λ (b : Bool). list_any (λ c. blocks_its_cache (
   none (c ∷ cs) = none cs
 
 timely_free : (s : CoreState) (a : Ask) (claim : Claim) → stands s a ≡ Timely → is_blocked s.claims claim ≡ false → IsFree s a claim
-timely_free s a claim timely free = (free, none_beside a claim s.claims (timely_asks s (recorded_as a.party) (is_smb a.party) a.reclaim timely))
+timely_free s a claim timely free = (free, none_beside a claim s.claims (timely_asks s (asker_as a) (is_smb a.party) a.reclaim timely))
 
 -- what blocks a reclaim, and what doesn't
 pub reclaim_some : (beside : Option CacheKind) (claim c : Claim) (s : CoreState) → reclaim_blocker beside claim s ≡ Some c → IsIn c s.claims × ((blocks claim c || blocks_its_cache beside claim c) ≡ true)
@@ -268,12 +268,12 @@ lock_forth n left s a claim = by (stands s a) refl where
   by Reclaims is = back is (reclaim_blocker (beside_of a.reclaim a.wish) claim s) (first_passed (limits_of_grant left s a claim)) refl refl
   by Stays is = waiting (first_passed (limits_of_wait left s a)) (subst (λ (st : Standing). IsWaiting st s.waiters s a claim) (sym is) tt) refl
   by (Early until) is = is
-  by (Late clock) is = late_asks s (recorded_as a.party) (is_smb a.party) a.reclaim clock is
+  by (Late clock) is = late_asks s (asker_as a) (is_smb a.party) a.reclaim clock is
   by Unrecorded is = is
 
 -- a reclaim out of grace comes too late
-pub stands_late : (s : CoreState) (a : Ask) (stays : Bool) → s.grace ≡ None → a.reclaim ≡ true → standing s (recorded_as a.party) stays a.reclaim ≡ Late s.clock
-stands_late s a stays none reclaim = ap (standing s (recorded_as a.party) stays) reclaim ∙ late s (recorded_as a.party) stays none
+pub stands_late : (s : CoreState) (a : Ask) (stays : Bool) → s.grace ≡ None → a.reclaim ≡ true → standing s (asker_as a) stays a.reclaim ≡ Late s.clock
+stands_late s a stays none reclaim = ap (standing s (asker_as a) stays) reclaim ∙ late s (asker_as a) stays none
 
 -- a cause brings its answer
 lock_back : (n : ℕ) (left : Rooms) (s : CoreState) (a : Ask) (claim : Claim) (answer : Answer) → IsClaimDue n left s a claim answer → told_standing n left s a claim (stands s a) ≡ answer
@@ -442,9 +442,9 @@ test_forth s a claim = by (stands_alone s a) refl where
   by : (standing : Standing) → stands_alone s a ≡ standing → IsTestDue s a claim (tested s a claim)
   by Timely is = goes (ap enters is)
   by Reclaims is = goes (ap enters is)
-  by Stays is = absurd (alone_goes s (recorded_as a.party) a.reclaim is)
+  by Stays is = absurd (alone_goes s (asker_as a) a.reclaim is)
   by (Early until) is = due_at (answers.Grace until) (test_at s a claim (Early until) is) is
-  by (Late clock) is = due_at (answers.NoGrace clock) (test_at s a claim (Late clock) is) (late_asks s (recorded_as a.party) false a.reclaim clock is)
+  by (Late clock) is = due_at (answers.NoGrace clock) (test_at s a claim (Late clock) is) (late_asks s (asker_as a) false a.reclaim clock is)
   by Unrecorded is = due_at answers.NotRecorded (test_at s a claim Unrecorded is) is
 
 test_back : (s : CoreState) (a : Ask) (claim : Claim) (answer : Answer) → IsTestDue s a claim answer → tested s a claim ≡ answer
@@ -833,7 +833,7 @@ first_due n left s a c cs r blocked is = elim (cases_Bool (enters (stands s a)))
 pub each_due : (n : ℕ) (left : Rooms) (s : CoreState) (a : Ask) (c d : Claim) (cs : List Claim) (r : Answered) → stands s a ≡ Timely → is_blocked s.claims c ≡ false → r ≡ claims_asked n left s a (c ∷ d ∷ cs) → IsEachDue left s a c (c ∷ d ∷ cs) r.0
 unfolding claims_asked plea_of
 each_due n left s a c d cs r timely free is =
-    row_due s.waiters left p (answers.Granted c) (c ∷ d ∷ cs) s r.0 c (d ∷ cs) refl (ap (λ (b : Bool). beside_of b a.wish) (timely_asks s (recorded_as a.party) (is_smb a.party) a.reclaim timely))
+    row_due s.waiters left p (answers.Granted c) (c ∷ d ∷ cs) s r.0 c (d ∷ cs) refl (ap (λ (b : Bool). beside_of b a.wish) (timely_asks s (asker_as a) (is_smb a.party) a.reclaim timely))
     (ap (λ (b : Bool). b && (if is_stopped s.waiters s c then a.blocking else a.awaits)) free)
     (subst (λ (x : Answer). tells (answers.Granted c) (first_stop s.waiters left p (c ∷ d ∷ cs) s) x) (sym (ap first_is is ∙ ap (λ (x : Ruled). (answered a (c ∷ d ∷ cs) c x.0 x.1 x.2).0) (judged_row n s.waiters left p (c ∷ d ∷ cs) s timely))) (by (first_stop s.waiters left p (c ∷ d ∷ cs) s)))
   where
@@ -865,9 +865,9 @@ wish_forth s a claim limits found = by (stands_alone s a) refl where
   by : (standing : Standing) → stands_alone s a ≡ standing → IsWishBy s a limits claim (wished_so s a claim limits standing)
   by Timely is = goes (first_passed limits) (ap enters is) found
   by Reclaims is = goes (first_passed limits) (ap enters is) found
-  by Stays is = absurd (alone_goes s (recorded_as a.party) a.reclaim is)
+  by Stays is = absurd (alone_goes s (asker_as a) a.reclaim is)
   by (Early until) is = is
-  by (Late clock) is = late_asks s (recorded_as a.party) false a.reclaim clock is
+  by (Late clock) is = late_asks s (asker_as a) false a.reclaim clock is
   by Unrecorded is = is
 
 wish_back : (s : CoreState) (a : Ask) (claim : Claim) (limits : List (ℕ × Bool)) → ((o : Option ℕ) → IsFound limits o → first_passed limits ≡ o) → (answer : Answer) → IsWishBy s a limits claim answer → wished_so s a claim limits (stands_alone s a) ≡ answer

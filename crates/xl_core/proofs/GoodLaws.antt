@@ -7,7 +7,7 @@ use Rattle.xl_core.specs.BreaksBegun.{breaks_begun}
 use Rattle.xl_core.proofs.StandingLaws.{stays_asks}
 use Rattle.xl_core.specs.declared.standings.Standing.TheVariants.{Timely, Reclaims, Stays, Early, Late, Unrecorded}
 use Rattle.xl_core.specs.declared.standings.Standing.{Standing}
-use Rattle.xl_core.specs.Standings.{recorded_as, is_smb, stands, stands_alone, refusal, enters}
+use Rattle.xl_core.specs.Standings.{recorded_as, asker_as, is_smb, stands, stands_alone, refusal, enters}
 use Rattle.xl_core.specs.declared.ask.Who.TheVariants.{Named, Open}
 use Rattle.xl_matrix.specs.declared.claim.CacheKind.TheVariants.{R, RH, RW, RWH, ReadDeleg, WriteDeleg}
 use Rattle.xl_grace.specs.Grace.{reclaimed, Running}
@@ -303,7 +303,7 @@ waits_or : (s : CoreState) (a : Ask) (c : Claim) → IsWaiting (stands s a) s.wa
 waits_or s a c why = by (stands s a) refl why where
   by : (standing : Standing) → stands s a ≡ standing → IsWaiting standing s.waiters s a c → ((a.blocking || a.awaits) ≡ true) ⊎ (is_smb a.party ≡ true)
   by Timely is why = inl (waits_then s a c why.0)
-  by Stays is why = inr (stays_asks s (recorded_as a.party) (is_smb a.party) a.reclaim is)
+  by Stays is why = inr (stays_asks s (asker_as a) (is_smb a.party) a.reclaim is)
   by Reclaims is why = absurd why
   by (Early until) is why = absurd why
   by (Late clock) is why = absurd why

@@ -7,7 +7,7 @@ use Rattle.xl_core.proofs.StandingLaws.{stays_runs}
 use Rattle.xl_core.specs.declared.standings.Standing.TheVariants.{Timely, Reclaims, Early, Late, Unrecorded}
 use Rattle.xl_core.specs.declared.standings.Standing.TheVariants as standings
 use Rattle.xl_core.specs.declared.standings.Standing.{Standing}
-use Rattle.xl_core.specs.Standings.{recorded_as, is_smb, stands, standing}
+use Rattle.xl_core.specs.Standings.{asker_as, is_smb, stands, standing}
 use Rattle.xl_core.proofs.BreaksInOrderLaws.{final_here, planned_here}
 use Rattle.xl_core.proofs.BreaksBegunLaws.{begun_elsewhere}
 use Rattle.xl_core.proofs.WayLaws.{NoWay, Begins, way_is, way_stopped, way_runs, way_quiet, way_waiters, way_keeps}
@@ -310,7 +310,7 @@ waits_calm : (s : CoreState) (a : Ask) (c : Claim) → is_some s.grace ≡ false
 waits_calm s a c calm why = by (stands s a) refl why where
   by : (standing : Standing) → stands s a ≡ standing → IsWaiting standing s.waiters s a c → (stands s a ≡ Timely) × (may_wait s.waiters s a c ≡ true) × (is_blocked s.claims c ≡ true)
   by Timely is why = (is, why.0, why.1)
-  by standings.Stays is why = absurd (both_ways (is_some s.grace) calm (stays_runs s (recorded_as a.party) (is_smb a.party) a.reclaim is))
+  by standings.Stays is why = absurd (both_ways (is_some s.grace) calm (stays_runs s (asker_as a) (is_smb a.party) a.reclaim is))
   by Reclaims is why = absurd why
   by (Early until) is why = absurd why
   by (Late clock) is why = absurd why

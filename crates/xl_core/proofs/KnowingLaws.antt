@@ -1,12 +1,12 @@
 -- While grace runs those who may reclaim are those of the record, and nobody else is let in.
-use Rattle.std.proofs.Common.{◌≡◌, ℕ, Bool, true, false, not, ◌||◌, if◌then◌else◌, inl, inr, List, [], ◌∷◌, ◌++◌, map, Option, Some, None, IfSome, ◌↔◌, refl, sym, ap, subst, ◌∙◌}
+use Rattle.std.proofs.Common.{◌≡◌, ℕ, Bool, true, false, not, ◌&&◌, ◌||◌, if◌then◌else◌, inl, inr, List, [], ◌∷◌, ◌++◌, map, Option, Some, None, IfSome, ◌↔◌, refl, sym, ap, subst, ◌∙◌}
 use Rattle.std.specs.List.{filter}
 use Rattle.std.proofs.lemmas.Bool.{cases_Bool, both_ways, or_parts}
 use Rattle.std.proofs.lemmas.Option.{same_Some}
-use Rattle.xl_base.specs.Stable.{Stable, same_name, is_recorded, is_recordable}
+use Rattle.xl_base.specs.Stable.{Stable, same_name, agree, is_recorded}
 use Rattle.xl_base.specs.declared.event.Moment.{Moment}
 use Rattle.xl_base.specs.declared.stable.Recorded.{Recorded}
-use Rattle.xl_grace.specs.Grace.{Running, is_of, newly, may_reclaim, noted, others, begun, reclaimed, expired}
+use Rattle.xl_grace.specs.Grace.{Running, is_of, newly, may_reclaim, is_known, noted, others, begun, reclaimed, expired}
 use Rattle.xl_grace.specs.declared.grace.Admission.TheVariants.{Enters, NotRecorded}
 use Rattle.xl_grace.specs.declared.reclaimant.Reclaimant.{Reclaimant}
 use Rattle.xl_matrix.specs.declared.claim.Claim.{Claim}
@@ -17,14 +17,14 @@ use Rattle.xl_core.specs.Askers.{asked_whats, asked_claims, party_named}
 use Rattle.xl_core.specs.BreakAnswers.{client_of}
 use Rattle.xl_names.specs.declared.name.Name.TheVariants.{NfsParty}
 use Rattle.xl_base.specs.declared.name.Party.{Party}
-use Rattle.xl_core.specs.Causes.{IsClaimDue, IsServed, Answered, WaitsOn, IsTurn, asks_claims, name_asked, noted_by, once_told, name_waiting}
+use Rattle.xl_core.specs.Causes.{IsClaimDue, IsServed, Answered, WaitsOn, IsTurn, asks_claims, name_asked, wanted, noted_by, once_told, name_waiting}
 use Rattle.xl_core.specs.Decide.{is_back, claims_asked, acted, decided, way, before_wish, ask}
 use Rattle.xl_core.specs.Deeds.{Deed, Asks, GivesBack, Weakens, Acks, Cancels, Ends, Serves, Draws, Advances, Lapses, Renews, Expires, Closes, FailsStore, EndsGrace, turned, done, all_done, IsFitDeed, AreFit}
 use Rattle.xl_core.specs.Good.{IsGood}
 use Rattle.xl_core.specs.Judge.{to_record}
 use Rattle.xl_core.specs.Knowing.{KnowsRecord}
 use Rattle.xl_core.specs.Settle.{settle, way_again, plea_again, end_party}
-use Rattle.xl_core.specs.Standings.{recorded_as, is_smb, standing, standing_by, stands, enters}
+use Rattle.xl_core.specs.Standings.{recorded_as, asker_as, is_smb, standing, standing_by, stands, enters}
 use Rattle.xl_core.specs.Stores.{stored, store_failed, client_name, unrecorded, recorded, unstored}
 use Rattle.xl_core.specs.Ticks.{end_some, barred, gone_client, forgotten, expire, lapsed_by, lapse, end_grace}
 use Rattle.xl_core.specs.declared.ask.Act.{Act}
@@ -51,12 +51,12 @@ use Rattle.xl_core.proofs.WayLaws.{way_keeps}
 abbrev pub names_of : List Reclaimant → List Recorded
 names_of ones = map (λ one. one.name) ones
 
-may_known : (name : Recorded) (ones : List Reclaimant) → may_reclaim name ones ≡ is_recorded name (names_of ones)
+may_known : (name : Recorded) (ones : List Reclaimant) → may_reclaim name ones ≡ is_known name (names_of ones)
 may_known name [] = refl
-may_known name (one ∷ ones) = ap (λ (b : Bool). same_name one.name name || b) (may_known name ones)
+may_known name (one ∷ ones) = ap (λ (b : Bool). (same_name one.name name && agree one.name.mark name.mark) || b) (may_known name ones)
 
-known : (s : CoreState) (name : Recorded) (g : Running) → KnowsRecord s → s.grace ≡ Some g → may_reclaim name g.reclaimants ≡ is_recorded name s.stable.names
-known s name g knows runs = may_known name g.reclaimants ∙ ap (λ (names : List Recorded). is_recorded name names) (knows g runs)
+known : (s : CoreState) (name : Recorded) (g : Running) → KnowsRecord s → s.grace ≡ Some g → may_reclaim name g.reclaimants ≡ is_known name s.stable.names
+known s name g knows runs = may_known name g.reclaimants ∙ ap (λ (names : List Recorded). is_known name names) (knows g runs)
 
 -- one who reclaims is let in if it may
 back_may : (s : CoreState) (name : Recorded) (stays reclaim : Bool) (g : Running) → s.grace ≡ Some g → standing s name stays reclaim ≡ Reclaims → may_reclaim name g.reclaimants ≡ true
@@ -85,16 +85,16 @@ may_out : (s : CoreState) (name : Recorded) (stays : Bool) (g : Running) → s.g
 unfolding standing
 may_out s name stays g runs e = rw (runs, e) refl
 
-pub unrecorded_is : (s : CoreState) (a : Ask) (g : Running) → KnowsRecord s → s.grace ≡ Some g → (stands s a ≡ Unrecorded) ↔ ((a.reclaim ≡ true) × (is_recorded (recorded_as a.party) s.stable.names ≡ false))
+pub unrecorded_is : (s : CoreState) (a : Ask) (g : Running) → KnowsRecord s → s.grace ≡ Some g → (stands s a ≡ Unrecorded) ↔ ((a.reclaim ≡ true) × (is_known (asker_as a) s.stable.names ≡ false))
 unrecorded_is s a g knows runs = (forth, back) where
-  is : may_reclaim (recorded_as a.party) g.reclaimants ≡ is_recorded (recorded_as a.party) s.stable.names
-  is = known s (recorded_as a.party) g knows runs
+  is : may_reclaim (asker_as a) g.reclaimants ≡ is_known (asker_as a) s.stable.names
+  is = known s (asker_as a) g knows runs
 
-  forth : stands s a ≡ Unrecorded → (a.reclaim ≡ true) × (is_recorded (recorded_as a.party) s.stable.names ≡ false)
-  forth e = let out = out_may s (recorded_as a.party) (is_smb a.party) a.reclaim g runs e in (out.0, sym is ∙ out.1)
+  forth : stands s a ≡ Unrecorded → (a.reclaim ≡ true) × (is_known (asker_as a) s.stable.names ≡ false)
+  forth e = let out = out_may s (asker_as a) (is_smb a.party) a.reclaim g runs e in (out.0, sym is ∙ out.1)
 
-  back : (a.reclaim ≡ true) × (is_recorded (recorded_as a.party) s.stable.names ≡ false) → stands s a ≡ Unrecorded
-  back e = ap (standing s (recorded_as a.party) (is_smb a.party)) e.0 ∙ may_out s (recorded_as a.party) (is_smb a.party) g runs (is ∙ e.1)
+  back : (a.reclaim ≡ true) × (is_known (asker_as a) s.stable.names ≡ false) → stands s a ≡ Unrecorded
+  back e = ap (standing s (asker_as a) (is_smb a.party)) e.0 ∙ may_out s (asker_as a) (is_smb a.party) g runs (is ∙ e.1)
 
 -- ---- who is granted something
 
@@ -124,9 +124,9 @@ asks_enter n left s a d asks e = ap enters (sym (ask_way_stands left s a)) ∙ a
 none_runs : {A : Type 0} (g : Running) → None ≡ Some g → A
 none_runs g e = absurd cc
 
-pub granted_in_grace : (n : ℕ) (left : Rooms) (s : CoreState) (a : Ask) (c : Claim) (g : Running) → KnowsRecord s → s.grace ≡ Some g → asks_claims a.act ≡ true → (ask n left s a).0 ≡ answers.Granted c → (a.reclaim ≡ true) × (is_recorded (recorded_as a.party) s.stable.names ≡ true)
+pub granted_in_grace : (n : ℕ) (left : Rooms) (s : CoreState) (a : Ask) (c : Claim) (g : Running) → KnowsRecord s → s.grace ≡ Some g → asks_claims a.act ≡ true → (ask n left s a).0 ≡ answers.Granted c → (a.reclaim ≡ true) × (is_known (asker_as a) s.stable.names ≡ true)
 granted_in_grace n left s a c g knows runs asks e =
-    let name = recorded_as a.party in
+    let name = asker_as a in
     elim (enters_cases (stands s a) (asks_enter n left s a c asks e)) [
       | inl timely ↦ none_runs g (sym (timely_calm s name (is_smb a.party) a.reclaim timely) ∙ runs)
       | inr back ↦ (reclaims_asks s name (is_smb a.party) a.reclaim back, sym (known s name g knows runs) ∙ back_may s name (is_smb a.party) a.reclaim g runs back)
@@ -192,13 +192,15 @@ reclaimed_knows s t name grace stable knows g runs = by s.grace refl (sym grace 
 back_knows : (a : Ask) (s : CoreState) → KnowsRecord s → KnowsRecord (is_back a s)
 back_knows a s knows = by a.reclaim where
   by : (b : Bool) → KnowsRecord (if b then record s { grace = reclaimed (recorded_as a.party) s.grace } else s)
-  by true = reclaimed_knows s (record s { grace = reclaimed (recorded_as a.party) s.grace }) (recorded_as a.party) refl refl knows
+  by true = reclaimed_knows s (record s { grace = reclaimed (recorded_as a.party) s.grace }) (asker_as a) refl refl knows
   by false = knows
 
--- what the record has already isn't recorded anew
-known_stays : (monitored : Bool) (name : Recorded) (stable : Stable) → is_recorded name stable.names ≡ true → unrecorded monitored name stable ≡ None
-known_stays false name stable there = refl
-known_stays true name stable there = elim (cases_Bool (is_recordable name)) [ inl able ↦ rw (able, there) refl | inr out ↦ rw out refl ]
+-- a reclaim has nothing recorded
+none_stored : (s : CoreState) (a : Ask) → a.reclaim ≡ true → wanted s a ≡ None
+none_stored s a reclaim = ap (λ (stores : Bool). unrecorded stores (asker_as a) s.stable) (ap (λ (b : Bool). a.monitored && not b) reclaim ∙ and_false a.monitored) where
+  and_false : (b : Bool) → (b && false) ≡ false
+  and_false true = refl
+  and_false false = refl
 
 to_none : (cs : List Claim) → to_record None cs ≡ None
 to_none [] = refl
@@ -231,9 +233,9 @@ back_calm a s calm = by a.reclaim where
   by true = ap (reclaimed (recorded_as a.party)) calm
   by false = calm
 
--- one that is granted claims while grace runs is recorded already
-granted_knows : (s : CoreState) (a : Ask) (c : Claim) → asks_claims a.act ≡ true → ((g : Running) → s.grace ≡ Some g → is_recorded (recorded_as a.party) s.stable.names ≡ true) → KnowsRecord s → KnowsRecord (noted_by s a (answers.Granted c))
-granted_knows s a c asks there knows = subst KnowsRecord (sym (ap (λ (b : Bool). if b then is_back a got else got) asks)) (by s.grace refl) where
+-- one that is granted claims while grace runs reclaims them
+granted_knows : (s : CoreState) (a : Ask) (c : Claim) → asks_claims a.act ≡ true → ((g : Running) → s.grace ≡ Some g → a.reclaim ≡ true) → KnowsRecord s → KnowsRecord (noted_by s a (answers.Granted c))
+granted_knows s a c asks reclaims knows = subst KnowsRecord (sym (ap (λ (b : Bool). if b then is_back a got else got) asks)) (by s.grace refl) where
   got : CoreState
   got = recorded (name_asked s a) s
 
@@ -241,7 +243,7 @@ granted_knows s a c asks there knows = subst KnowsRecord (sym (ap (λ (b : Bool)
   by None calm = calm_knows (is_back a got) (back_calm a got (recorded_calm (name_asked s a) s calm))
   by (Some g) runs =
       let none : name_asked s a ≡ None =
-      ap (λ (o : Option Recorded). to_record o (asked_claims a (asked_whats a.act) s.names)) (known_stays a.monitored (recorded_as a.party) s.stable (there g runs)) ∙ to_none (asked_claims a (asked_whats a.act) s.names) in
+      ap (λ (o : Option Recorded). to_record o (asked_claims a (asked_whats a.act) s.names)) (none_stored s a (reclaims g runs)) ∙ to_none (asked_claims a (asked_whats a.act) s.names) in
       subst (λ (o : Option Recorded). KnowsRecord (is_back a (recorded o s))) (sym none) (back_knows a s knows)
 
 unasked : (s : CoreState) (a : Ask) (act : Act) → asks_claims act ≡ false → asked_claims a (asked_whats act) s.names ≡ []
@@ -251,27 +253,27 @@ unasked s a (Test extent exclusive) out = refl
 unasked s a (Unlock extent) out = refl
 unasked s a Wish out = refl
 
-noted_knows : (s : CoreState) (a : Ask) (answer : Answer) → ((c : Claim) (g : Running) → answer ≡ answers.Granted c → asks_claims a.act ≡ true → s.grace ≡ Some g → is_recorded (recorded_as a.party) s.stable.names ≡ true) → KnowsRecord s → KnowsRecord (noted_by s a answer)
-noted_knows s a (answers.Granted c) there knows =
+noted_knows : (s : CoreState) (a : Ask) (answer : Answer) → ((c : Claim) (g : Running) → answer ≡ answers.Granted c → asks_claims a.act ≡ true → s.grace ≡ Some g → a.reclaim ≡ true) → KnowsRecord s → KnowsRecord (noted_by s a answer)
+noted_knows s a (answers.Granted c) reclaims knows =
     elim (cases_Bool (asks_claims a.act)) [
-      | inl asks ↦ granted_knows s a c asks (λ g runs. there c g refl asks runs) knows
+      | inl asks ↦ granted_knows s a c asks (λ g runs. reclaims c g refl asks runs) knows
       | inr out ↦ subst KnowsRecord (sym (none_noted s a (answers.Granted c) (unasked s a a.act out) out)) knows
     ]
-noted_knows s a answers.StoreFailed there knows = unstored_knows (name_asked s a) s knows
-noted_knows s a (answers.Conflict c) there knows = knows
-noted_knows s a (answers.Queued number) there knows = knows
-noted_knows s a (answers.Recall c) there knows = knows
-noted_knows s a (answers.Grace until) there knows = knows
-noted_knows s a (answers.NoGrace clock) there knows = knows
-noted_knows s a answers.NotRecorded there knows = knows
-noted_knows s a (answers.Full limit) there knows = knows
-noted_knows s a answers.NotHeld there knows = knows
+noted_knows s a answers.StoreFailed reclaims knows = unstored_knows (name_asked s a) s knows
+noted_knows s a (answers.Conflict c) reclaims knows = knows
+noted_knows s a (answers.Queued number) reclaims knows = knows
+noted_knows s a (answers.Recall c) reclaims knows = knows
+noted_knows s a (answers.Grace until) reclaims knows = knows
+noted_knows s a (answers.NoGrace clock) reclaims knows = knows
+noted_knows s a answers.NotRecorded reclaims knows = knows
+noted_knows s a (answers.Full limit) reclaims knows = knows
+noted_knows s a answers.NotHeld reclaims knows = knows
 
 ask_knows : (n : ℕ) (left : Rooms) (s : CoreState) (a : Ask) → IsGood s → IsFitDeed s (Asks left a) → KnowsRecord s → KnowsRecord (ask n left s a).2
 ask_knows n left s a good fit knows =
     let answer = (ask n left s a).0 in
     knows_by (noted_by s a answer) (ask n left s a).2 ((ask_own n left s a good fit.party).noted ∙ ask_way_noted left s a answer)
-    (noted_knows s a answer (λ c g is asks runs. (granted_in_grace n left s a c g knows runs asks is).1) knows)
+    (noted_knows s a answer (λ c g is asks runs. (granted_in_grace n left s a c g knows runs asks is).0) knows)
 
 -- ---- an expiry
 

@@ -4,7 +4,7 @@ use Rattle.xl_core.proofs.StandingLaws.{stays_asks}
 use Rattle.xl_core.specs.declared.standings.Standing.TheVariants.{Timely, Reclaims, Early, Late, Unrecorded}
 use Rattle.xl_core.specs.declared.standings.Standing.TheVariants as standings
 use Rattle.xl_core.specs.declared.standings.Standing.{Standing}
-use Rattle.xl_core.specs.Standings.{recorded_as, is_smb, stands}
+use Rattle.xl_core.specs.Standings.{asker_as, is_smb, stands}
 use Rattle.std.specs.List.{AllByRecursion, cons_option, filter, filter_map}
 use Rattle.std.proofs.lemmas.Bool.{cases_Bool, both_ways, and_parts, and_right}
 use Rattle.std.proofs.lemmas.List.{length-append}
@@ -258,7 +258,7 @@ at_once_numbers n left s a good fit hurries stays other = omega (arith, others, 
 
   never : (c : Claim) (standing : Standing) → stands s a ≡ standing → IsWaiting standing s.waiters s a c → ⊥
   never c Timely is why = both_ways (may_wait s.waiters s a c) (no_wait c) why.0
-  never c standings.Stays is why = both_ways (is_smb a.party) other (stays_asks s (recorded_as a.party) (is_smb a.party) a.reclaim is)
+  never c standings.Stays is why = both_ways (is_smb a.party) other (stays_asks s (asker_as a) (is_smb a.party) a.reclaim is)
   never c Reclaims is why = why
   never c (Early until) is why = why
   never c (Late clock) is why = why

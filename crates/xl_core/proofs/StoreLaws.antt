@@ -1,11 +1,7 @@
 -- What never goes back in a step, and what a keeper is given in it.
-use Rattle.std.proofs.Common.{◌≡◌, ℕ, ◌+◌, ◌-◌, ◌^◌, ◌≤◌, min, length, Bool, true, false, inl, inr, List, [], ◌∷◌, ◌++◌, Option, Some, None, option_map, refl, sym, ap, subst, ◌∙◌, arith}
+use Rattle.std.proofs.Common.{◌≡◌, ℕ, ◌+◌, ◌-◌, ◌≤◌, length, Bool, true, false, inl, inr, List, [], ◌∷◌, ◌++◌, Option, Some, None, option_map, refl, sym, ap, subst, ◌∙◌, arith}
 use Rattle.std.proofs.lemmas.Bool.{cases_Bool, both_ways}
-use Rattle.std.proofs.lemmas.Bool.Decides.{nat_tests}
 use Rattle.std.proofs.lemmas.List.{append_assoc, append-nil, append_cancel_left, length-append}
-use Rattle.xl_base.specs.RecordFile.{name_text, names_text, record_text, with_name}
-use Rattle.xl_base.specs.declared.stable.Recorded.{Recorded}
-use Rattle.xl_base.proofs.RecordFileLaws.{head_length, name_length}
 use Rattle.xl_base.specs.Outside.{Rose, StoreCounts, Spends, held_after, given_after}
 use Rattle.xl_base.specs.declared.keeper.StoreOutcome.{StoreOutcome}
 use Rattle.xl_base.specs.declared.keeper.StoreOutcome.TheVariants as outcomes
@@ -165,14 +161,3 @@ pub made_more : (failed : Bool) (given more : List Stable) (stable : Stable) →
 made_more true given more stable none is = absurd (both_ways true none refl)
 made_more false given more stable none is =
     let longer : length more ≡ length given + 1 = ap (λ (xs : List Stable). length xs) is ∙ length-append given (stable ∷ []) in (omega (arith, longer), omega (arith, longer))
-
--- ---- the length of the record
-
-names_more : (names : List Recorded) (name : Recorded) → length (names_text (names ++ name ∷ [])) ≡ length (names_text names) + (3 + length name.name)
-names_more [] name = omega (arith, length-append (name_text name) [], name_length name)
-names_more (first ∷ names) name = omega (arith, length-append (name_text first) (names_text (names ++ name ∷ [])), length-append (name_text first) (names_text names), names_more names name)
-
-pub bytes_more : (stable : Stable) (name : Recorded) (a b c : ℕ) → a ≡ min (length (record_text stable)) (2 ^ 64 - 1) → b ≡ min (a + 3) (2 ^ 64 - 1) → c ≡ min (b + length name.name) (2 ^ 64 - 1) → c ≡ min (length (record_text (with_name name stable))) (2 ^ 64 - 1)
-bytes_more stable name a b c first second third =
-    let longer : length (record_text (with_name name stable)) ≡ length (record_text stable) + (3 + length name.name) = omega (arith, head_length stable, head_length (with_name name stable), names_more stable.names name) in
-    grind (arith, nat_tests, first, second, third, longer)

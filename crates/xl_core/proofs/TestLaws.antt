@@ -3,7 +3,7 @@ use Rattle.xl_cache.specs.BreakPlans.{is_covered, is_final}
 use Rattle.xl_core.proofs.StandingLaws.{enters_cases, reclaims_asks, timely, timely_calm}
 use Rattle.xl_core.specs.declared.standings.Standing.TheVariants.{Timely, Reclaims, Stays, Early, Late, Unrecorded}
 use Rattle.xl_core.specs.declared.standings.Standing.{Standing}
-use Rattle.xl_core.specs.Standings.{recorded_as, is_smb, standing, stands, stands_alone, enters}
+use Rattle.xl_core.specs.Standings.{asker_as, is_smb, standing, stands, stands_alone, enters}
 use Rattle.std.proofs.Common.{◌≡◌, ℕ, ◌<◌, ◌≤◌, Bool, true, false, not, ◌&&◌, ◌||◌, ◌==◌, eqb, List, [], ◌∷◌, length, Option, Some, None, inl, inr, refl, sym, ap, ◌∙◌, ◌↔◌, arith, slice_get, subst}
 use Rattle.std.specs.List.{list_any}
 use Rattle.std.proofs.lemmas.Bool.{both_ways, and_parts, and_right, ne_eqb, cases_lt, not-true}
@@ -123,15 +123,15 @@ against_timely : (s : CoreState) (a : Ask) (claim c : Claim) → a.reclaim ≡ f
 against_timely s a claim c fresh due = by (stands s a) refl due where
   by : (standing : Standing) → stands s a ≡ standing → IsAgainst standing s a claim c → (stands s a ≡ Timely) × IsAgainst Timely s a claim c
   by Timely is due = (is, due)
-  by Reclaims is due = absurd (both_ways a.reclaim fresh (reclaims_asks s (recorded_as a.party) (is_smb a.party) a.reclaim is))
+  by Reclaims is due = absurd (both_ways a.reclaim fresh (reclaims_asks s (asker_as a) (is_smb a.party) a.reclaim is))
   by Stays is due = absurd due
   by (Early until) is due = absurd due
   by (Late clock) is due = absurd due
   by Unrecorded is due = absurd due
 
 -- where one of no reclaim goes on, so does another
-goes_too : (s : CoreState) (a b : Ask) (stays other : Bool) → b.reclaim ≡ false → standing s (recorded_as a.party) stays a.reclaim ≡ Timely → standing s (recorded_as b.party) other b.reclaim ≡ Timely
-goes_too s a b stays other fresh is = ap (standing s (recorded_as b.party) other) fresh ∙ timely s (recorded_as b.party) other (timely_calm s (recorded_as a.party) stays a.reclaim is)
+goes_too : (s : CoreState) (a b : Ask) (stays other : Bool) → b.reclaim ≡ false → standing s (asker_as a) stays a.reclaim ≡ Timely → standing s (asker_as b) other b.reclaim ≡ Timely
+goes_too s a b stays other fresh is = ap (standing s (asker_as b) other) fresh ∙ timely s (asker_as b) other (timely_calm s (asker_as a) stays a.reclaim is)
 
 pub test_foretells : (n : ℕ) (left : Rooms) (s : CoreState) (test lock : Ask) (first last : ℕ) (exclusive : Bool) → IsGood s → is_client lock.owner lock.party ≡ true → is_named lock.owner ≡ true → IsSameAsker test lock
     → test.act ≡ Test (Bytes first last) exclusive → lock.act ≡ Ranges ((Bytes first last, exclusive) ∷ []) → lock.blocking ≡ false → lock.reclaim ≡ false
@@ -159,7 +159,7 @@ test_foretells n left s test lock first last exclusive good client has same test
   goes : enters (stands_alone s test) ≡ true → stands_alone s test ≡ Timely
   goes e = elim (enters_cases (stands_alone s test) e) [
     | inl timely ↦ timely
-    | inr back ↦ absurd (both_ways test.reclaim (same.reclaim ∙ fresh) (reclaims_asks s (recorded_as test.party) false test.reclaim back))
+    | inr back ↦ absurd (both_ways test.reclaim (same.reclaim ∙ fresh) (reclaims_asks s (asker_as test) false test.reclaim back))
   ]
 
   forth : IsConflict (decided n left s test).0 → IsConflict (decided n left s lock).0

@@ -8,9 +8,9 @@ use Rattle.xl_base.specs.Stable.{Stable, same_name, is_recorded}
 use Rattle.xl_base.specs.declared.event.Moment.{Moment}
 use Rattle.xl_base.specs.declared.name.Party.{Party}
 use Rattle.xl_base.specs.declared.stable.Recorded.{Recorded}
-use Rattle.xl_base.proofs.StableLaws.{same_name-sym}
+use Rattle.xl_base.proofs.StableLaws.{same_name-sym, like_left, like_recorded}
 use Rattle.xl_grace.specs.Grace.{Running, is_of, expired, is_back, is_over, shortened}
-use Rattle.xl_grace.proofs.GraceLaws.{same_names}
+use Rattle.xl_grace.proofs.GraceLaws.{like_back}
 use Rattle.xl_matrix.specs.declared.claim.Claim.{Claim}
 use Rattle.xl_names.specs.declared.name.Name.TheVariants.{NfsParty}
 use Rattle.xl_core.specs.State.{CoreState}
@@ -63,17 +63,17 @@ found_left p keep stays (x ∷ xs) same =
 recorded_without : (name gone : Recorded) (names : List Recorded) → is_recorded name (filter (λ held. not (same_name held gone)) names) ≡ (is_recorded name names && not (same_name gone name))
 recorded_without name gone names =
     found_left (λ held. same_name held name) (λ held. not (same_name held gone)) (not (same_name gone name)) names
-    (λ held it. ap (λ (x : Recorded). not (same_name x gone)) (same_names held name it) ∙ ap not (same_name-sym name gone))
+    (λ held it. ap not (like_left held name gone it ∙ same_name-sym name gone))
 
 -- those of whom this holds
-recorded_where : (q : Recorded → Bool) (name : Recorded) (names : List Recorded) → is_recorded name (filter q names) ≡ (is_recorded name names && q name)
-recorded_where q name names = found_left (λ held. same_name held name) q (q name) names (λ held it. ap q (same_names held name it))
+recorded_where : (q : Recorded → Bool) (name : Recorded) (names : List Recorded) → ((held : Recorded) → same_name held name ≡ true → q held ≡ q name) → is_recorded name (filter q names) ≡ (is_recorded name names && q name)
+recorded_where q name names like = found_left (λ held. same_name held name) q (q name) names like
 
 back_without : (name gone : Recorded) (grace : Option Running) → is_back name (expired gone grace) ≡ (is_back name grace && not (same_name gone name))
 back_without name gone None = refl
 back_without name gone (Some g) =
     found_left (λ one. one.reclaimed && is_of name one) (λ one. not (is_of gone one)) (not (same_name gone name)) g.reclaimants
-    (λ one it. ap (λ (x : Recorded). not (same_name x gone)) (same_names one.name name (and_parts one.reclaimed (is_of name one) it).1) ∙ ap not (same_name-sym name gone))
+    (λ one it. ap not (like_left one.name name gone (and_parts one.reclaimed (is_of name one) it).1 ∙ same_name-sym name gone))
 
 -- ---- what an expiry and those behind it make of the record
 
@@ -116,7 +116,7 @@ thin_names s client name =
       | inl has ↦ rw has (recorded_without name gone s.stable.names)
       | inr lacks ↦ rw lacks (elim (cases_Bool (same_name gone name)) [
         | inr other ↦ rw other (sym (and_true (is_recorded name s.stable.names)))
-        | inl same ↦ rw same (ap (λ (x : Recorded). is_recorded x s.stable.names) (sym (same_names gone name same)) ∙ lacks ∙ sym (and_false (is_recorded name s.stable.names)))
+        | inl same ↦ rw same (sym (like_recorded gone name s.stable.names same) ∙ lacks ∙ sym (and_false (is_recorded name s.stable.names)))
       ])
     ]
 
@@ -233,7 +233,7 @@ unfolding end_grace stored
 is_at_end s t u told is over runs ends = record {
   names = λ name.
       ap (λ (x : CoreState). is_recorded name x.stable.names) ends
-      ∙ recorded_where (λ x. is_back x t.grace) name t.stable.names
+      ∙ recorded_where (λ x. is_back x t.grace) name t.stable.names (λ held it. like_back held name t.grace it)
       ∙ ap₂ (λ (a b : Bool). a && b) (is.names name) (is.back name)
       ∙ once (is_recorded name s.stable.names) (has_expired name told) (is_back name s.grace)
       ∙ ap (λ (b : Bool). (is_recorded name s.stable.names && not (has_expired name told)) && (not b || is_back name s.grace)) (sym gone);

@@ -11,7 +11,7 @@ use Rattle.xl_matrix.specs.declared.claim.Extent.{Extent}
 use Rattle.xl_table.specs.Elements.{element_held}
 use Rattle.xl_core.specs.Judge.{all_granted, held_with, held_then, blocks_its_cache, reclaim_blocker, to_record}
 use Rattle.xl_core.specs.Decide.{beside_of, is_back}
-use Rattle.xl_core.specs.Standings.{recorded_as, recorded_at, stands, stands_alone, enters}
+use Rattle.xl_core.specs.Standings.{asker_as, waiter_as, stores_name, stands, stands_alone, enters}
 use Rattle.xl_core.specs.Stores.{may_record, unrecorded, bytes_with, record_left}
 use Rattle.xl_base.specs.declared.stable.Recorded.{Recorded}
 use Rattle.xl_core.specs.declared.standings.Standing.{Standing}
@@ -43,7 +43,7 @@ use Rattle.xl_wait.specs.Waiting.{cancelled}
 
 -- the limits of an ask's grant, and of its wait (CORE-5)
 abbrev pub limits_of_grant : Rooms → CoreState → Ask → Claim → List (ℕ × Bool)
-limits_of_grant left s a claim = grant_limits left a.rows (held_then (beside_of a.reclaim a.wish) claim s.claims) (bytes_with (unrecorded a.monitored (recorded_as a.party) s.stable) s.stable) (length (both_entered a s.names))
+limits_of_grant left s a claim = grant_limits left a.rows (held_then (beside_of a.reclaim a.wish) claim s.claims) (bytes_with (unrecorded (stores_name a) (asker_as a) s.stable) s.stable) (length (both_entered a s.names))
 
 -- the limits that the ask's wait would meet (CORE-5)
 abbrev pub limits_of_wait : Rooms → CoreState → Ask → List (ℕ × Bool)
@@ -77,9 +77,9 @@ IsAgainst Timely s a claim c = (a.blocking ≡ false) × (least s.names (blocker
 IsAgainst Reclaims s a claim c = (reclaim_blocker (beside_of a.reclaim a.wish) claim s ≡ Some c) × IsIn c s.claims × (blocks_either a claim c ≡ true)
 IsAgainst _ s a claim c = ⊥
 
--- the name that the record lacks, if the ask is monitored and its client may be recorded
+-- the name that is to be recorded with its mark, if the ask is monitored and no reclaim, and its client may be recorded
 abbrev pub wanted : CoreState → Ask → Option Recorded
-wanted s a = unrecorded a.monitored (recorded_as a.party) s.stable
+wanted s a = unrecorded (stores_name a) (asker_as a) s.stable
 
 -- Why a share or a lock is, if n stores of the step succeed. What grace lets in and nothing held blocks is granted, if no limit
 -- is passed, and its client is recorded or can be. While grace runs a request of SMB waits, and all else but a reclaim is told its
@@ -203,7 +203,7 @@ held_once asked answer held = held
 
 -- what is to be recorded before a waiter is granted what it waits for: the name of one who is monitored, if the record lacks it
 abbrev pub name_waiting : CoreState → Waiter → Option Recorded
-name_waiting s w = unrecorded w.monitored (recorded_at s.names w.party) s.stable
+name_waiting s w = unrecorded w.monitored (waiter_as s.names w) s.stable
 
 -- what is told of claims that nothing stops, of which this is the first: they are granted, or the store failed that was wanted
 -- first

@@ -13,7 +13,7 @@ use Rattle.xl_core.specs.Askers.{asking_party, both_entered, asked_whats, asked_
 use Rattle.xl_table.specs.Least.{least}
 use Rattle.xl_core.specs.Blockers.{test_blockers}
 use Rattle.xl_core.specs.Judge.{judged}
-use Rattle.xl_core.specs.Standings.{recorded_as, stands, stands_alone, refusal}
+use Rattle.xl_core.specs.Standings.{recorded_as, asker_as, stores_name, stands, stands_alone, refusal}
 use Rattle.xl_core.specs.Stores.{unrecorded}
 use Rattle.xl_grace.specs.Grace.{reclaimed}
 use Rattle.xl_core.specs.Ways.{made_way}
@@ -48,7 +48,7 @@ beside_of _ _ = None
 unfoldable pub plea_of : Rooms → CoreState → Ask → Plea
 plea_of left s a =
     let kept = length (both_entered a s.names) in
-    record { blocking = a.blocking; awaits = a.awaits; standing = stands s a; beside = beside_of a.reclaim a.wish; unrecorded = unrecorded a.monitored (recorded_as a.party) s.stable; rows = a.rows; kept = kept; crowded = first_passed (wait_limits left a.rows (length s.waiters) kept) }
+    record { blocking = a.blocking; awaits = a.awaits; standing = stands s a; beside = beside_of a.reclaim a.wish; unrecorded = unrecorded (stores_name a) (asker_as a) s.stable; rows = a.rows; kept = kept; crowded = first_passed (wait_limits left a.rows (length s.waiters) kept) }
 
 -- one who waits counts among the hosts from then on (CORE-6)
 abbrev pub waiting_rows : Rooms → Rooms
@@ -56,7 +56,7 @@ waiting_rows rows = record { hosts = 0; owners = rows.owners; opens = rows.opens
 
 -- this party waits under this number for these claims
 abbrev pub waiter_of : ℕ → Ask → Party → List Claim → Waiter
-waiter_of id a party claims = record { id = id; party = party; conn = a.conn; asked = claims; wish = a.wish; blocking = a.blocking; monitored = a.monitored; rows = waiting_rows a.rows }
+waiter_of id a party claims = record { id = id; party = party; conn = a.conn; asked = claims; wish = a.wish; blocking = a.blocking; monitored = stores_name a; mark = a.mark; rows = waiting_rows a.rows }
 
 -- the names of the ask are kept
 abbrev pub named : Ask → CoreState → CoreState

@@ -20,7 +20,7 @@ use Rattle.xl_core.specs.State.{CoreState}
 use Rattle.xl_core.specs.BreaksBegun.{idle_caches}
 use Rattle.xl_core.specs.Good.{AllBehind, holds_up}
 use Rattle.xl_core.specs.Judge.{Ruled, judged}
-use Rattle.xl_core.specs.Standings.{recorded_at, standing_again}
+use Rattle.xl_core.specs.Standings.{waiter_as, standing_again}
 use Rattle.xl_core.specs.Stores.{unrecorded}
 use Rattle.xl_core.specs.Ways.{made_way}
 use Rattle.xl_core.specs.Wishes.{wish_for}
@@ -38,7 +38,7 @@ use Rattle.xl_core.specs.declared.judge.Ruling.TheVariants.{Gets, Waits, Told}
 -- what a waiter pleads: its names are kept already, it waits for answers and for the end of grace, it reclaims nothing, and its wait
 -- passes no limit (CORE-1)
 unfoldable pub plea_again : CoreState → Waiter → Plea
-plea_again s w = record { blocking = w.blocking; awaits = true; standing = standing_again s; beside = None; unrecorded = unrecorded w.monitored (recorded_at s.names w.party) s.stable; rows = w.rows; kept = length s.names; crowded = None }
+plea_again s w = record { blocking = w.blocking; awaits = true; standing = standing_again s; beside = None; unrecorded = unrecorded w.monitored (waiter_as s.names w) s.stable; rows = w.rows; kept = length s.names; crowded = None }
 
 -- it waits on, and nothing begins
 abbrev pub rests : Ruling → List Effect → Bool

@@ -34,6 +34,7 @@ smallest_lock = record {
   awaits = false;
   reclaim = false;
   monitored = false;
+  mark = None;
   rows = record { hosts = 1; owners = 0; opens = 0 };
 }
 

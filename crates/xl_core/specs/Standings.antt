@@ -1,16 +1,18 @@
 -- How one who asks stands to the grace that runs (RFC 7530 9.6.2, 9.6.3).
-use Rattle.std.specs.Prelude.{Bool, true, false, if◌then◌else◌, List, [], Option, Some, None, is_some}
+use Rattle.std.specs.Prelude.{Bool, true, false, not, ◌&&◌, if◌then◌else◌, List, [], Option, Some, None, is_some}
 use Rattle.std.specs.List.{slice_get}
 use Rattle.xl_base.specs.declared.event.Moment.{Moment}
 use Rattle.xl_base.specs.declared.name.Party.{Party}
 use Rattle.xl_base.specs.declared.name.Party.TheVariants as parties
 use Rattle.xl_base.specs.declared.name.Protocol.TheVariants.{Nlm, Nfs, Smb}
+use Rattle.xl_base.specs.declared.stable.Mark.{Mark}
 use Rattle.xl_base.specs.declared.stable.Recorded.{Recorded}
 use Rattle.xl_grace.specs.Grace.{admission}
 use Rattle.xl_grace.specs.declared.grace.Admission.{Admission}
 use Rattle.xl_grace.specs.declared.grace.Admission.TheVariants.{Enters, Grace, NoGrace, NotRecorded}
 use Rattle.xl_names.specs.declared.name.Name.{Name}
 use Rattle.xl_names.specs.declared.name.Name.TheVariants.{NlmParty, NfsParty}
+use Rattle.xl_wait.specs.declared.waiter.Waiter.{Waiter}
 use Rattle.xl_core.specs.State.{CoreState}
 use Rattle.xl_core.specs.declared.ask.Answer.{Answer}
 use Rattle.xl_core.specs.declared.ask.Ask.{Ask}
@@ -24,12 +26,12 @@ use Rattle.xl_core.specs.declared.standings.Standing.TheVariants.{Timely, Reclai
 
 -- what stands for a client that no record has
 abbrev pub nobody : Recorded
-nobody = record { protocol = Smb; name = [] }
+nobody = record { protocol = Smb; name = []; mark = None }
 
 -- a client of NLM or NFSv4, as the record names it
 abbrev pub recorded_name : Name → Recorded
-recorded_name (NlmParty caller) = record { protocol = Nlm; name = caller }
-recorded_name (NfsParty id) = record { protocol = Nfs; name = id }
+recorded_name (NlmParty caller) = record { protocol = Nlm; name = caller; mark = None }
+recorded_name (NfsParty id) = record { protocol = Nfs; name = id; mark = None }
 recorded_name _ = nobody
 
 abbrev pub recorded_as : Who → Recorded
@@ -44,6 +46,21 @@ recorded_by (Some name) = recorded_name name
 abbrev pub recorded_at : List Name → Party → Recorded
 recorded_at names (parties.Name protocol number) = recorded_by (slice_get names number)
 recorded_at names (parties.Open number) = nobody
+
+-- a client with the mark that it comes with
+abbrev pub marked : Recorded → Option Mark → Recorded
+marked name mark = record { protocol = name.protocol; name = name.name; mark = mark }
+
+-- one who asks, and one who waits
+abbrev pub asker_as : Ask → Recorded
+asker_as a = marked (recorded_as a.party) a.mark
+
+abbrev pub waiter_as : List Name → Waiter → Recorded
+waiter_as names w = marked (recorded_at names w.party) w.mark
+
+-- the asker's name is to be recorded before a grant: it is monitored, and reclaims nothing
+abbrev pub stores_name : Ask → Bool
+stores_name a = a.monitored && not a.reclaim
 
 -- it is of SMB, whose requests wait while grace runs
 abbrev pub is_smb : Who → Bool
@@ -60,18 +77,18 @@ standing_by stays reclaim clock NoGrace = Late clock
 standing_by stays reclaim clock NotRecorded = Unrecorded
 
 -- What grace makes of an ask of this client, which waits for the end of grace or not, and is a reclaim or not: out of grace
--- a reclaim comes too late; in grace a reclaim enters if its client is recorded, and what is no reclaim waits or is
+-- a reclaim comes too late; in grace a reclaim enters if its client is recorded and its mark agrees, and what is no reclaim waits or is
 -- refused (CORE-17).
 unfoldable pub standing : CoreState → Recorded → Bool → Bool → Standing
 standing s name stays reclaim = standing_by stays reclaim s.clock (admission s.grace name reclaim)
 
 -- the same of an ask for a share or for ranges, which waits for the end of grace if it is of SMB
 abbrev pub stands : CoreState → Ask → Standing
-stands s a = standing s (recorded_as a.party) (is_smb a.party) a.reclaim
+stands s a = standing s (asker_as a) (is_smb a.party) a.reclaim
 
 -- the same of a test or of a wish by itself, which never waits
 abbrev pub stands_alone : CoreState → Ask → Standing
-stands_alone s a = standing s (recorded_as a.party) false a.reclaim
+stands_alone s a = standing s (asker_as a) false a.reclaim
 
 -- one who waits already waits on while grace runs
 abbrev pub standing_again : CoreState → Standing

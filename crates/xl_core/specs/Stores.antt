@@ -3,7 +3,7 @@ use Rattle.std.specs.Prelude.{◌≡◌, ℕ, ◌+◌, ◌-◌, ◌≤◌, Bool,
 use Rattle.std.specs.List.{filter}
 use Rattle.xl_base.specs.Outside.{Rose}
 use Rattle.xl_base.specs.RecordFile.{record_text, with_name}
-use Rattle.xl_base.specs.Stable.{Stable, same_name, is_recorded, is_recordable}
+use Rattle.xl_base.specs.Stable.{Stable, same_name, is_kept, is_recordable}
 use Rattle.xl_base.specs.declared.name.Protocol.TheVariants.{Nfs}
 use Rattle.xl_base.specs.declared.stable.Recorded.{Recorded}
 use Rattle.xl_core.specs.State.{CoreState}
@@ -28,15 +28,16 @@ store_failed stable s = if s.failed then s else record s { failed = true; given 
 
 -- the name of an NFSv4 client in the record
 abbrev pub client_name : List ℕ → Recorded
-client_name id = record { protocol = Nfs; name = id }
+client_name id = record { protocol = Nfs; name = id; mark = None }
 
 -- the record without the name
 abbrev pub without_name : Recorded → Stable → Stable
 without_name name stable = record { epoch = stable.epoch; names = filter (λ held. not (same_name held name)) stable.names }
 
--- the name that is to be recorded before a grant: of one who is monitored (XNFS C702, NLM_LOCK), if the record lacks it
+-- the name that is to be recorded before a grant, with its mark: of one whose name is stored (XNFS C702, NLM_LOCK), if the record
+-- lacks it, or keeps none of its marks or another
 abbrev pub unrecorded : Bool → Recorded → Stable → Option Recorded
-unrecorded monitored name stable = if monitored && (is_recordable name && not (is_recorded name stable.names)) then Some name else None
+unrecorded stores name stable = if stores && (is_recordable name && not (is_kept name stable.names)) then Some name else None
 
 -- the bytes of the record once the name is in it, or none if none is to be recorded
 abbrev pub bytes_with : Option Recorded → Stable → ℕ

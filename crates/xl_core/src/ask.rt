@@ -2,7 +2,7 @@
 ghost use Rattle.std.specs.Prelude.{◌≡◌};
 ghost use Rattle.xl_core.specs.Told.{party_protocol, told_to};
 
-use xl_base::{Moment, Party, Protocol, Sequence};
+use xl_base::{Mark, Moment, Party, Protocol, Sequence};
 use xl_matrix::{CacheKind, Claim, Extent, Rwd};
 use xl_names::Name;
 use xl_wait::Rooms;
@@ -55,8 +55,11 @@ pub struct Ask {
     pub awaits: bool,
     /// Whether it claims again what it had before a restart (RFC 7530 9.6.2).
     pub reclaim: bool,
-    /// Whether the party's name is to be recorded before the grant.
+    /// Whether the party's name is to be recorded before the grant, unless the ask is a reclaim.
     pub monitored: bool,
+    /// What the party is recorded with, and what a reclaim is checked against: the verifier of an NFSv4 client, the state of an
+    /// NLM client's host; None if the message has none.
+    pub mark: Option<Mark>,
     /// The rows that a grant adds to the tables of the fronts.
     pub rows: Rooms,
 }
@@ -79,7 +82,7 @@ pub enum Answer {
     Grace(Moment),
     /// A reclaim while no grace runs; the clock.
     NoGrace(Moment),
-    /// A reclaim in grace by a client that isn't recorded.
+    /// A reclaim in grace by a client that isn't recorded, or whose mark doesn't agree with the kept one.
     NotRecorded,
     /// A table would have more rows than this, its limit; of several limits the least.
     Full(u32),

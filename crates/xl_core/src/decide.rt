@@ -24,7 +24,7 @@ use crate::blockers::Passage;
 use crate::judge::{Plea, Ruling, judge_all};
 use crate::limits::{passed_by_wait, passed_by_wish};
 use crate::parts::Parts;
-use crate::standings::{is_smb, recorded_as, refusal, standing_of};
+use crate::standings::{asker_as, is_smb, recorded_as, refusal, standing_of, stores_name};
 use crate::stores::unrecorded;
 use crate::ways::make_way;
 use crate::wishes::grant_for;
@@ -56,13 +56,9 @@ fn plea_of(alloc: Global, parts: &Parts, left: &Rooms, ask: &Ask) -> Result<Plea
     Ok(Plea {
         blocking: ask.blocking,
         awaits: ask.awaits,
-        standing: standing_of(alloc, parts, &ask.party, is_smb(&ask.party), ask.reclaim)?,
+        standing: standing_of(alloc, parts, ask, is_smb(&ask.party))?,
         beside: beside_of(ask),
-        unrecorded: unrecorded(
-            &parts.stable,
-            ask.monitored,
-            recorded_as(alloc, &ask.party)?,
-        ),
+        unrecorded: unrecorded(&parts.stable, stores_name(ask), asker_as(alloc, ask)?),
         rows: ask.rows,
         kept,
         crowded: passed_by_wait(left, &ask.rows, parts.queue.len(), kept),
@@ -96,7 +92,8 @@ fn waiter_of(
         asked: Sequence::from_slice(alloc, claims)?,
         wish: Sequence::from_slice(alloc, ask.wish.as_slice())?,
         blocking: ask.blocking,
-        monitored: ask.monitored,
+        monitored: stores_name(ask),
+        mark: ask.mark,
         rows: Rooms {
             hosts: 0,
             owners: ask.rows.owners,
@@ -169,7 +166,7 @@ fn ask_claims<K: Keeper>(
 fn test(alloc: Global, parts: &Parts, ask: &Ask, claim: &Claim) -> Result<Answer, AllocError>
     ensures { IfOk result (λ answer. answer ≡ tested (state_of parts.now) ask.now claim.now) }
 {
-    if let Some(answer) = refusal(standing_of(alloc, parts, &ask.party, false, ask.reclaim)?) {
+    if let Some(answer) = refusal(standing_of(alloc, parts, ask, false)?) {
         return Ok(answer);
     }
     Ok(match parts.table.least_range(alloc, &parts.names, claim)? {
@@ -329,7 +326,7 @@ fn wish_alone(
     let [kind, ..] = ask.wish.as_slice() else {
         return Ok(Answer::NotHeld);
     };
-    if let Some(answer) = refusal(standing_of(alloc, parts, &ask.party, false, ask.reclaim)?) {
+    if let Some(answer) = refusal(standing_of(alloc, parts, ask, false)?) {
         return Ok(answer);
     }
     let claim = asked_claim(&parts.names, ask, What::Cache(*kind, None));

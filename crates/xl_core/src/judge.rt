@@ -6,7 +6,7 @@ ghost use Rattle.xl_table.specs.Relock.{granted_claims, most_claims};
 ghost use Rattle.xl_wait.specs.declared.waiter.Waiter.{Waiter};
 ghost use Rattle.xl_core.specs.Blockers.{passage_of, IsKnown};
 ghost use Rattle.xl_core.specs.Judge.{after, check_grace, check_reclaim, check_row, recorded_by, record_name, enter_all, stopped, waits, check_held, kept_off, check_caches, check_room, at_once, judged, or_else, stop_of, stop_by, first_stop, stop_left, IsRow, IsFew};
-ghost use Rattle.xl_base.specs.Stable.{is_recordable, is_recorded};
+ghost use Rattle.xl_base.specs.Stable.{is_recordable};
 ghost use Rattle.xl_core.specs.State.{CoreState, MayBe, GoesOn};
 ghost use Rattle.xl_core.specs.Stores.{HandsOn};
 ghost use Rattle.xl_core.specs.declared.ask.Answer.TheVariants.{StoreFailed};
@@ -49,7 +49,7 @@ pub(crate) struct Plea {
     pub standing: Standing,
     /// The cache that is reclaimed with what is asked for.
     pub beside: Option<CacheKind>,
-    /// The name that is to be recorded before the grant.
+    /// The name that is to be recorded before the grant, with its mark.
     pub unrecorded: Option<Recorded>,
     /// The rows of the fronts' tables that its grant adds.
     pub rows: Rooms,
@@ -296,7 +296,7 @@ fn record_name<K: Keeper>(
     keeper: &mut K,
     plea: &Plea,
 ) -> Result<bool, AllocError>
-    requires new { IfSome plea.now.unrecorded (λ name. (is_recordable name ≡ true) × (is_recorded name parts.old.stable.names ≡ false)) }
+    requires new { IfSome plea.now.unrecorded (λ name. is_recordable name ≡ true) }
     ensures recorded { (n : ℕ) → IfOk result (λ ok. MayBe n (state_of parts.new) → recorded_by n plea.now.unrecorded (state_of parts.old) ≡ (if ok then None else Some (Told StoreFailed), [], state_of parts.new)) }
     ensures table { OnOk result (parts.new.table ≡ parts.old.table) }
     ensures queue { OnOk result (parts.new.queue ≡ parts.old.queue) }
@@ -329,7 +329,7 @@ fn judge_alone<K: Keeper>(
     requires known { IfSome known (λ passage. passage ≡ passage_of [] (state_of parts.old) claim.now) }
     requires grantable { IsGrantable claim.now }
     requires party { AllByRecursion (λ c. has_one_party claim.now c ≡ true) parts.old.table }
-    requires new { IfSome plea.now.unrecorded (λ name. (is_recordable name ≡ true) × (is_recorded name parts.old.stable.names ≡ false)) }
+    requires new { IfSome plea.now.unrecorded (λ name. is_recordable name ≡ true) }
     ensures ruled { (n : ℕ) (earlier : List Waiter) → IfOk result (λ r. MayBe n (state_of parts.new) → after (check_row earlier left.now plea.now (claim.now ∷ [])) (after (record_name n plea.now (claim.now ∷ [])) (enter_all (claim.now ∷ []))) (state_of parts.old) ≡ (r, [], state_of parts.new)) }
     ensures few { result ≡ Ok Gets → IsFew plea.now (claim.now ∷ []) }
     ensures waits { result ≡ Ok Waits → plea.now.crowded ≡ None }
@@ -368,7 +368,7 @@ pub(crate) fn judge_all<K: Keeper>(
     requires known { IsKnown known (state_of parts.old) claims.now }
     requires row { IsRow claims.now }
     requires party { AllByRecursion (λ c. AllByRecursion (λ d. has_one_party c d ≡ true) parts.old.table) claims.now }
-    requires new { IfSome plea.now.unrecorded (λ name. (is_recordable name ≡ true) × (is_recorded name parts.old.stable.names ≡ false)) }
+    requires new { IfSome plea.now.unrecorded (λ name. is_recordable name ≡ true) }
     ensures judged { (n : ℕ) (earlier : List Waiter) → IfOk result (λ r. MayBe n (state_of parts.new) → judged n earlier left.now plea.now claims.now (state_of parts.old) ≡ (r, [], state_of parts.new)) }
     ensures few { result ≡ Ok Gets → IsFew plea.now claims.now }
     ensures waits { result ≡ Ok Waits → plea.now.crowded ≡ None }

@@ -29,7 +29,7 @@ fn first_passed(limits: &[(u32, bool)]) -> Option<u32>
 }
 
 /// The bytes of a record, at most.
-const MOST_RECORD_BYTES: u32 = 65_536;
+const MOST_RECORD_BYTES: u32 = xl_base::MOST_RECORD_BYTES as u32;
 
 /// The least limit that a grant passes, if so many claims are held, bytes are in the record that is stored for it, and names
 /// are kept afterwards. Of claims and bytes 2^64 - 1 stands for more as well.

@@ -19,7 +19,7 @@ use crate::blockers::{Passage, first_broken, look};
 use crate::judge::{Plea, Ruling, judge_all};
 use crate::parts::Parts;
 use crate::passed::{NOBODY, Passed, frees_nobody, known_on, passed_then};
-use crate::standings::{recorded_at, standing_again};
+use crate::standings::{marked, recorded_at, standing_again};
 use crate::stores::unrecorded;
 use crate::unsettled::{Unsettled, is_among, only_file};
 use crate::ways::make_way;
@@ -57,7 +57,10 @@ fn plea_again(alloc: Global, parts: &Parts, waiter: &Waiter) -> Result<Plea, All
         unrecorded: unrecorded(
             &parts.stable,
             waiter.monitored,
-            recorded_at(alloc, &parts.names, waiter.party)?,
+            marked(
+                recorded_at(alloc, &parts.names, waiter.party)?,
+                &waiter.mark,
+            ),
         ),
         rows: waiter.rows,
         kept: parts.names.as_slice().len(),

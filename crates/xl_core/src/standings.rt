@@ -1,12 +1,12 @@
 //! How one who asks stands to the grace that runs (RFC 7530 9.6.2, 9.6.3).
 ghost use Rattle.std.specs.Prelude.{◌≡◌, IfOk, option_copied};
-ghost use Rattle.xl_core.specs.Standings.{nobody, recorded_name, recorded_as, recorded_by, recorded_at, is_smb, standing_by, standing, standing_again, refusal, is_timely};
+ghost use Rattle.xl_core.specs.Standings.{nobody, recorded_name, recorded_as, recorded_by, recorded_at, marked, asker_as, stores_name, is_smb, standing_by, standing, standing_again, refusal, is_timely};
 ghost use Rattle.xl_core.specs.Whole.{state_of};
 
-use crate::ask::{Answer, Who};
+use crate::ask::{Answer, Ask, Who};
 use crate::parts::Parts;
 use std::alloc::{AllocError, Global};
-use xl_base::{Moment, Party, Protocol, Recorded, Sequence};
+use xl_base::{Mark, Moment, Party, Protocol, Recorded, Sequence};
 use xl_grace::Admission;
 use xl_names::{Name, Names};
 
@@ -15,7 +15,7 @@ use xl_names::{Name, Names};
 pub(crate) enum Standing {
     /// No grace runs, and it reclaims nothing.
     Timely,
-    /// It reclaims in grace, and its client is recorded.
+    /// It reclaims in grace, and its client is recorded with a mark that agrees.
     Reclaims,
     /// It waits for the end of grace.
     Stays,
@@ -23,7 +23,7 @@ pub(crate) enum Standing {
     Early(Moment),
     /// It is a reclaim, and no grace runs; the clock.
     Late(Moment),
-    /// It is a reclaim in grace by a client that isn't recorded.
+    /// It is a reclaim in grace by a client that isn't recorded, or whose mark doesn't agree with the kept one.
     Unrecorded,
 }
 
@@ -34,6 +34,7 @@ fn nobody(alloc: Global) -> Recorded
     Recorded {
         protocol: Protocol::Smb,
         name: Sequence::new(alloc),
+        mark: None,
     }
 }
 
@@ -45,10 +46,12 @@ fn recorded_name(alloc: Global, name: &Name) -> Result<Recorded, AllocError>
         Name::NlmParty(caller) => Ok(Recorded {
             protocol: Protocol::Nlm,
             name: Sequence::from_slice(alloc, caller.as_slice())?,
+            mark: None,
         }),
         Name::NfsParty(id) => Ok(Recorded {
             protocol: Protocol::Nfs,
             name: Sequence::from_slice(alloc, id.as_slice())?,
+            mark: None,
         }),
         _ => Ok(nobody(alloc)),
     }
@@ -64,7 +67,32 @@ pub(crate) fn recorded_as(alloc: Global, who: &Who) -> Result<Recorded, AllocErr
     }
 }
 
-/// The same of a party by its number.
+/// A client with the mark that it comes with.
+pub(crate) fn marked(name: Recorded, mark: &Option<Mark>) -> Recorded
+    ensures { result ≡ marked name mark.now }
+{
+    Recorded {
+        protocol: name.protocol,
+        name: name.name,
+        mark: *mark,
+    }
+}
+
+/// One who asks, with its mark.
+pub(crate) fn asker_as(alloc: Global, ask: &Ask) -> Result<Recorded, AllocError>
+    ensures { IfOk result (λ r. r ≡ asker_as ask.now) }
+{
+    Ok(marked(recorded_as(alloc, &ask.party)?, &ask.mark))
+}
+
+/// Whether the asker's name is to be recorded before a grant: it is monitored, and reclaims nothing.
+pub(crate) fn stores_name(ask: &Ask) -> bool
+    ensures { result ≡ stores_name ask.now }
+{
+    ask.monitored && !ask.reclaim
+}
+
+/// A party by its number, as the record names it.
 pub(crate) fn recorded_at(
     alloc: Global,
     names: &Names,
@@ -104,26 +132,25 @@ fn standing_by(stays: bool, reclaim: bool, clock: Moment, admission: Admission) 
     }
 }
 
-/// What grace makes of an ask, which waits for the end of grace or not, and is a reclaim or not.
+/// What grace makes of an ask, which waits for the end of grace or not.
 #[tactic(auto, unfolding(crate::specs::Standings::standing), using(crate::proofs::StandingLaws::timely_so))]
 pub(crate) fn standing_of(
     alloc: Global,
     parts: &Parts,
-    who: &Who,
+    ask: &Ask,
     stays: bool,
-    reclaim: bool,
 ) -> Result<Standing, AllocError>
-    ensures { IfOk result (λ r. r ≡ standing (state_of parts.now) (recorded_as who.now) stays reclaim) }
+    ensures { IfOk result (λ r. r ≡ standing (state_of parts.now) (asker_as ask.now) stays ask.now.reclaim) }
 {
-    if !reclaim && !parts.grace.runs() {
+    if !ask.reclaim && !parts.grace.runs() {
         return Ok(Standing::Timely);
     }
-    let name = recorded_as(alloc, who)?;
+    let name = asker_as(alloc, ask)?;
     Ok(standing_by(
         stays,
-        reclaim,
+        ask.reclaim,
         parts.clock,
-        parts.grace.may_enter(&name, reclaim),
+        parts.grace.may_enter(&name, ask.reclaim),
     ))
 }
 

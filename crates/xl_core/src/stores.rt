@@ -1,6 +1,6 @@
 //! The stores of a step, and what is stored.
 ghost use Rattle.std.specs.Prelude.{◌≡◌, ℕ, ◌-◌, ◌^◌, if◌then◌else◌, min, Ok, true, OnOk, IfOk, false, not};
-ghost use Rattle.xl_base.specs.RecordFile.{with_name};
+ghost use Rattle.xl_base.specs.RecordFile.{added, with_name};
 ghost use Rattle.xl_base.specs.Stable.{same_name, is_recordable, is_recorded};
 ghost use Rattle.xl_core.specs.State.{MayBe, GoesOn};
 ghost use Rattle.xl_core.specs.Stores.{may_store, stored, store_failed, client_name, without_name, unrecorded, bytes_with, HandsOn};
@@ -11,7 +11,7 @@ ghost use Rattle.xl_core.specs.Whole.{state_of};
 use crate::parts::Parts;
 use std::alloc::{AllocError, Global};
 use xl_base::{
-    Keeper, Protocol, Record, RecordNameError, Recorded, Sequence, StoreOutcome, record_length,
+    Keeper, Protocol, Record, RecordNameError, Recorded, Sequence, StoreOutcome, length_with,
 };
 
 /// Gives the keeper this record, unless a store of this step failed, and whether it is stored. The memory that the store
@@ -46,12 +46,12 @@ pub(crate) fn store<K: Keeper>(
     }
 }
 
-/// The name that is to be recorded before a grant: of one who is monitored, if the record lacks it.
-pub(crate) fn unrecorded(stable: &Record, monitored: bool, name: Recorded) -> Option<Recorded>
-    ensures { result ≡ unrecorded monitored name stable.now }
+/// The name that is to be recorded before a grant, with its mark: of one whose name is stored, if the record lacks it, or keeps
+/// none of its marks or another.
+pub(crate) fn unrecorded(stable: &Record, stores: bool, name: Recorded) -> Option<Recorded>
+    ensures { result ≡ unrecorded stores name stable.now }
 {
-    let is_recordable = !matches!(name.protocol, Protocol::Smb);
-    if monitored && is_recordable && !stable.contains(&name) {
+    if stores && name.is_recordable() && !stable.keeps(&name) {
         Some(name)
     } else {
         None
@@ -59,32 +59,29 @@ pub(crate) fn unrecorded(stable: &Record, monitored: bool, name: Recorded) -> Op
 }
 
 /// The bytes of the record once the name is in it, or none if none is to be recorded; at most 2^64 - 1.
-#[tactic(auto, using(crate::proofs::StoreLaws::bytes_more))]
 pub(crate) fn bytes_with(stable: &Record, name: &Option<Recorded>) -> u64
     ensures { result ≡ min (bytes_with name.now stable.now) (2 ^ 64 - 1) }
 {
     match name {
-        Some(name) => record_length(stable)
-            .saturating_add(3)
-            .saturating_add(name.name.len() as u64),
+        Some(name) => length_with(stable, name),
         None => 0,
     }
 }
 
-/// The record with one name more, which it lacks.
+/// The record with this name and its mark, in its place or behind the others.
 pub(crate) fn with_name(
     alloc: Global,
     stable: &Record,
     name: Recorded,
 ) -> Result<Record, AllocError>
-    requires { (is_recordable name ≡ true) × (is_recorded name stable.now.names ≡ false) }
+    requires { is_recordable name ≡ true }
     ensures { IfOk result (λ r. r ≡ with_name name stable.now) }
 {
     let mut longer = stable.copy(alloc)?;
-    match longer.add(name) {
+    match longer.put(name) {
         Ok(()) => Ok(longer),
         Err(RecordNameError::NoMemory) => Err(AllocError),
-        Err(RecordNameError::Smb | RecordNameError::Twice) => unreachable!(),
+        Err(RecordNameError::Unfit | RecordNameError::Twice) => unreachable!(),
     }
 }
 
@@ -95,13 +92,14 @@ pub(crate) fn client_name(alloc: Global, id: &[u8]) -> Result<Recorded, AllocErr
     Ok(Recorded {
         protocol: Protocol::Nfs,
         name: Sequence::from_slice(alloc, id)?,
+        mark: None,
     })
 }
 
 fn is_other(a: &Recorded, b: &Recorded) -> bool
     ensures { result ≡ not (same_name a.now b.now) }
 {
-    *a != *b
+    !a.has_name_of(b)
 }
 
 /// The record without the name.
@@ -126,11 +124,11 @@ pub(crate) fn without_name(
 /// Adds a name that a client of NFSv4 or NLM has and that isn't among the others.
 fn add(stable: &mut Record, name: Recorded) -> Result<(), AllocError>
     requires { (is_recordable name ≡ true) × (is_recorded name stable.old.names ≡ false) }
-    ensures { OnOk result (stable.new ≡ with_name name stable.old) }
+    ensures { OnOk result (stable.new ≡ added name stable.old) }
 {
     match stable.add(name) {
         Ok(()) => Ok(()),
         Err(RecordNameError::NoMemory) => Err(AllocError),
-        Err(RecordNameError::Smb | RecordNameError::Twice) => unreachable!(),
+        Err(RecordNameError::Unfit | RecordNameError::Twice) => unreachable!(),
     }
 }

@@ -2,8 +2,9 @@
 use Rattle.std.proofs.Common.{◌≡◌, ℕ, ◌≤◌, Bool, true, false, not, inl, inr, List, Option, Some, None, Result, Ok, Err, is_some, ◌↔◌, refl, sym, ap, subst, ◌∙◌}
 use Rattle.std.proofs.lemmas.Bool.{cases_Bool, both_ways}
 use Rattle.std.proofs.lemmas.Option.{same_Some}
-use Rattle.xl_base.specs.Stable.{is_recorded}
 use Rattle.xl_base.specs.declared.event.Moment.{Moment}
+use Rattle.xl_base.specs.declared.stable.Recorded.{Recorded}
+use Rattle.xl_grace.specs.Grace.{is_known}
 use Rattle.xl_matrix.specs.declared.claim.Claim.{Claim}
 use Rattle.xl_matrix.specs.declared.claim.Extent.TheVariants.{Bytes}
 use Rattle.xl_matrix.specs.declared.claim.What.{What}
@@ -19,7 +20,7 @@ use Rattle.xl_core.specs.Causes.{IsTestDue, asks_claims}
 use Rattle.xl_core.specs.Decide.{ask}
 use Rattle.xl_core.specs.Good.{IsGood}
 use Rattle.xl_core.specs.Knowing.{KnowsRecord}
-use Rattle.xl_core.specs.Standings.{is_smb, recorded_as}
+use Rattle.xl_core.specs.Standings.{is_smb, asker_as}
 use Rattle.xl_core.specs.State.{CoreState}
 use Rattle.xl_core.specs.declared.ask.Answer.{Answer}
 use Rattle.xl_core.specs.declared.ask.Answer.TheVariants as answers
@@ -31,7 +32,7 @@ use Rattle.xl_front_nlm.proofs.StatusLaws.{status_due}
 use Rattle.xl_front_nlm.specs.Aims.{exported, last_of, aimed, aimed_at, aimed_in}
 use Rattle.xl_front_nlm.specs.Asking.{reclaims}
 use Rattle.xl_front_nlm.specs.Asks.{test_ask, lock_ask, rights_of, share_ask, unlock_ask}
-use Rattle.xl_front_nlm.specs.Graces.{caller_as, IsAmiss, IsGraceDue}
+use Rattle.xl_front_nlm.specs.Graces.{named_by, IsAmiss, IsGraceDue}
 use Rattle.xl_front_nlm.specs.Hosts.{rooms, host_rows}
 use Rattle.xl_front_nlm.specs.Results.{answer_status, status_of}
 use Rattle.xl_front_nlm.specs.Serving.{CallPlan, asks, at_bytes, on_file, lock_plan, planned, host_of, served}
@@ -83,7 +84,7 @@ test_amiss n left s a at = (λ e. elim (cases_Bool (is_some s.grace)) [ inl runs
 
   never : is_some s.grace ≡ false → (answer : Answer) → IsTestDue s (test_ask a at) claim answer → answer_status answer ≡ stats.DeniedGracePeriod → ⊥
   never none (answers.Grace until) due e =
-      let is = sym (timely s (recorded_as (test_ask a at).party) false (no_grace s.grace none)) ∙ due in
+      let is = sym (timely s (asker_as (test_ask a at)) false (no_grace s.grace none)) ∙ due in
       cc
   never none (answers.NoGrace clock) due e = both_ways false refl due.2
   never none (answers.Granted c) due e = cc
@@ -173,11 +174,11 @@ call_amiss n count f s (FreeAll a) good = (λ told. absurd cc, λ due. absurd du
 
 -- ---- who is let in
 
--- a lock or a share that is granted is a reclaim exactly in grace, of a caller that is recorded
+-- a lock or a share that is granted is a reclaim exactly in grace, of a caller that is recorded with a mark that agrees
 ask_let_in : (n : ℕ) (left : Rooms) (s : CoreState) (a : Ask) (what : What) → asked_what a.act ≡ Some what → asks_claims a.act ≡ true → KnowsRecord s → answer_status (ask n left s a).0 ≡ stats.Granted
-    → (a.reclaim ≡ is_some s.grace) × (a.reclaim ≡ true → is_recorded (recorded_as a.party) s.stable.names ≡ true)
+    → (a.reclaim ≡ is_some s.grace) × (a.reclaim ≡ true → is_known (asker_as a) s.stable.names ≡ true)
 ask_let_in n left s a what act asks knows told = by (ask n left s a).0 refl told where
-  by : (answer : Answer) → (ask n left s a).0 ≡ answer → answer_status answer ≡ stats.Granted → (a.reclaim ≡ is_some s.grace) × (a.reclaim ≡ true → is_recorded (recorded_as a.party) s.stable.names ≡ true)
+  by : (answer : Answer) → (ask n left s a).0 ≡ answer → answer_status answer ≡ stats.Granted → (a.reclaim ≡ is_some s.grace) × (a.reclaim ≡ true → is_known (asker_as a) s.stable.names ≡ true)
   by (answers.Granted c) e told = granted_told n left s a what c act asks knows e
   by answers.NotHeld e told = absurd ((ask_due n left s a what answers.NotHeld act).0 e)
   by (answers.Conflict c) e told = absurd cc
@@ -190,19 +191,19 @@ ask_let_in n left s a what act asks knows told = by (ask n left s a).0 refl told
   by answers.StoreFailed e told = absurd cc
 
 -- what is let in of a lock, and of a share
-abbrev IsLetIn : CoreState → List ℕ → Bool → Type 0
-IsLetIn s caller reclaim = (reclaim ≡ is_some s.grace) × (reclaim ≡ true → is_recorded (caller_as caller) s.stable.names ≡ true)
+abbrev IsLetIn : CoreState → Recorded → Bool → Type 0
+IsLetIn s name reclaim = (reclaim ≡ is_some s.grace) × (reclaim ≡ true → is_known name s.stable.names ≡ true)
 
-lock_let_in : (monitored : Bool) (n : ℕ) (f : FrontState) (s : CoreState) (a : LockArgsItem) (at : Aim) (b : Bool) → does_wait s a at ≡ b → KnowsRecord s → status_of (carried n s f (lock_plan monitored f s a at)).0 ≡ stats.Granted → IsLetIn s a.lock.caller_name a.reclaim
+lock_let_in : (monitored : Bool) (n : ℕ) (f : FrontState) (s : CoreState) (a : LockArgsItem) (at : Aim) (b : Bool) → does_wait s a at ≡ b → KnowsRecord s → status_of (carried n s f (lock_plan monitored f s a at)).0 ≡ stats.Granted → IsLetIn s (named_by (Lock a) a.lock.caller_name) a.reclaim
 lock_let_in monitored n f s a at true e knows = rw e (λ told. absurd cc)
 lock_let_in monitored n f s a at false e knows = rw e (λ told. ask_let_in n (rooms f.hosts) s (lock_ask monitored (host_rows a.lock.caller_name f.hosts) a at) (whats.Range (Bytes at.first at.last) a.exclusive) refl refl knows told)
 
 locking_let_in : (monitored : Bool) (n : ℕ) (f : FrontState) (s : CoreState) (a : LockArgsItem) (r : Result Aim Outcome) → ((outcome : Outcome) → r ≡ Err outcome → status_of outcome ≡ stats.Granted → ⊥) → KnowsRecord s
-    → status_of (carried n s f (at_bytes (λ at. lock_plan monitored f s a at) r)).0 ≡ stats.Granted → IsLetIn s a.lock.caller_name a.reclaim
+    → status_of (carried n s f (at_bytes (λ at. lock_plan monitored f s a at) r)).0 ≡ stats.Granted → IsLetIn s (named_by (Lock a) a.lock.caller_name) a.reclaim
 locking_let_in monitored n f s a (Err outcome) fails knows told = absurd (fails outcome refl told)
 locking_let_in monitored n f s a (Ok at) fails knows told = lock_let_in monitored n f s a at (does_wait s a at) refl knows told
 
-sharing_let_in : (n : ℕ) (f : FrontState) (s : CoreState) (a : ShareArgsItem) (o : Option ℕ) → KnowsRecord s → status_of (carried n s f (on_file (λ file. asks (Some a.caller_name) f (rooms f.hosts) (share_ask (host_rows a.caller_name f.hosts) a file)) o)).0 ≡ stats.Granted → IsLetIn s a.caller_name a.reclaim
+sharing_let_in : (n : ℕ) (f : FrontState) (s : CoreState) (a : ShareArgsItem) (o : Option ℕ) → KnowsRecord s → status_of (carried n s f (on_file (λ file. asks (Some a.caller_name) f (rooms f.hosts) (share_ask (host_rows a.caller_name f.hosts) a file)) o)).0 ≡ stats.Granted → IsLetIn s (named_by (Share a) a.caller_name) a.reclaim
 sharing_let_in n f s a None knows told = absurd cc
 sharing_let_in n f s a (Some file) knows told = ask_let_in n (rooms f.hosts) s (share_ask (host_rows a.caller_name f.hosts) a file) (whats.Share (rights_of a.access) (rights_of a.mode)) refl refl knows told
 
@@ -226,13 +227,13 @@ pub same_caller : (caller other : List ℕ) → (let some : Option (List ℕ) = 
 same_caller caller other e = same_Some caller other e
 
 pub call_granted : (n count : ℕ) (f : FrontState) (s : CoreState) (call : CallItem) (caller : List ℕ) → KnowsRecord s → host_of call ≡ Some caller → status_told call (served n count f s call).0 ≡ Some stats.Granted
-    → (reclaims call ≡ is_some s.grace) × (reclaims call ≡ true → is_recorded (caller_as caller) s.stable.names ≡ true)
+    → (reclaims call ≡ is_some s.grace) × (reclaims call ≡ true → is_known (named_by call caller) s.stable.names ≡ true)
 unfolding served planned
 call_granted n count f s (Lock a) caller knows is told =
-    subst (λ (c : List ℕ). IsLetIn s c a.reclaim) (same_caller a.lock.caller_name caller is) (locking_let_in true n f s a (aimed count a.lock) (λ outcome e. unaimed count a.lock outcome stats.Granted (λ d. cc) (λ d. cc) e) knows (same_Some _ _ told))
+    subst (λ (c : List ℕ). IsLetIn s (named_by (Lock a) c) a.reclaim) (same_caller a.lock.caller_name caller is) (locking_let_in true n f s a (aimed count a.lock) (λ outcome e. unaimed count a.lock outcome stats.Granted (λ d. cc) (λ d. cc) e) knows (same_Some _ _ told))
 call_granted n count f s (NmLock a) caller knows is told =
-    subst (λ (c : List ℕ). IsLetIn s c a.reclaim) (same_caller a.lock.caller_name caller is) (locking_let_in false n f s a (aimed count a.lock) (λ outcome e. unaimed count a.lock outcome stats.Granted (λ d. cc) (λ d. cc) e) knows (same_Some _ _ told))
-call_granted n count f s (Share a) caller knows is told = subst (λ (c : List ℕ). IsLetIn s c a.reclaim) (same_caller a.caller_name caller is) (sharing_let_in n f s a (exported count a.fh) knows (same_Some _ _ told))
+    subst (λ (c : List ℕ). IsLetIn s (named_by (NmLock a) c) a.reclaim) (same_caller a.lock.caller_name caller is) (locking_let_in false n f s a (aimed count a.lock) (λ outcome e. unaimed count a.lock outcome stats.Granted (λ d. cc) (λ d. cc) e) knows (same_Some _ _ told))
+call_granted n count f s (Share a) caller knows is told = subst (λ (c : List ℕ). IsLetIn s (named_by (Share a) c) a.reclaim) (same_caller a.caller_name caller is) (sharing_let_in n f s a (exported count a.fh) knows (same_Some _ _ told))
 call_granted n count f s (Test a) caller knows is told = absurd cc
 call_granted n count f s (Cancel a) caller knows is told = absurd cc
 call_granted n count f s (Unlock a) caller knows is told = absurd cc

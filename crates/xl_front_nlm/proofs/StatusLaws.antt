@@ -16,7 +16,7 @@ use Rattle.xl_core.specs.Causes.{IsClaimDue, IsTestDue, IsUnlockDue}
 use Rattle.xl_core.specs.Decide.{way, ask}
 use Rattle.xl_core.specs.Deeds.{Cancels, GivesBack}
 use Rattle.xl_core.specs.Good.{IsGood}
-use Rattle.xl_core.specs.Standings.{recorded_as, refusal}
+use Rattle.xl_core.specs.Standings.{asker_as, refusal}
 use Rattle.xl_core.specs.State.{CoreState}
 use Rattle.xl_core.specs.declared.ask.Answer.{Answer}
 use Rattle.xl_core.specs.declared.ask.Answer.TheVariants as answers
@@ -87,7 +87,7 @@ test_forth s a claim (answers.Queued number) timely due = absurd due
 test_forth s a claim (answers.Full limit) timely due = absurd due
 test_forth s a claim (answers.Recall c) timely due = absurd due
 test_forth s a claim (answers.Grace until) timely due = (until, due)
-test_forth s a claim answers.NotRecorded timely due = absurd (both_ways a.reclaim timely (unrecorded_runs s (recorded_as a.party) false a.reclaim (ap refusal due)).1)
+test_forth s a claim answers.NotRecorded timely due = absurd (both_ways a.reclaim timely (unrecorded_runs s (asker_as a) false a.reclaim (ap refusal due)).1)
 test_forth s a claim answers.NotHeld timely due = absurd due
 test_forth s a claim answers.StoreFailed timely due = absurd due
 
@@ -219,7 +219,7 @@ tested_so s a claim (answers.NoGrace clock) timely due = absurd (both_ways a.rec
 tested_so s a claim (answers.Queued number) timely due = absurd due
 tested_so s a claim (answers.Full limit) timely due = absurd due
 tested_so s a claim (answers.Recall c) timely due = absurd due
-tested_so s a claim answers.NotRecorded timely due = absurd (both_ways a.reclaim timely (unrecorded_runs s (recorded_as a.party) false a.reclaim (ap refusal due)).1)
+tested_so s a claim answers.NotRecorded timely due = absurd (both_ways a.reclaim timely (unrecorded_runs s (asker_as a) false a.reclaim (ap refusal due)).1)
 tested_so s a claim answers.NotHeld timely due = absurd due
 tested_so s a claim answers.StoreFailed timely due = absurd due
 

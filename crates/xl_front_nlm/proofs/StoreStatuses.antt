@@ -1,11 +1,13 @@
 -- What stores make of a call, and what a call leaves of the record.
-use Rattle.std.proofs.Common.{◌≡◌, ◌⊎◌, ℕ, Bool, true, false, inl, inr, List, Option, Some, None, Result, Ok, Err, ◌↔◌, refl, sym, ap, subst, ◌∙◌}
+use Rattle.std.proofs.Common.{◌≡◌, ◌⊎◌, ℕ, Bool, true, false, inl, inr, List, Option, Some, None, Result, Ok, Err, ◌↔◌, refl, sym, ap, ◌∙◌}
 use Rattle.std.proofs.lemmas.Bool.{both_ways}
 use Rattle.std.proofs.lemmas.Option.{same_Some}
 use Rattle.xl_base.specs.RecordFile.{with_name}
-use Rattle.xl_base.specs.Stable.{is_recordable, is_recorded}
+use Rattle.xl_base.specs.Stable.{Stable, is_kept, is_recordable}
 use Rattle.xl_base.specs.declared.name.Party.TheVariants as parties
 use Rattle.xl_base.specs.declared.name.Protocol.TheVariants.{Nlm}
+use Rattle.xl_base.specs.declared.stable.Recorded.{Recorded}
+use Rattle.xl_grace.specs.Grace.{is_known}
 use Rattle.xl_matrix.specs.declared.claim.Claim.{Claim}
 use Rattle.xl_matrix.specs.declared.claim.Extent.TheVariants.{Bytes}
 use Rattle.xl_matrix.specs.declared.claim.What.{What}
@@ -20,24 +22,23 @@ use Rattle.xl_core.specs.Askers.{asked_what, is_client, known_claim}
 use Rattle.xl_core.specs.Decide.{ask}
 use Rattle.xl_core.specs.Deeds.{Cancels, Ends, GivesBack}
 use Rattle.xl_core.specs.Good.{IsGood}
+use Rattle.xl_core.specs.Knowing.{KnowsRecord}
 use Rattle.xl_core.specs.Settle.{cancel, end_party, give_back}
-use Rattle.xl_core.specs.Standings.{recorded_as}
+use Rattle.xl_core.specs.Standings.{asker_as}
 use Rattle.xl_core.specs.State.{CoreState, Aside, aside_of}
 use Rattle.xl_core.specs.declared.ask.Answer.{Answer}
 use Rattle.xl_core.specs.declared.ask.Answer.TheVariants as answers
 use Rattle.xl_core.specs.declared.ask.Ask.{Ask}
-use Rattle.xl_core.specs.declared.ask.Who.{Who}
-use Rattle.xl_core.specs.declared.ask.Who.TheVariants.{Named}
 use Rattle.xl_plan.proofs.AsideLaws.{cancel_aside, end_aside, give_aside}
-use Rattle.xl_plan.proofs.RecordLaws.{failed_told, gained_told, recorded_told, unmonitored_told}
+use Rattle.xl_plan.proofs.RecordLaws.{failed_told, gained_told, reclaim_told, recorded_told, unmonitored_told}
 use Rattle.xl_plan.specs.Plans.{carried}
 use Rattle.xl_front_nlm.proofs.AskLaws.{own_client}
-use Rattle.xl_front_nlm.proofs.GraceStatuses.{range_never, same_caller, unaimed}
+use Rattle.xl_front_nlm.proofs.GraceStatuses.{call_granted, range_never, same_caller, unaimed}
 use Rattle.xl_front_nlm.proofs.StatusLaws.{status_due}
 use Rattle.xl_front_nlm.specs.Aims.{exported, aimed}
-use Rattle.xl_front_nlm.specs.Asking.{monitors}
+use Rattle.xl_front_nlm.specs.Asking.{monitors, reclaims}
 use Rattle.xl_front_nlm.specs.Asks.{test_ask, lock_ask, rights_of, share_ask, unlock_ask}
-use Rattle.xl_front_nlm.specs.Graces.{caller_as}
+use Rattle.xl_front_nlm.specs.Graces.{named_by}
 use Rattle.xl_front_nlm.specs.Hosts.{rooms, host_rows}
 use Rattle.xl_front_nlm.specs.Results.{answer_status, status_of}
 use Rattle.xl_front_nlm.specs.Serving.{asks, at_bytes, if_found, lock_plan, on_file, planned, host_of, served}
@@ -101,6 +102,39 @@ call_unmonitored n count f s (NmLock a) good plain = nm_locking_kept n f s a (ai
 call_unmonitored n count f s (FreeAll a) good plain = ended_kept n f s (number_of (NlmParty a.name) s.names)
 call_unmonitored n count f s Null good plain = refl
 call_unmonitored n count f s (Granted a) good plain = refl
+
+-- ---- a call that reclaims
+
+back_kept : (monitored : Bool) (n : ℕ) (f : FrontState) (s : CoreState) (a : LockArgsItem) (at : Aim) (b : Bool) → does_wait s a at ≡ b → IsGood s → a.reclaim ≡ true → Keeps s (carried n s f (lock_plan monitored f s a at)).3
+back_kept monitored n f s a at true e good back = rw e refl
+back_kept monitored n f s a at false e good back = rw e (reclaim_told n (rooms f.hosts) s (lock_ask monitored (host_rows a.lock.caller_name f.hosts) a at) good (own_client a.lock.caller_name) back)
+
+locking_back_kept : (monitored : Bool) (n : ℕ) (f : FrontState) (s : CoreState) (a : LockArgsItem) (r : Result Aim Outcome) → IsGood s → a.reclaim ≡ true → Keeps s (carried n s f (at_bytes (λ at. lock_plan monitored f s a at) r)).3
+locking_back_kept monitored n f s a (Err outcome) good back = refl
+locking_back_kept monitored n f s a (Ok at) good back = back_kept monitored n f s a at (does_wait s a at) refl good back
+
+sharing_back_kept : (n : ℕ) (f : FrontState) (s : CoreState) (a : ShareArgsItem) (o : Option ℕ) → IsGood s → a.reclaim ≡ true → Keeps s (carried n s f (on_file (λ file. asks (Some a.caller_name) f (rooms f.hosts) (share_ask (host_rows a.caller_name f.hosts) a file)) o)).3
+sharing_back_kept n f s a None good back = refl
+sharing_back_kept n f s a (Some file) good back = reclaim_told n (rooms f.hosts) s (share_ask (host_rows a.caller_name f.hosts) a file) good (own_client a.caller_name) back
+
+pub call_reclaims : (n count : ℕ) (f : FrontState) (s : CoreState) (call : CallItem) → IsGood s → reclaims call ≡ true → aside_of (record (served n count f s call).3 { grace = s.grace }) ≡ aside_of s
+unfolding served planned
+call_reclaims n count f s (Lock a) good back = locking_back_kept true n f s a (aimed count a.lock) good back
+call_reclaims n count f s (NmLock a) good back = locking_back_kept false n f s a (aimed count a.lock) good back
+call_reclaims n count f s (Share a) good back = sharing_back_kept n f s a (exported count a.fh) good back
+call_reclaims n count f s (Test a) good back = absurd (both_ways false refl back)
+call_reclaims n count f s (Cancel a) good back = absurd (both_ways false refl back)
+call_reclaims n count f s (Unlock a) good back = absurd (both_ways false refl back)
+call_reclaims n count f s (Unshare a) good back = absurd (both_ways false refl back)
+call_reclaims n count f s (FreeAll a) good back = absurd (both_ways false refl back)
+call_reclaims n count f s Null good back = absurd (both_ways false refl back)
+call_reclaims n count f s (Granted a) good back = absurd (both_ways false refl back)
+
+-- what is granted then is known to the record still
+pub call_known : (n count : ℕ) (f : FrontState) (s : CoreState) (call : CallItem) (caller : List ℕ) → IsGood s → KnowsRecord s → host_of call ≡ Some caller → reclaims call ≡ true
+    → (let r = served n count f s call in status_told call r.0 ≡ Some stats.Granted → is_known (named_by call caller) r.3.stable.names ≡ true)
+call_known n count f s call caller good knows is back told =
+    ap (λ (stable : Stable). is_known (named_by call caller) stable.names) (ap (λ (x : Aside). x.stable) (call_reclaims n count f s call good back)) ∙ (call_granted n count f s call caller knows is told).1 back
 
 -- ---- FAILED
 
@@ -177,12 +211,12 @@ call_failed n count f s (Granted a) good fresh = none_fair n count f s (Granted 
 
 -- ---- the record
 
--- of a lock or a share that is granted the record has the client then
-ask_recorded : (n : ℕ) (left : Rooms) (s : CoreState) (a : Ask) (what : What) (caller : List ℕ) → IsGood s → is_client a.owner a.party ≡ true → asked_what a.act ≡ Some what → a.monitored ≡ true → a.party ≡ Named (NlmParty caller) → answer_status (ask n left s a).0 ≡ stats.Granted → is_recorded (caller_as caller) (ask n left s a).2.stable.names ≡ true
-ask_recorded n left s a what caller good client act monitored party told = by (ask n left s a).0 refl told where
-  by : (answer : Answer) → (ask n left s a).0 ≡ answer → answer_status answer ≡ stats.Granted → is_recorded (caller_as caller) (ask n left s a).2.stable.names ≡ true
-  by (answers.Granted c) e told =
-      subst (λ (who : Who). is_recorded (recorded_as who) (ask n left s a).2.stable.names ≡ true) party (recorded_told n left s a what c good client act monitored (ap (λ (who : Who). is_recordable (recorded_as who)) party) e)
+-- of a lock or a share that is granted and no reclaim the record has the client then, with its mark
+ask_recorded : (n : ℕ) (left : Rooms) (s : CoreState) (a : Ask) (what : What) → IsGood s → is_client a.owner a.party ≡ true → asked_what a.act ≡ Some what → a.monitored ≡ true → a.reclaim ≡ false → is_recordable (asker_as a) ≡ true
+    → answer_status (ask n left s a).0 ≡ stats.Granted → is_kept (asker_as a) (ask n left s a).2.stable.names ≡ true
+ask_recorded n left s a what good client act monitored plain recordable told = by (ask n left s a).0 refl told where
+  by : (answer : Answer) → (ask n left s a).0 ≡ answer → answer_status answer ≡ stats.Granted → is_kept (asker_as a) (ask n left s a).2.stable.names ≡ true
+  by (answers.Granted c) e told = recorded_told n left s a what c good client act monitored plain recordable e
   by answers.NotHeld e told = absurd ((ask_due n left s a what answers.NotHeld act).0 e)
   by (answers.Conflict c) e told = absurd cc
   by (answers.Queued number) e told = absurd cc
@@ -193,74 +227,71 @@ ask_recorded n left s a what caller good client act monitored party told = by (a
   by (answers.Full limit) e told = absurd cc
   by answers.StoreFailed e told = absurd cc
 
-lock_recorded : (n : ℕ) (f : FrontState) (s : CoreState) (a : LockArgsItem) (at : Aim) (b : Bool) → does_wait s a at ≡ b → IsGood s → (let r = carried n s f (lock_plan true f s a at) in status_of r.0 ≡ stats.Granted → is_recorded (caller_as a.lock.caller_name) r.3.stable.names ≡ true)
-lock_recorded n f s a at true e good = rw e (λ told. absurd cc)
-lock_recorded n f s a at false e good =
-    rw e (λ told. ask_recorded n (rooms f.hosts) s (lock_ask true (host_rows a.lock.caller_name f.hosts) a at) (whats.Range (Bytes at.first at.last) a.exclusive) a.lock.caller_name good (own_client a.lock.caller_name) refl refl refl told)
+lock_recorded : (n : ℕ) (f : FrontState) (s : CoreState) (a : LockArgsItem) (at : Aim) (b : Bool) → does_wait s a at ≡ b → IsGood s → a.reclaim ≡ false
+    → (let r = carried n s f (lock_plan true f s a at) in status_of r.0 ≡ stats.Granted → is_kept (named_by (Lock a) a.lock.caller_name) r.3.stable.names ≡ true)
+lock_recorded n f s a at true e good plain = rw e (λ told. absurd cc)
+lock_recorded n f s a at false e good plain =
+    rw e (λ told. ask_recorded n (rooms f.hosts) s (lock_ask true (host_rows a.lock.caller_name f.hosts) a at) (whats.Range (Bytes at.first at.last) a.exclusive) good (own_client a.lock.caller_name) refl refl plain refl told)
 
-locking_recorded : (n count : ℕ) (f : FrontState) (s : CoreState) (a : LockArgsItem) (o : Result Aim Outcome) → aimed count a.lock ≡ o → IsGood s → (let r = carried n s f (at_bytes (λ at. lock_plan true f s a at) o) in status_of r.0 ≡ stats.Granted → is_recorded (caller_as a.lock.caller_name) r.3.stable.names ≡ true)
-locking_recorded n count f s a (Err outcome) e good told = absurd (unaimed count a.lock outcome stats.Granted (λ d. cc) (λ d. cc) e told)
-locking_recorded n count f s a (Ok at) e good told = lock_recorded n f s a at (does_wait s a at) refl good told
+locking_recorded : (n count : ℕ) (f : FrontState) (s : CoreState) (a : LockArgsItem) (o : Result Aim Outcome) → aimed count a.lock ≡ o → IsGood s → a.reclaim ≡ false
+    → (let r = carried n s f (at_bytes (λ at. lock_plan true f s a at) o) in status_of r.0 ≡ stats.Granted → is_kept (named_by (Lock a) a.lock.caller_name) r.3.stable.names ≡ true)
+locking_recorded n count f s a (Err outcome) e good plain told = absurd (unaimed count a.lock outcome stats.Granted (λ d. cc) (λ d. cc) e told)
+locking_recorded n count f s a (Ok at) e good plain told = lock_recorded n f s a at (does_wait s a at) refl good plain told
 
-sharing_recorded : (n : ℕ) (f : FrontState) (s : CoreState) (a : ShareArgsItem) (o : Option ℕ) → IsGood s → (let r = carried n s f (on_file (λ file. asks (Some a.caller_name) f (rooms f.hosts) (share_ask (host_rows a.caller_name f.hosts) a file)) o) in status_of r.0 ≡ stats.Granted → is_recorded (caller_as a.caller_name) r.3.stable.names ≡ true)
-sharing_recorded n f s a None good told = absurd cc
-sharing_recorded n f s a (Some file) good told = ask_recorded n (rooms f.hosts) s (share_ask (host_rows a.caller_name f.hosts) a file) (whats.Share (rights_of a.access) (rights_of a.mode)) a.caller_name good (own_client a.caller_name) refl refl refl told
+sharing_recorded : (n : ℕ) (f : FrontState) (s : CoreState) (a : ShareArgsItem) (o : Option ℕ) → IsGood s → a.reclaim ≡ false
+    → (let r = carried n s f (on_file (λ file. asks (Some a.caller_name) f (rooms f.hosts) (share_ask (host_rows a.caller_name f.hosts) a file)) o) in status_of r.0 ≡ stats.Granted → is_kept (named_by (Share a) a.caller_name) r.3.stable.names ≡ true)
+sharing_recorded n f s a None good plain told = absurd cc
+sharing_recorded n f s a (Some file) good plain told = ask_recorded n (rooms f.hosts) s (share_ask (host_rows a.caller_name f.hosts) a file) (whats.Share (rights_of a.access) (rights_of a.mode)) good (own_client a.caller_name) refl refl plain refl told
 
-pub call_recorded : (n count : ℕ) (f : FrontState) (s : CoreState) (call : CallItem) (caller : List ℕ) → IsGood s → host_of call ≡ Some caller → monitors call ≡ true → (let r = served n count f s call in status_told call r.0 ≡ Some stats.Granted → is_recorded (caller_as caller) r.3.stable.names ≡ true)
+pub call_recorded : (n count : ℕ) (f : FrontState) (s : CoreState) (call : CallItem) (caller : List ℕ) → IsGood s → host_of call ≡ Some caller → monitors call ≡ true → reclaims call ≡ false
+    → (let r = served n count f s call in status_told call r.0 ≡ Some stats.Granted → is_kept (named_by call caller) r.3.stable.names ≡ true)
 unfolding served planned
-call_recorded n count f s (Lock a) caller good is monitored told =
-    let left = locking_recorded n count f s a (aimed count a.lock) refl good (same_Some _ _ told) in
-    ap (λ (c : List ℕ). is_recorded (caller_as c) (carried n s f (at_bytes (λ at. lock_plan true f s a at) (aimed count a.lock))).3.stable.names) (sym (same_caller a.lock.caller_name caller is)) ∙ left
-call_recorded n count f s (Share a) caller good is monitored told =
-    let left = sharing_recorded n f s a (exported count a.fh) good (same_Some _ _ told) in
-    ap (λ (c : List ℕ). is_recorded (caller_as c) (carried n s f (on_file (λ file. asks (Some a.caller_name) f (rooms f.hosts) (share_ask (host_rows a.caller_name f.hosts) a file)) (exported count a.fh))).3.stable.names) (sym (same_caller a.caller_name caller is)) ∙ left
-call_recorded n count f s (Test a) caller good is monitored told = absurd (both_ways false refl monitored)
-call_recorded n count f s (Cancel a) caller good is monitored told = absurd (both_ways false refl monitored)
-call_recorded n count f s (Unlock a) caller good is monitored told = absurd (both_ways false refl monitored)
-call_recorded n count f s (Unshare a) caller good is monitored told = absurd (both_ways false refl monitored)
-call_recorded n count f s (NmLock a) caller good is monitored told = absurd (both_ways false refl monitored)
-call_recorded n count f s (FreeAll a) caller good is monitored told = absurd (both_ways false refl monitored)
-call_recorded n count f s Null caller good is monitored told = absurd (both_ways false refl monitored)
-call_recorded n count f s (Granted a) caller good is monitored told = absurd (both_ways false refl monitored)
+call_recorded n count f s (Lock a) caller good is monitored plain told =
+    let left = locking_recorded n count f s a (aimed count a.lock) refl good plain (same_Some _ _ told) in
+    ap (λ (c : List ℕ). is_kept (named_by (Lock a) c) (carried n s f (at_bytes (λ at. lock_plan true f s a at) (aimed count a.lock))).3.stable.names) (sym (same_caller a.lock.caller_name caller is)) ∙ left
+call_recorded n count f s (Share a) caller good is monitored plain told =
+    let left = sharing_recorded n f s a (exported count a.fh) good plain (same_Some _ _ told) in
+    ap (λ (c : List ℕ). is_kept (named_by (Share a) c) (carried n s f (on_file (λ file. asks (Some a.caller_name) f (rooms f.hosts) (share_ask (host_rows a.caller_name f.hosts) a file)) (exported count a.fh))).3.stable.names) (sym (same_caller a.caller_name caller is)) ∙ left
+call_recorded n count f s (Test a) caller good is monitored plain told = absurd (both_ways false refl monitored)
+call_recorded n count f s (Cancel a) caller good is monitored plain told = absurd (both_ways false refl monitored)
+call_recorded n count f s (Unlock a) caller good is monitored plain told = absurd (both_ways false refl monitored)
+call_recorded n count f s (Unshare a) caller good is monitored plain told = absurd (both_ways false refl monitored)
+call_recorded n count f s (NmLock a) caller good is monitored plain told = absurd (both_ways false refl monitored)
+call_recorded n count f s (FreeAll a) caller good is monitored plain told = absurd (both_ways false refl monitored)
+call_recorded n count f s Null caller good is monitored plain told = absurd (both_ways false refl monitored)
+call_recorded n count f s (Granted a) caller good is monitored plain told = absurd (both_ways false refl monitored)
 
--- the record is as it was, or it gains this caller's name, which it lacked, and that where the outcome is a grant
-abbrev Gains : CoreState → List ℕ → Outcome → CoreState → Type 0
-Gains s caller outcome t = (t.stable ≡ s.stable) ⊎ ((status_of outcome ≡ stats.Granted) × (is_recorded (caller_as caller) s.stable.names ≡ false) × (t.stable ≡ with_name (caller_as caller) s.stable))
+-- the record is as it was, or it gains this name with its mark, which it lacked, and that where the outcome is a grant and no reclaim
+abbrev Gains : CoreState → Recorded → Bool → Outcome → CoreState → Type 0
+Gains s name reclaim outcome t = (t.stable ≡ s.stable) ⊎ ((reclaim ≡ false) × (status_of outcome ≡ stats.Granted) × (is_kept name s.stable.names ≡ false) × (t.stable ≡ with_name name s.stable))
 
-ask_gains : (n : ℕ) (left : Rooms) (s : CoreState) (a : Ask) (caller : List ℕ) → IsGood s → is_client a.owner a.party ≡ true → a.party ≡ Named (NlmParty caller) → Gains s caller (Answered (ask n left s a).0) (ask n left s a).2
-ask_gains n left s a caller good client party = elim (gained_told n left s a good client) [
-  | inl same ↦ inl same
-  | inr gained ↦ inr (
-    ap answer_status gained.0.1,
-    ap (λ (who : Who). is_recorded (recorded_as who) s.stable.names) (sym party) ∙ gained.2,
-    gained.3 ∙ ap (λ (who : Who). with_name (recorded_as who) s.stable) party,
-  )
-]
+ask_gains : (n : ℕ) (left : Rooms) (s : CoreState) (a : Ask) → IsGood s → is_client a.owner a.party ≡ true → Gains s (asker_as a) a.reclaim (Answered (ask n left s a).0) (ask n left s a).2
+ask_gains n left s a good client = elim (gained_told n left s a good client) [ inl same ↦ inl same | inr gained ↦ inr (gained.2, ap answer_status gained.0.1, gained.3, gained.4) ]
 
-lock_gains : (n : ℕ) (f : FrontState) (s : CoreState) (a : LockArgsItem) (at : Aim) (b : Bool) → does_wait s a at ≡ b → IsGood s → (let r = carried n s f (lock_plan true f s a at) in Gains s a.lock.caller_name r.0 r.3)
+lock_gains : (n : ℕ) (f : FrontState) (s : CoreState) (a : LockArgsItem) (at : Aim) (b : Bool) → does_wait s a at ≡ b → IsGood s → (let r = carried n s f (lock_plan true f s a at) in Gains s (named_by (Lock a) a.lock.caller_name) a.reclaim r.0 r.3)
 lock_gains n f s a at true e good = rw e (inl refl)
-lock_gains n f s a at false e good = rw e (ask_gains n (rooms f.hosts) s (lock_ask true (host_rows a.lock.caller_name f.hosts) a at) a.lock.caller_name good (own_client a.lock.caller_name) refl)
+lock_gains n f s a at false e good = rw e (ask_gains n (rooms f.hosts) s (lock_ask true (host_rows a.lock.caller_name f.hosts) a at) good (own_client a.lock.caller_name))
 
-locking_gains : (n : ℕ) (f : FrontState) (s : CoreState) (a : LockArgsItem) (o : Result Aim Outcome) → IsGood s → (let r = carried n s f (at_bytes (λ at. lock_plan true f s a at) o) in Gains s a.lock.caller_name r.0 r.3)
+locking_gains : (n : ℕ) (f : FrontState) (s : CoreState) (a : LockArgsItem) (o : Result Aim Outcome) → IsGood s → (let r = carried n s f (at_bytes (λ at. lock_plan true f s a at) o) in Gains s (named_by (Lock a) a.lock.caller_name) a.reclaim r.0 r.3)
 locking_gains n f s a (Err outcome) good = inl refl
 locking_gains n f s a (Ok at) good = lock_gains n f s a at (does_wait s a at) refl good
 
-sharing_gains : (n : ℕ) (f : FrontState) (s : CoreState) (a : ShareArgsItem) (o : Option ℕ) → IsGood s → (let r = carried n s f (on_file (λ file. asks (Some a.caller_name) f (rooms f.hosts) (share_ask (host_rows a.caller_name f.hosts) a file)) o) in Gains s a.caller_name r.0 r.3)
+sharing_gains : (n : ℕ) (f : FrontState) (s : CoreState) (a : ShareArgsItem) (o : Option ℕ) → IsGood s → (let r = carried n s f (on_file (λ file. asks (Some a.caller_name) f (rooms f.hosts) (share_ask (host_rows a.caller_name f.hosts) a file)) o) in Gains s (named_by (Share a) a.caller_name) a.reclaim r.0 r.3)
 sharing_gains n f s a None good = inl refl
-sharing_gains n f s a (Some file) good = ask_gains n (rooms f.hosts) s (share_ask (host_rows a.caller_name f.hosts) a file) a.caller_name good (own_client a.caller_name) refl
+sharing_gains n f s a (Some file) good = ask_gains n (rooms f.hosts) s (share_ask (host_rows a.caller_name f.hosts) a file) good (own_client a.caller_name)
 
 -- so it is of a call
 abbrev HasGained : CoreState → CallItem → Outcome → CoreState → Type 0
 HasGained s call outcome t =
-    (t.stable ≡ s.stable) ⊎ ((caller : List ℕ) × (host_of call ≡ Some caller) × (monitors call ≡ true) × (status_told call outcome ≡ Some stats.Granted) × (is_recorded (caller_as caller) s.stable.names ≡ false) × (t.stable ≡ with_name (caller_as caller) s.stable))
+    (t.stable ≡ s.stable) ⊎ ((caller : List ℕ) × (host_of call ≡ Some caller) × (monitors call ≡ true) × (reclaims call ≡ false) × (status_told call outcome ≡ Some stats.Granted) × (is_kept (named_by call caller) s.stable.names ≡ false) × (t.stable ≡ with_name (named_by call caller) s.stable))
 
 none_gains : (n count : ℕ) (f : FrontState) (s : CoreState) (call : CallItem) → IsGood s → monitors call ≡ false → (let r = served n count f s call in HasGained s call r.0 r.3)
 none_gains n count f s call good plain = inl (ap (λ (x : Aside). x.stable) (call_unmonitored n count f s call good plain))
 
 pub call_gains : (n count : ℕ) (f : FrontState) (s : CoreState) (call : CallItem) → IsGood s → (let r = served n count f s call in HasGained s call r.0 r.3)
 unfolding served planned
-call_gains n count f s (Lock a) good = elim (locking_gains n f s a (aimed count a.lock) good) [ inl same ↦ inl same | inr gained ↦ inr (a.lock.caller_name, refl, refl, ap Some gained.0, gained.1, gained.2) ]
-call_gains n count f s (Share a) good = elim (sharing_gains n f s a (exported count a.fh) good) [ inl same ↦ inl same | inr gained ↦ inr (a.caller_name, refl, refl, ap Some gained.0, gained.1, gained.2) ]
+call_gains n count f s (Lock a) good = elim (locking_gains n f s a (aimed count a.lock) good) [ inl same ↦ inl same | inr gained ↦ inr (a.lock.caller_name, refl, refl, gained.0, ap Some gained.1, gained.2, gained.3) ]
+call_gains n count f s (Share a) good = elim (sharing_gains n f s a (exported count a.fh) good) [ inl same ↦ inl same | inr gained ↦ inr (a.caller_name, refl, refl, gained.0, ap Some gained.1, gained.2, gained.3) ]
 call_gains n count f s (Test a) good = none_gains n count f s (Test a) good refl
 call_gains n count f s (Cancel a) good = none_gains n count f s (Cancel a) good refl
 call_gains n count f s (Unlock a) good = none_gains n count f s (Unlock a) good refl

@@ -1,9 +1,12 @@
--- What a request asks for: the file that it names, a reclaim only if it says so, monitored if it is a LOCK or a SHARE, and with the
--- room that is left for hosts (XNFS C702).
+-- What a request asks for: the file that it names, a reclaim only if it says so, monitored if it is a LOCK or a SHARE, with the state of
+-- its host if it names one, and with the room that is left for hosts (XNFS C702).
 use Rattle.std.specs.Prelude.{◌≡◌, ◌-◌, ℕ, Bool, true, false, List, Option, Some, None}
 use Rattle.std.specs.List.{AllByRecursion}
+use Rattle.xl_base.specs.declared.stable.Mark.{Mark}
+use Rattle.xl_base.specs.declared.stable.Mark.TheVariants.{State}
 use Rattle.xl_nlm.specs.Items.{CallItem, Test, Lock, Cancel, Unlock, Share, Unshare, NmLock}
 use Rattle.xl_programs.specs.Programs.{RequestItem}
+use Rattle.xl_rpc.specs.Xdr.{signed}
 use Rattle.xl_core.specs.Deeds.{Deed, Asks}
 use Rattle.xl_core.specs.Limits.{most_hosts}
 use Rattle.xl_front_nlm.specs.Aims.{exported}
@@ -33,12 +36,19 @@ monitors (Lock a) = true
 monitors (Share a) = true
 monitors call = false
 
+-- what the call's caller is recorded with, and what its reclaim is checked against: the state of its host, which LOCK and NM_LOCK name
+-- (XNFS C702, NLM_LOCK)
+abbrev pub mark_of : CallItem → Option Mark
+mark_of (Lock a) = Some (State (signed a.state))
+mark_of (NmLock a) = Some (State (signed a.state))
+mark_of call = None
+
 -- An ask is on the exported file whose handle the call names, and a reclaim exactly if the call says so; of the fronts' tables
 -- it adds to that of hosts alone, in which so much room is left. Its client is to be recorded exactly if the call's caller is
--- monitored.
+-- monitored, and with the mark that the call has.
 abbrev pub IsAskFor : ℕ → ℕ → CallItem → Deed → Type 0
 IsAskFor count hosts call (Asks left a) =
-    ((fh : List ℕ) × (handle_of call ≡ Some fh) × (exported count fh ≡ Some a.file)) × (a.reclaim ≡ reclaims call) × (left.hosts ≡ most_hosts - hosts) × (a.rows.owners ≡ 0) × (a.rows.opens ≡ 0) × (a.monitored ≡ monitors call)
+    ((fh : List ℕ) × (handle_of call ≡ Some fh) × (exported count fh ≡ Some a.file)) × (a.reclaim ≡ reclaims call) × (left.hosts ≡ most_hosts - hosts) × (a.rows.owners ≡ 0) × (a.rows.opens ≡ 0) × (a.monitored ≡ monitors call) × (a.mark ≡ mark_of call)
 IsAskFor count hosts call deed = Unit {0}
 
 -- so is each of these deeds, if they are of a request's call

@@ -5,12 +5,13 @@ use Rattle.xl_base.specs.declared.stable.Recorded.{Recorded}
 use Rattle.xl_nlm.specs.Items.{LockArgsItem, CallItem, Test, Lock, Share, NmLock}
 use Rattle.xl_core.specs.State.{CoreState}
 use Rattle.xl_front_nlm.specs.Aims.{exported, aimed}
+use Rattle.xl_front_nlm.specs.Asking.{mark_of}
 use Rattle.xl_front_nlm.specs.Standing.{does_wait}
 use Rattle.xl_front_nlm.specs.declared.aim.Aim.{Aim}
 
--- a caller as the record names it
-abbrev pub caller_as : List ℕ → Recorded
-caller_as caller = record { protocol = Nlm; name = caller }
+-- the caller of a call as the record names it, with the mark that the call has
+abbrev pub named_by : CallItem → List ℕ → Recorded
+named_by call caller = record { protocol = Nlm; name = caller; mark = mark_of call }
 
 -- grace runs and this doesn't reclaim, or this reclaims and none runs
 abbrev pub IsAmiss : CoreState → Bool → Type 0

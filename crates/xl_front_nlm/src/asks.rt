@@ -2,12 +2,12 @@
 ghost use Rattle.std.specs.Prelude.{◌≡◌, ◌≤◌, false, IfOk};
 ghost use Rattle.xl_nlm.specs.Items.{shown_lock, shown_test_args, shown_lock_args, shown_unlock_args, shown_share_args};
 ghost use Rattle.xl_core.specs.Askers.{IsFit};
-ghost use Rattle.xl_front_nlm.specs.Asks.{owner_of, ask_of, test_ask, lock_ask, unlock_ask, refusal_ask, rights_of, share_owner, share_ask};
+ghost use Rattle.xl_front_nlm.specs.Asks.{owner_of, ask_of, test_ask, state_mark, lock_ask, unlock_ask, refusal_ask, rights_of, share_owner, share_ask};
 
 use crate::aim::Aim;
 use crate::grant::Grant;
 use std::alloc::{AllocError, Global};
-use xl_base::Sequence;
+use xl_base::{Mark, Sequence};
 use xl_core::{Act, Ask, Who};
 use xl_matrix::{Extent, Rwd};
 use xl_names::Name;
@@ -32,7 +32,7 @@ pub(crate) fn share_owner(alloc: Global, args: &ShareArgs) -> Result<Name, Alloc
     Ok(Name::NlmShare(caller, oh))
 }
 
-/// An ask of NLM that neither waits nor reclaims, and doesn't want its caller recorded.
+/// An ask of NLM that neither waits nor reclaims, doesn't want its caller recorded, and has no mark.
 fn ask_of(
     alloc: Global,
     owner: Name,
@@ -55,6 +55,7 @@ fn ask_of(
         awaits: false,
         reclaim: false,
         monitored: false,
+        mark: None,
         rows,
     })
 }
@@ -66,6 +67,14 @@ pub(crate) fn test_ask(alloc: Global, args: &TestArgs, at: &Aim) -> Result<Ask, 
     let owner = owner_of(alloc, &args.lock)?;
     let act = Act::Test(Extent::Bytes(at.first, at.last), args.exclusive);
     ask_of(alloc, owner, args.lock.caller_name, at.file, act, NO_ROWS)
+}
+
+/// The state of the caller's host, as XDR spells it (RFC 4506 4.1).
+#[tactic(auto, unfolding(xl_base::specs::Codec::big_endian))]
+fn state_mark(args: &LockArgs) -> Mark
+    ensures { result ≡ state_mark (shown_lock_args args.now) }
+{
+    Mark::State(args.state.to_be_bytes())
 }
 
 /// What is asked for LOCK and NM_LOCK, which add these rows. The caller is monitored or not.
@@ -87,6 +96,7 @@ pub(crate) fn lock_ask(
     request.awaits = args.block;
     request.reclaim = args.reclaim;
     request.monitored = monitored;
+    request.mark = Some(state_mark(args));
     Ok(request)
 }
 

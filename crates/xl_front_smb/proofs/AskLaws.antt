@@ -79,7 +79,7 @@ open_owns conn number row c = (refl, refl)
 
 -- with a party and a wish as the code has them
 pub asks_open : (conn number : ℕ) (row : Open) (c : CreateCallItem) (party : Who) (access deny : Rwd) (wish : List CacheKind) → party ≡ party_for number row → wish ≡ choices_by c.oplock_level (lease_asked c) → row.lease ≡ key_asked c
-    → IsOpenAsk (record { file = row.file; owner = who.Open number; party = party; act = Share access deny; wish = wish; conn = Some conn; blocking = false; awaits = true; reclaim = false; monitored = false; rows = record { hosts = 0; owners = 0; opens = 1 } })
+    → IsOpenAsk (record { file = row.file; owner = who.Open number; party = party; act = Share access deny; wish = wish; conn = Some conn; blocking = false; awaits = true; reclaim = false; monitored = false; mark = None; rows = record { hosts = 0; owners = 0; opens = 1 } })
 asks_open conn number row c party access deny wish own is under = record {
   fit = record {
     act = tt;

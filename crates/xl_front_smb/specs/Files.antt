@@ -107,6 +107,7 @@ open_ask conn number row c = record {
   awaits = true;
   reclaim = false;
   monitored = false;
+  mark = None;
   rows = record { hosts = 0; owners = 0; opens = 1 };
 }
 

@@ -144,6 +144,7 @@ fn open_ask(
         awaits: true,
         reclaim: false,
         monitored: false,
+        mark: None,
         rows: Rooms {
             hosts: 0,
             owners: 0,

@@ -1,78 +1,88 @@
 -- Who may reclaim, and when that ends, from a start on.
 use Rattle.std.proofs.Common.{◌≡◌, ℕ, ◌+◌, ◌-◌, ◌^◌, ◌<◌, min, Bool, true, false, not, ◌&&◌, ◌||◌, if◌then◌else◌, List, [], ◌∷◌, ◌++◌, length, get_or, drop, Option, Some, None, refl, sym, ap, ap₂, subst, ◌∙◌, arith, inl, inr}
-use Rattle.std.specs.Prelude.{is_some, nat_le, bytes_eq}
+use Rattle.std.specs.Prelude.{is_some, nat_le}
 use Rattle.std.specs.List.{filter, list_any}
-use Rattle.std.proofs.lemmas.Bool.{cases_Bool, true≢false, and_parts, or_parts, or_from}
+use Rattle.std.proofs.lemmas.Bool.{cases_Bool, true≢false, or_parts, or_from}
 use Rattle.std.proofs.lemmas.Bool.Decides.{nat_tests}
 use Rattle.std.proofs.lemmas.List.{drop_more}
-use Rattle.std.proofs.lemmas.Slice.Eq.{bytes_eq-Decides}
 use Rattle.xl_base.specs.declared.event.Moment.{Moment}
-use Rattle.xl_base.specs.declared.name.Protocol.{Protocol}
-use Rattle.xl_base.specs.declared.name.Protocol.TheVariants.{Nlm, Nfs, Smb}
 use Rattle.xl_base.specs.declared.stable.Recorded.{Recorded}
-use Rattle.xl_base.specs.Stable.{Stable, same_protocol, same_name, is_recorded, is_recordable, AreRecordable}
+use Rattle.xl_base.specs.declared.stable.Mark.{Mark}
+use Rattle.xl_base.specs.Stable.{Stable, same_name, agree, is_recorded, is_recordable, AreRecordable}
 use Rattle.xl_base.proofs.RecordFileLaws.{apart}
+use Rattle.xl_base.proofs.StableLaws.{like_left, like_right}
 use Rattle.xl_grace.specs.declared.reclaimant.Reclaimant.{Reclaimant}
 use Rattle.xl_grace.specs.declared.grace.Admission.TheVariants.{Enters, Grace, NoGrace, NotRecorded}
-use Rattle.xl_grace.specs.Grace.{is_of, newly, may_reclaim, has_reclaimed, noted, others, Running, has_names, begun, admission, is_over, ended, is_back, Turn, Reclaims, Expires, Reads, after, is_reclaim, is_expiry, is_reading_from, end_of}
+use Rattle.xl_grace.specs.Grace.{is_of, newly, some_of, is_known, has_reclaimed, noted, others, Running, has_names, begun, admission, is_over, ended, is_back, Turn, Reclaims, Expires, Reads, after, is_reclaim, is_expiry, is_reading_from, end_of}
 
 -- ---- equal names
 
-same_protocols : (a b : Protocol) → same_protocol a b ≡ true → a ≡ b
-same_protocols Nlm Nlm e = refl
-same_protocols Nlm Nfs e = absurd (true≢false (sym e))
-same_protocols Nlm Smb e = absurd (true≢false (sym e))
-same_protocols Nfs Nlm e = absurd (true≢false (sym e))
-same_protocols Nfs Nfs e = refl
-same_protocols Nfs Smb e = absurd (true≢false (sym e))
-same_protocols Smb Nlm e = absurd (true≢false (sym e))
-same_protocols Smb Nfs e = absurd (true≢false (sym e))
-same_protocols Smb Smb e = refl
-
-pub same_names : (a b : Recorded) → same_name a b ≡ true → a ≡ b
-same_names a b e =
-    let parts = and_parts (same_protocol a.protocol b.protocol) (bytes_eq a.name b.name) e in
-    ap₂ (λ (p : Protocol) (n : List ℕ). record { protocol = p; name = n }) (same_protocols a.protocol b.protocol parts.0) ((bytes_eq-Decides a.name b.name).0 parts.1)
+-- one that has reclaimed has so under each mark
+pub like_back : (a b : Recorded) (grace : Option Running) → same_name a b ≡ true → is_back a grace ≡ is_back b grace
+like_back a b None e = refl
+like_back a b (Some g) e = by g.reclaimants where
+  by : (ones : List Reclaimant) → has_reclaimed a ones ≡ has_reclaimed b ones
+  by [] = refl
+  by (one ∷ ones) = ap₂ (λ (x y : Bool). (one.reclaimed && x) || y) (like_right one.name a b e) (by ones)
 
 -- ---- the names
 
-may_begin : (name : Recorded) (names : List Recorded) → may_reclaim name (newly names) ≡ is_recorded name names
-may_begin name [] = refl
-may_begin name (first ∷ names) = ap (λ b. same_name first name || b) (may_begin name names)
+and_true : (a : Bool) → (a && true) ≡ a
+and_true true = refl
+and_true false = refl
+
+some_begin : (p : Option Mark → Bool) (name : Recorded) (names : List Recorded) → some_of p name (newly names) ≡ list_any (λ held. same_name held name && p held.mark) names
+some_begin p name [] = refl
+some_begin p name (first ∷ names) = ap (λ b. (same_name first name && p first.mark) || b) (some_begin p name names)
 
 none_back : (name : Recorded) (names : List Recorded) → has_reclaimed name (newly names) ≡ false
 none_back name [] = refl
 none_back name (first ∷ names) = none_back name names
 
-may_noted : (name other : Recorded) (ones : List Reclaimant) → may_reclaim name (noted other ones) ≡ may_reclaim name ones
-may_noted name other [] = refl
-may_noted name other (one ∷ ones) =
+some_noted : (p : Option Mark → Bool) (name other : Recorded) (ones : List Reclaimant) → some_of p name (noted other ones) ≡ some_of p name ones
+some_noted p name other [] = refl
+some_noted p name other (one ∷ ones) =
     elim (cases_Bool (is_of other one)) [
       | inl here ↦ rw here refl
-      | inr other_one ↦ rw other_one (ap (λ b. is_of name one || b) (may_noted name other ones))
+      | inr other_one ↦ rw other_one (ap (λ b. (is_of name one && p one.name.mark) || b) (some_noted p name other ones))
     ]
 
 -- who is another than the one who goes stays
 kept_one : (name other : Recorded) (one : Reclaimant) → is_of other one ≡ true → is_of name one ≡ same_name other name
-kept_one name other one here = ap (λ (n : Recorded). same_name n name) (same_names one.name other here)
+kept_one name other one here = like_left one.name other name here
 
 -- one who is not the other
 differs : (name other : Recorded) (one : Reclaimant) → is_of other one ≡ false → same_name other name ≡ true → is_of name one ≡ false
-differs name other one apart same = sym (ap (λ (n : Recorded). same_name one.name n) (same_names other name same)) ∙ apart
+differs name other one apart same = sym (like_right one.name other name same) ∙ apart
 
-may_others : (name other : Recorded) (ones : List Reclaimant) → may_reclaim name (others other ones) ≡ (may_reclaim name ones && not (same_name other name))
-may_others name other [] = refl
-may_others name other (one ∷ ones) =
+some_others : (p : Option Mark → Bool) (name other : Recorded) (ones : List Reclaimant) → some_of p name (others other ones) ≡ (some_of p name ones && not (same_name other name))
+some_others p name other [] = refl
+some_others p name other (one ∷ ones) =
     elim (cases_Bool (is_of other one)) [
-      | inl here ↦ rw (here, kept_one name other one here, may_others name other ones) (grind (arith, nat_tests))
-      | inr other_one ↦ rw (other_one, may_others name other ones) (
+      | inl here ↦ rw (here, kept_one name other one here, some_others p name other ones) (gone_one (same_name other name) (p one.name.mark) (some_of p name ones))
+      | inr other_one ↦ rw (other_one, some_others p name other ones) (
           elim (cases_Bool (same_name other name)) [
             | inl same ↦ (
                 let unlike : is_of name one ≡ false = differs name other one other_one same in
                 rw (same, unlike) refl)
-            | inr unlike ↦ rw unlike (grind (arith, nat_tests))
+            | inr unlike ↦ rw unlike (stays_one (is_of name one && p one.name.mark) (some_of p name ones))
           ])
-    ]
+    ] where
+      gone_one : (s a m : Bool) → (m && not s) ≡ (((s && a) || m) && not s)
+      gone_one true a m = grind (arith, nat_tests)
+      gone_one false a m = grind (arith, nat_tests)
+
+      stays_one : (n m : Bool) → (n || (m && true)) ≡ ((n || m) && true)
+      stays_one true m = grind (arith, nat_tests)
+      stays_one false m = grind (arith, nat_tests)
+
+-- the name is among these, whatever the mark
+abbrev is_among : Recorded → List Reclaimant → Bool
+is_among name ones = some_of (λ kept. true) name ones
+
+among_begin : (name : Recorded) (names : List Recorded) → is_among name (newly names) ≡ is_recorded name names
+among_begin name [] = refl
+among_begin name (first ∷ names) = ap₂ (λ (x y : Bool). x || y) (and_true (same_name first name)) (among_begin name names)
 
 -- ---- from a start on
 
@@ -111,37 +121,33 @@ regrouped true true c = refl
 regrouped true false c = refl
 regrouped false b c = refl
 
-and_true : (a : Bool) → (a && true) ≡ a
-and_true true = refl
-and_true false = refl
-
--- who may reclaim then: who might, and has not expired since
-may_after : (name : Recorded) (g h : Running) (turns : List Turn) → after (Some g) turns ≡ Some h → may_reclaim name h.reclaimants ≡ (may_reclaim name g.reclaimants && not (list_any (is_expiry name) turns))
-may_after name g h [] e = ap (λ (k : Running). may_reclaim name k.reclaimants) (sym (some_running g h e)) ∙ sym (and_true (may_reclaim name g.reclaimants))
-may_after name g h (Reclaims other ∷ turns) e =
-    may_after name (record { end = g.end; reclaimants = noted other g.reclaimants }) h turns e
-    ∙ ap (λ b. b && not (list_any (is_expiry name) turns)) (may_noted name other g.reclaimants)
-may_after name g h (Expires other ∷ turns) e =
-    may_after name (record { end = g.end; reclaimants = others other g.reclaimants }) h turns e
-    ∙ ap (λ b. b && not (list_any (is_expiry name) turns)) (may_others name other g.reclaimants)
-    ∙ regrouped (may_reclaim name g.reclaimants) (same_name other name) (list_any (is_expiry name) turns)
-may_after name g h (Reads now ∷ turns) e =
+-- who may reclaim then, with such a mark: who might, and has not expired since
+some_after : (p : Option Mark → Bool) (name : Recorded) (g h : Running) (turns : List Turn) → after (Some g) turns ≡ Some h → some_of p name h.reclaimants ≡ (some_of p name g.reclaimants && not (list_any (is_expiry name) turns))
+some_after p name g h [] e = ap (λ (k : Running). some_of p name k.reclaimants) (sym (some_running g h e)) ∙ sym (and_true (some_of p name g.reclaimants))
+some_after p name g h (Reclaims other ∷ turns) e =
+    some_after p name (record { end = g.end; reclaimants = noted other g.reclaimants }) h turns e
+    ∙ ap (λ b. b && not (list_any (is_expiry name) turns)) (some_noted p name other g.reclaimants)
+some_after p name g h (Expires other ∷ turns) e =
+    some_after p name (record { end = g.end; reclaimants = others other g.reclaimants }) h turns e
+    ∙ ap (λ b. b && not (list_any (is_expiry name) turns)) (some_others p name other g.reclaimants)
+    ∙ regrouped (some_of p name g.reclaimants) (same_name other name) (list_any (is_expiry name) turns)
+some_after p name g h (Reads now ∷ turns) e =
     elim (cases_Bool (nat_le g.end.0 now.0)) [
       | inl past ↦ none_running h (sym (after_none turns) ∙ (rw past at e))
-      | inr before ↦ may_after name g h turns (rw before at e)
+      | inr before ↦ some_after p name g h turns (rw before at e)
     ]
 
 -- what becomes of a reclaim, from a start on
 pub reclaims_from : (stable : Stable) (now : Moment) (milliseconds : ℕ) (turns : List Turn) (name : Recorded) → let grace = after (begun stable now milliseconds) turns in
-    admission grace name true ≡ (if is_some grace then (if is_recorded name stable.names && not (list_any (is_expiry name) turns) then Enters else NotRecorded) else NoGrace)
+    admission grace name true ≡ (if is_some grace then (if is_known name stable.names && not (list_any (is_expiry name) turns) then Enters else NotRecorded) else NoGrace)
 reclaims_from stable now milliseconds turns name = by stable.names (after (begun stable now milliseconds) turns) refl where
   by : (names : List Recorded) (grace : Option Running) → after (begun (record { epoch = stable.epoch; names = names }) now milliseconds) turns ≡ grace
-      → admission grace name true ≡ (if is_some grace then (if is_recorded name names && not (list_any (is_expiry name) turns) then Enters else NotRecorded) else NoGrace)
+      → admission grace name true ≡ (if is_some grace then (if is_known name names && not (list_any (is_expiry name) turns) then Enters else NotRecorded) else NoGrace)
   by names None e = refl
   by [] (Some h) e = none_running h (sym (after_none turns) ∙ e)
   by (first ∷ names) (Some h) e =
       ap (λ b. if b then Enters else NotRecorded)
-      (may_after name (record { end = end_of now milliseconds; reclaimants = newly (first ∷ names) }) h turns e ∙ ap (λ b. b && not (list_any (is_expiry name) turns)) (may_begin name (first ∷ names)))
+      (some_after (λ kept. agree kept name.mark) name (record { end = end_of now milliseconds; reclaimants = newly (first ∷ names) }) h turns e ∙ ap (λ b. b && not (list_any (is_expiry name) turns)) (some_begin (λ kept. agree kept name.mark) name (first ∷ names)))
 
 -- the end stays
 end_after : (g h : Running) (turns : List Turn) → after (Some g) turns ≡ Some h → h.end ≡ g.end
@@ -188,12 +194,12 @@ back_tail a h true m true apart = absurd (true≢false (apart refl))
 back_tail a h n m false apart = grind (arith, nat_tests)
 back_tail a h false m true apart = grind (arith, nat_tests)
 
-back_noted : (name other : Recorded) (ones : List Reclaimant) → has_reclaimed name (noted other ones) ≡ (has_reclaimed name ones || (may_reclaim name ones && same_name other name))
+back_noted : (name other : Recorded) (ones : List Reclaimant) → has_reclaimed name (noted other ones) ≡ (has_reclaimed name ones || (is_among name ones && same_name other name))
 back_noted name other [] = refl
 back_noted name other (one ∷ ones) =
     elim (cases_Bool (is_of other one)) [
-      | inl here ↦ rw (here, kept_one name other one here) (back_head one.reclaimed (same_name other name) (has_reclaimed name ones) (may_reclaim name ones))
-      | inr other_one ↦ rw (other_one, back_noted name other ones) (back_tail one.reclaimed (has_reclaimed name ones) (is_of name one) (may_reclaim name ones) (same_name other name) (differs name other one other_one))
+      | inl here ↦ rw (here, kept_one name other one here, and_true) (back_head one.reclaimed (same_name other name) (has_reclaimed name ones) (is_among name ones))
+      | inr other_one ↦ rw (other_one, back_noted name other ones, and_true) (back_tail one.reclaimed (has_reclaimed name ones) (is_of name one) (is_among name ones) (same_name other name) (differs name other one other_one))
     ]
 
 gone_head : (r s h : Bool) → (h && not s) ≡ (((r && s) || h) && not s)
@@ -227,20 +233,20 @@ no_turn h m = grind (arith, nat_tests)
 
 -- who has reclaimed then: who had, or might and did since, and has not expired since
 back_after : (name : Recorded) (g h : Running) (turns : List Turn) → after (Some g) turns ≡ Some h
-    → has_reclaimed name h.reclaimants ≡ ((has_reclaimed name g.reclaimants || (may_reclaim name g.reclaimants && list_any (is_reclaim name) turns)) && not (list_any (is_expiry name) turns))
-back_after name g h [] e = ap (λ (k : Running). has_reclaimed name k.reclaimants) (sym (some_running g h e)) ∙ no_turn (has_reclaimed name g.reclaimants) (may_reclaim name g.reclaimants)
+    → has_reclaimed name h.reclaimants ≡ ((has_reclaimed name g.reclaimants || (is_among name g.reclaimants && list_any (is_reclaim name) turns)) && not (list_any (is_expiry name) turns))
+back_after name g h [] e = ap (λ (k : Running). has_reclaimed name k.reclaimants) (sym (some_running g h e)) ∙ no_turn (has_reclaimed name g.reclaimants) (is_among name g.reclaimants)
 back_after name g h (Reclaims other ∷ turns) e =
     let r = list_any (is_reclaim name) turns in
     let e' = list_any (is_expiry name) turns in
     back_after name (record { end = g.end; reclaimants = noted other g.reclaimants }) h turns e
-    ∙ ap₂ (λ (b m : Bool). (b || (m && r)) && not e') (back_noted name other g.reclaimants) (may_noted name other g.reclaimants)
-    ∙ on_reclaim (has_reclaimed name g.reclaimants) (may_reclaim name g.reclaimants) (same_name other name) r e'
+    ∙ ap₂ (λ (b m : Bool). (b || (m && r)) && not e') (back_noted name other g.reclaimants) (some_noted (λ kept. true) name other g.reclaimants)
+    ∙ on_reclaim (has_reclaimed name g.reclaimants) (is_among name g.reclaimants) (same_name other name) r e'
 back_after name g h (Expires other ∷ turns) e =
     let r = list_any (is_reclaim name) turns in
     let e' = list_any (is_expiry name) turns in
     back_after name (record { end = g.end; reclaimants = others other g.reclaimants }) h turns e
-    ∙ ap₂ (λ (b m : Bool). (b || (m && r)) && not e') (back_others name other g.reclaimants) (may_others name other g.reclaimants)
-    ∙ on_expiry (has_reclaimed name g.reclaimants) (may_reclaim name g.reclaimants) (same_name other name) r e'
+    ∙ ap₂ (λ (b m : Bool). (b || (m && r)) && not e') (back_others name other g.reclaimants) (some_others (λ kept. true) name other g.reclaimants)
+    ∙ on_expiry (has_reclaimed name g.reclaimants) (is_among name g.reclaimants) (same_name other name) r e'
 back_after name g h (Reads now ∷ turns) e =
     elim (cases_Bool (nat_le g.end.0 now.0)) [
       | inl past ↦ none_running h (sym (after_none turns) ∙ (rw past at e))
@@ -259,7 +265,7 @@ back_from stable now milliseconds turns name = by stable.names (after (begun sta
       let r = list_any (is_reclaim name) turns in
       let e' = list_any (is_expiry name) turns in
       back_after name (record { end = end_of now milliseconds; reclaimants = newly (first ∷ names) }) h turns e
-      ∙ ap₂ (λ (b m : Bool). (b || (m && r)) && not e') (none_back name (first ∷ names)) (may_begin name (first ∷ names))
+      ∙ ap₂ (λ (b m : Bool). (b || (m && r)) && not e') (none_back name (first ∷ names)) (among_begin name (first ∷ names))
 
 -- ---- the record without the names that reclaimed nothing
 

@@ -4,7 +4,8 @@ use Rattle.std.specs.Prelude.{ℕ, ◌+◌, ◌-◌, ◌^◌, min, nat_le, Bool,
 use Rattle.std.specs.List.{filter, list_any}
 use Rattle.xl_base.specs.declared.event.Moment.{Moment}
 use Rattle.xl_base.specs.declared.stable.Recorded.{Recorded}
-use Rattle.xl_base.specs.Stable.{Stable, same_name}
+use Rattle.xl_base.specs.declared.stable.Mark.{Mark}
+use Rattle.xl_base.specs.Stable.{Stable, same_name, agree}
 use Rattle.xl_grace.specs.declared.reclaimant.Reclaimant.{Reclaimant}
 use Rattle.xl_grace.specs.declared.grace.Admission.{Admission}
 use Rattle.xl_grace.specs.declared.grace.Admission.TheVariants.{Enters, Grace, NoGrace, NotRecorded}
@@ -17,8 +18,17 @@ is_of name one = same_name one.name name
 abbrev pub newly : List Recorded → List Reclaimant
 newly names = map (λ name. record { name = name; reclaimed = false }) names
 
+-- the name is among these, with a mark of this kind
+abbrev pub some_of : (Option Mark → Bool) → Recorded → List Reclaimant → Bool
+some_of p name reclaimants = list_any (λ one. is_of name one && p one.name.mark) reclaimants
+
+-- the name may reclaim with its mark, which agrees with the kept one
 abbrev pub may_reclaim : Recorded → List Reclaimant → Bool
-may_reclaim name reclaimants = list_any (is_of name) reclaimants
+may_reclaim name reclaimants = some_of (λ kept. agree kept name.mark) name reclaimants
+
+-- the name is recorded, with a mark that agrees with its own
+abbrev pub is_known : Recorded → List Recorded → Bool
+is_known name names = list_any (λ held. same_name held name && agree held.mark name.mark) names
 
 abbrev pub has_reclaimed : Recorded → List Reclaimant → Bool
 has_reclaimed name reclaimants = list_any (λ one. one.reclaimed && is_of name one) reclaimants
@@ -65,7 +75,7 @@ admission None name false = Enters
 admission (Some g) name true = if may_reclaim name g.reclaimants then Enters else NotRecorded
 admission (Some g) name false = Grace g.end
 
--- a client reclaimed something; a name that may not reclaim changes nothing (RECORD-9)
+-- a client reclaimed something; a name that isn't among those who may changes nothing (RECORD-9)
 abbrev pub reclaimed : Recorded → Option Running → Option Running
 reclaimed name None = None
 reclaimed name (Some g) = Some (record { end = g.end; reclaimants = noted name g.reclaimants })

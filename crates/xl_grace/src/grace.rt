@@ -1,7 +1,7 @@
 //! Grace, and what is asked of it.
 ghost use Rattle.std.specs.Prelude.{◌≡◌, true, false, IfOk, OnOk, is_some};
 ghost use Rattle.xl_base.specs.Stable.{is_recordable, is_recorded};
-ghost use Rattle.xl_base.specs.RecordFile.{with_name};
+ghost use Rattle.xl_base.specs.RecordFile.{added};
 
 use crate::reclaimant::{Reclaimant, has_reclaimed, may_reclaim, newly, note, remove};
 use std::alloc::{AllocError, Global};
@@ -11,13 +11,14 @@ use xl_base::{Moment, Record, RecordNameError, Recorded};
 /// What becomes of an ask, as far as grace is concerned.
 #[derive(Clone, Copy)]
 pub enum Admission {
-    /// It is let in: in grace the reclaim of a name that may reclaim, else what is no reclaim.
+    /// It is let in: in grace the reclaim of a name that may reclaim, with a mark that agrees, else what is no reclaim.
     Enters,
     /// It is no reclaim, and grace runs; a reading of the clock from this moment on may end it (RFC 7530 9.6.2).
     Grace(Moment),
     /// It is a reclaim, and no grace runs.
     NoGrace,
-    /// It is a reclaim in grace by a client that isn't recorded, or has expired in this grace.
+    /// It is a reclaim in grace by a client that isn't recorded, has expired in this grace, or comes with another mark than the
+    /// kept one.
     NotRecorded,
 }
 
@@ -75,7 +76,7 @@ impl Grace {
         self.period.is_some()
     }
 
-    /// What becomes of an ask of the client of this name, a reclaim or not. It takes no memory.
+    /// What becomes of an ask of the client of this name with this mark, a reclaim or not. It takes no memory.
     pub fn may_enter(&self, name: &Recorded, reclaim: bool) -> Admission
         ensures { result ≡ admission self.now name.now reclaim }
     {
@@ -88,7 +89,7 @@ impl Grace {
         }
     }
 
-    /// The client of this name reclaimed something. A name that may not reclaim changes nothing.
+    /// The client of this name reclaimed something. A name that isn't among those who may changes nothing.
     pub fn reclaimed(&mut self, name: &Recorded)
         ensures { self.new ≡ reclaimed name.now self.old }
     {
@@ -159,11 +160,11 @@ impl Grace {
 /// Adds a name that a client of NFSv4 or NLM has and that isn't among the others.
 fn add(stable: &mut Record, name: Recorded) -> Result<(), AllocError>
     requires { (is_recordable name ≡ true) × (is_recorded name stable.old.names ≡ false) }
-    ensures { OnOk result (stable.new ≡ with_name name stable.old) }
+    ensures { OnOk result (stable.new ≡ added name stable.old) }
 {
     match stable.add(name) {
         Ok(()) => Ok(()),
         Err(RecordNameError::NoMemory) => Err(AllocError),
-        Err(RecordNameError::Smb | RecordNameError::Twice) => unreachable!(),
+        Err(RecordNameError::Unfit | RecordNameError::Twice) => unreachable!(),
     }
 }

@@ -5,7 +5,7 @@ ghost use Rattle.xl_base.specs.declared.event.Moment.{Moment};
 ghost use Rattle.xl_base.specs.declared.stable.Recorded.{Recorded};
 ghost use Rattle.xl_base.specs.Stable.{Stable, is_recorded};
 ghost use Rattle.xl_grace.specs.declared.grace.Admission.TheVariants.{Enters, Grace, NoGrace, NotRecorded};
-ghost use Rattle.xl_grace.specs.Grace.{Running, has_names, begun, admission, is_over, ended, is_back, Turn, after, is_reclaim, is_expiry, is_reading_from};
+ghost use Rattle.xl_grace.specs.Grace.{Running, is_known, has_names, begun, admission, is_over, ended, is_back, Turn, after, is_reclaim, is_expiry, is_reading_from};
 
 /// Grace runs from a start whose record has names until the clock is read so many milliseconds later, or after, and at no
 /// other time.
@@ -20,11 +20,11 @@ pub fn new_asks_wait_for_the_end()
     ensures { (stable : Stable) (now : Moment) (milliseconds : ℕ) (turns : List Turn) (name : Recorded) → admission (after (begun stable now milliseconds) turns) name false ≡ (if is_some (after (begun stable now milliseconds) turns) then Grace (record { 0 = min (now.0 + milliseconds) (2 ^ 64 - 1) }) else Enters) }
 {}
 
-/// A reclaim enters exactly while grace runs, of a name that the record had at the start and that hasn't expired since
-/// (RFC 7530 9.6.3).
+/// A reclaim enters exactly while grace runs, of a name that the record had at the start, with a mark that agrees, and that
+/// hasn't expired since (RFC 7530 9.6.3).
 #[tactic(auto, using(crate::proofs::GraceLaws::reclaims_from))]
 pub fn recorded_names_reclaim_in_grace()
-    ensures { (stable : Stable) (now : Moment) (milliseconds : ℕ) (turns : List Turn) (name : Recorded) → admission (after (begun stable now milliseconds) turns) name true ≡ (if is_some (after (begun stable now milliseconds) turns) then (if is_recorded name stable.names && not (list_any (is_expiry name) turns) then Enters else NotRecorded) else NoGrace) }
+    ensures { (stable : Stable) (now : Moment) (milliseconds : ℕ) (turns : List Turn) (name : Recorded) → admission (after (begun stable now milliseconds) turns) name true ≡ (if is_some (after (begun stable now milliseconds) turns) then (if is_known name stable.names && not (list_any (is_expiry name) turns) then Enters else NotRecorded) else NoGrace) }
 {}
 
 /// After its end nobody reclaims, whatever comes.

@@ -4,7 +4,7 @@ ghost use Rattle.std.specs.List.{filter, list_any};
 ghost use Rattle.xl_grace.specs.Grace.{is_of, may_reclaim, has_reclaimed, newly, noted, others};
 
 use std::alloc::{AllocError, Global};
-use xl_base::Recorded;
+use xl_base::{Recorded, agree};
 
 /// A client that may reclaim in this grace.
 #[derive(Drop)]
@@ -29,11 +29,11 @@ pub(crate) fn newly(alloc: Global, names: &[Recorded]) -> Result<Vec<Reclaimant>
     Ok(reclaimants)
 }
 
-/// Whether the name is among these.
+/// Whether the name is among these, with a mark that agrees with its own.
 pub(crate) fn may_reclaim(reclaimants: &[Reclaimant], name: &Recorded) -> bool
     ensures { result ≡ may_reclaim name.now reclaimants.now }
 {
-    reclaimants.iter().any(|one| one.name == *name)
+    reclaimants.iter().any(|one| one.name.has_name_of(name) && agree(&one.name.mark, &name.mark))
 }
 
 /// Whether the name is among these and has reclaimed something.
@@ -42,13 +42,15 @@ pub(crate) fn has_reclaimed(reclaimants: &[Reclaimant], name: &Recorded) -> bool
 {
     reclaimants
         .iter()
-        .any(|one| one.reclaimed && one.name == *name)
+        .any(|one| one.reclaimed && one.name.has_name_of(name))
 }
 
 fn place_of(reclaimants: &[Reclaimant], name: &Recorded) -> Option<usize>
     ensures { result ≡ position (is_of name.now) reclaimants.now }
 {
-    reclaimants.iter().position(|one| one.name == *name)
+    reclaimants
+        .iter()
+        .position(|one| one.name.has_name_of(name))
 }
 
 /// Notes that the name has reclaimed something; another name than these changes nothing.
@@ -65,5 +67,5 @@ pub(crate) fn note(reclaimants: &mut Vec<Reclaimant>, name: &Recorded)
 pub(crate) fn remove(reclaimants: &mut Vec<Reclaimant>, name: &Recorded)
     ensures { reclaimants.new.items ≡ others name.now reclaimants.old.items }
 {
-    reclaimants.retain(|one| one.name != *name);
+    reclaimants.retain(|one| !one.name.has_name_of(name));
 }

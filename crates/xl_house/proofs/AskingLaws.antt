@@ -19,7 +19,7 @@ use Rattle.xl_core.specs.Deeds.{Deed, Asks}
 use Rattle.xl_core.specs.declared.ask.Ask.{Ask}
 use Rattle.xl_plan.specs.Plans.{Tells, deeds_of}
 use Rattle.xl_front_nlm.specs.Aims.{aimed, aimed_at, aimed_in, exported, last_of}
-use Rattle.xl_front_nlm.specs.Asks.{lock_ask}
+use Rattle.xl_front_nlm.specs.Asks.{lock_ask, state_mark}
 use Rattle.xl_front_nlm.specs.FrontNlm.{call_deeds, call_in}
 use Rattle.xl_front_nlm.specs.Hosts.{host_rows, rooms}
 use Rattle.xl_front_nlm.specs.Serving.{CallPlan, asks, at_bytes, if_found, lock_plan, on_file, planned}
@@ -28,7 +28,7 @@ use Rattle.xl_front_nlm.specs.State.{FrontState}
 use Rattle.xl_front_nlm.specs.declared.aim.Aim.{Aim}
 use Rattle.xl_front_nlm.specs.declared.outcome.Outcome.{Outcome}
 use Rattle.xl_front_nlm.specs.declared.outcome.Outcome.TheVariants.{Waits}
-use Rattle.xl_front_nlm.specs.Asking.{handle_of, monitors, reclaims, IsAskFor}
+use Rattle.xl_front_nlm.specs.Asking.{handle_of, mark_of, monitors, reclaims, IsAskFor}
 use Rattle.xl_nfs.specs.Ops.{OpItem}
 use Rattle.xl_nfs_laws.proofs.AskedRequestLaws.{request_asks}
 use Rattle.xl_nfs_laws.specs.AskedRequests.{AreRequestAsks, IsItsAsk, says_reclaim}
@@ -67,11 +67,11 @@ at_right n count f s call l plan named each = go (aimed count l) refl where
   go (Err outcome) e = tt
   go (Ok at) e = each at (aimed_file count l at e)
 
-lock_right : (n count : ℕ) (f : FrontState) (s : CoreState) (call : CallItem) (monitored : Bool) (a : LockArgsItem) (at : Aim) → handle_of call ≡ Some a.lock.fh → reclaims call ≡ a.reclaim → monitors call ≡ monitored → exported count a.lock.fh ≡ Some at.file → Right count f call n s (lock_plan monitored f s a at)
-lock_right n count f s call monitored a at named reclaim monitor file = go (does_wait s a at) where
+lock_right : (n count : ℕ) (f : FrontState) (s : CoreState) (call : CallItem) (monitored : Bool) (a : LockArgsItem) (at : Aim) → handle_of call ≡ Some a.lock.fh → reclaims call ≡ a.reclaim → monitors call ≡ monitored → mark_of call ≡ Some (state_mark a) → exported count a.lock.fh ≡ Some at.file → Right count f call n s (lock_plan monitored f s a at)
+lock_right n count f s call monitored a at named reclaim monitor mark file = go (does_wait s a at) where
   go : (b : Bool) → Right count f call n s (if b then Tells Waits else asks (Some a.lock.caller_name) f (rooms f.hosts) (lock_ask monitored (host_rows a.lock.caller_name f.hosts) a at))
   go true = tt
-  go false = (((a.lock.fh, named, file), sym reclaim, refl, refl, refl, sym monitor), tt)
+  go false = (((a.lock.fh, named, file), sym reclaim, refl, refl, refl, sym monitor, sym mark), tt)
 
 if_right : (n count : ℕ) (f : FrontState) (s : CoreState) (call : CallItem) {A : Type 0} (none : Outcome) (deed : A → Deed) (o : Option A) → ((x : A) → IsAskFor count (length f.hosts) call (deed x)) → Right count f call n s (if_found f none deed o)
 if_right n count f s call none deed None each = tt
@@ -87,12 +87,12 @@ planned_right : (n count : ℕ) (f : FrontState) (s : CoreState) (call : CallIte
 unfolding planned
 planned_right n count f s Null = tt
 planned_right n count f s (Granted a) = tt
-planned_right n count f s (Test a) = at_right n count f s (Test a) a.lock _ refl (λ at file. (((a.lock.fh, refl, file), refl, refl, refl, refl, refl), tt))
-planned_right n count f s (Lock a) = at_right n count f s (Lock a) a.lock _ refl (λ at file. lock_right n count f s (Lock a) true a at refl refl refl file)
-planned_right n count f s (NmLock a) = at_right n count f s (NmLock a) a.lock _ refl (λ at file. lock_right n count f s (NmLock a) false a at refl refl refl file)
+planned_right n count f s (Test a) = at_right n count f s (Test a) a.lock _ refl (λ at file. (((a.lock.fh, refl, file), refl, refl, refl, refl, refl, refl), tt))
+planned_right n count f s (Lock a) = at_right n count f s (Lock a) a.lock _ refl (λ at file. lock_right n count f s (Lock a) true a at refl refl refl refl file)
+planned_right n count f s (NmLock a) = at_right n count f s (NmLock a) a.lock _ refl (λ at file. lock_right n count f s (NmLock a) false a at refl refl refl refl file)
 planned_right n count f s (Cancel a) = at_right n count f s (Cancel a) a.lock _ refl (λ at file. if_right n count f s (Cancel a) _ _ _ (λ id. tt))
-planned_right n count f s (Unlock a) = at_right n count f s (Unlock a) a.lock _ refl (λ at file. (((a.lock.fh, refl, file), refl, refl, refl, refl, refl), tt))
-planned_right n count f s (Share a) = file_right n count f s (Share a) a.fh _ (λ file is. (((a.fh, refl, is), refl, refl, refl, refl, refl), tt))
+planned_right n count f s (Unlock a) = at_right n count f s (Unlock a) a.lock _ refl (λ at file. (((a.lock.fh, refl, file), refl, refl, refl, refl, refl, refl), tt))
+planned_right n count f s (Share a) = file_right n count f s (Share a) a.fh _ (λ file is. (((a.fh, refl, is), refl, refl, refl, refl, refl, refl), tt))
 planned_right n count f s (Unshare a) = file_right n count f s (Unshare a) a.fh _ (λ file is. if_right n count f s (Unshare a) _ _ _ (λ claim. tt))
 planned_right n count f s (FreeAll a) = if_right n count f s (FreeAll a) _ _ _ (λ number. tt)
 

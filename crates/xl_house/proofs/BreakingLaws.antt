@@ -51,7 +51,7 @@ use Rattle.xl_core.proofs.FrameLaws.{ask_quiet}
 use Rattle.xl_core.proofs.GoodLaws.{Turned, IsMoved, Answers, Rests, IsFirst, clear_up, each_turn, ranges_no_cache}
 use Rattle.xl_core.proofs.AsideLaws.{with_aside, of_expire}
 use Rattle.xl_core.proofs.StandingLaws.{timely}
-use Rattle.xl_core.specs.Standings.{is_smb, recorded_as, standing, stands}
+use Rattle.xl_core.specs.Standings.{is_smb, asker_as, standing, stands}
 use Rattle.xl_core.proofs.WayAsks.{ask_recalls}
 use Rattle.xl_core.proofs.WayDeeds.{next_is}
 use Rattle.xl_core.proofs.WayLaws.{NoWay, Begins, AsksNoCache, known_no_cache, unbroken, way_is, way_runs_at_once}
@@ -228,7 +228,7 @@ first_begun left s a c cache first calm fresh hasty clear here way = by (asked_c
       let p = plea_of left s a in
       let same : d ≡ c = same_found d c f in
       let asks : asked_claims a (asked_whats a.act) s.names ≡ c ∷ ds = e ∙ ap (λ (x : Claim). x ∷ ds) same in
-      let runs = way_runs_at_once s.waiters p c ds s ((plea_parts left s a).0 ∙ ap (λ (b : Bool). standing s (recorded_as a.party) (is_smb a.party) b) fresh ∙ timely s (recorded_as a.party) (is_smb a.party) calm) ((plea_parts left s a).1 ∙ hasty) clear in
+      let runs = way_runs_at_once s.waiters p c ds s ((plea_parts left s a).0 ∙ ap (λ (b : Bool). standing s (asker_as a) (is_smb a.party) b) fresh ∙ timely s (asker_as a) (is_smb a.party) calm) ((plea_parts left s a).1 ∙ hasty) clear in
       let runs_there = subst (λ (xs : List Claim). all_run (made_way s.waiters p xs s).1.claims c ≡ true) (sym asks) runs in
       none_begins c cache (made_way s.waiters p (asked_claims a (asked_whats a.act) s.names) s).1.claims (unbroken (made_way s.waiters p (asked_claims a (asked_whats a.act) s.names) s).1.claims c runs_there) here way
 

@@ -1,13 +1,15 @@
 -- What a crash in the midst of an entry makes of the record: what the deeds before it made of it.
-use Rattle.std.proofs.Common.{◌≡◌, ℕ, ◌+◌, ◌≤◌, Bool, true, false, ◌==◌, zero, suc, if◌then◌else◌, inl, inr, List, [], ◌∷◌, ◌++◌, length, take, refl, sym, ap, subst, ◌∙◌, arith}
+use Rattle.std.proofs.Common.{◌≡◌, ℕ, ◌+◌, ◌≤◌, Bool, true, false, ◌==◌, zero, suc, if◌then◌else◌, inl, inr, ◌⊎◌, List, [], ◌∷◌, ◌++◌, length, take, refl, sym, ap, subst, ◌∙◌, arith}
 use Rattle.std.proofs.lemmas.Bool.{cases_Bool, both_ways, eqb-true}
 use Rattle.std.proofs.lemmas.Bool.Decides.{nat_tests}
 use Rattle.std.proofs.lemmas.List.{take-append-le}
+use Rattle.xl_base.specs.Lists.{IsIn}
 use Rattle.xl_base.specs.Stable.{Stable, raised, is_recorded}
 use Rattle.xl_base.specs.declared.event.Event.{Event}
 use Rattle.xl_base.specs.declared.event.Event.TheVariants.{Restart}
 use Rattle.xl_base.specs.declared.journal.Entry.{Entry}
 use Rattle.xl_base.specs.declared.journal.Head.{Head}
+use Rattle.xl_base.specs.declared.stable.Recorded.{Recorded}
 use Rattle.xl_core.specs.Deeds.{Deed, done, all_done, AreFit}
 use Rattle.xl_core.specs.Good.{IsGood}
 use Rattle.xl_core.specs.State.{CoreState, step_begun}
@@ -20,13 +22,13 @@ use Rattle.xl_house.specs.Free.{IsFree}
 use Rattle.xl_house.specs.Journals.{is_restart}
 use Rattle.xl_house.specs.Lawful.{found}
 use Rattle.xl_house.specs.Machine.{Turn, step}
-use Rattle.xl_house.specs.Recording.{AnyAt, IsMonitored, IsOver, last_of}
+use Rattle.xl_house.specs.Recording.{AnyAt, IsMonitored, IsOver, IsChanged, last_of}
 use Rattle.xl_house.specs.State.{Whole, start_of}
 use Rattle.xl_house.specs.Truthful.{record_left, IsRecordCut, IsCutWell, AlwaysCut}
 use Rattle.xl_house.proofs.DoneLaws.{deeds_taken, each_event, left_is}
 use Rattle.xl_house.proofs.MachineLaws.{step_is, step_free, begin_free}
 use Rattle.xl_house.proofs.RecordLaws.{deeds_paid}
-use Rattle.xl_house.proofs.RecordingLaws.{deeds_come, deeds_go}
+use Rattle.xl_house.proofs.RecordingLaws.{deeds_from, deeds_go, deeds_stay}
 use Rattle.xl_house.proofs.StoringLaws.{Stores, Nothing, Succeeds, Fails, IsPaid, HasStored, deed_stores, deeds_store, begun_has}
 
 -- ---- one deed stores one record at most
@@ -139,12 +141,11 @@ same_stable s = refl
 
 cut_other : (k n : ℕ) (s : Whole) (event : Event) → is_restart event ≡ false → IsFree s → k ≤ (step n s event).made → IsRecordCut k n s event
 cut_other k n s event other free made = record {
-  comes = λ name out there.
-      any (λ u d. IsMonitored name n u d)
-      (deeds_come n (found s) reach.first name good fit (ap (λ (x : Stable). is_recorded name x.names) (same_stable s.core) ∙ out) (sym (ap (λ (x : Stable). is_recorded name x.names) left) ∙ there));
+  comes = λ name there. came name (deeds_from n (found s) reach.first name good fit (subst (λ (x : Stable). IsIn name x.names) left there));
   goes = λ name there out.
       any (λ u d. IsOver name u d)
       (deeds_go n (found s) reach.first name good fit (ap (λ (x : Stable). is_recorded name x.names) (same_stable s.core) ∙ there) (sym (ap (λ (x : Stable). is_recorded name x.names) left) ∙ out));
+  stays = λ name there. stayed name (deeds_stay n (found s) reach.first name good fit (subst (λ (x : Stable). IsIn name x.names) (sym (same_stable s.core)) there));
 } where
   ds : List Deed
   ds = deeds n s event
@@ -168,6 +169,16 @@ cut_other k n s event other free made = record {
   any : (P : CoreState → Deed → Type 0) → AnyAt P n (found s) reach.first → AnyAt P n (found s) ds
   any P some = subst (λ (xs : List Deed). AnyAt P n (found s) xs) (sym reach.parts) (any_first P n (found s) reach.first reach.rest some)
 
+  came : (name : Recorded) → IsIn name (found s).stable.names ⊎ AnyAt (λ u d. IsMonitored name n u d) n (found s) reach.first
+      → IsIn name s.core.stable.names ⊎ AnyAt (λ u d. IsMonitored name n u d) n (found s) ds
+  came name (inl there) = inl (subst (λ (x : Stable). IsIn name x.names) (same_stable s.core) there)
+  came name (inr some) = inr (any (λ u d. IsMonitored name n u d) some)
+
+  stayed : (name : Recorded) → IsIn name (all_done n (found s) reach.first).stable.names ⊎ AnyAt (λ u d. IsChanged name n u d) n (found s) reach.first
+      → IsIn name (record_left k n s event).names ⊎ AnyAt (λ u d. IsChanged name n u d) n (found s) ds
+  stayed name (inl there) = inl (subst (λ (x : Stable). IsIn name x.names) (sym left) there)
+  stayed name (inr some) = inr (any (λ u d. IsChanged name n u d) some)
+
 -- a restart's store leaves the names
 none_taken : (k : ℕ) → (let none : List Stable = [] in take k none ≡ none)
 none_taken zero = refl
@@ -183,8 +194,9 @@ restart_left k n s = raised_names k s.core.stable
 
 cut_restart : (k n : ℕ) (s : Whole) → IsRecordCut k n s Restart
 cut_restart k n s = record {
-  comes = λ name out there. absurd (both_ways (is_recorded name s.core.stable.names) out (sym (ap (is_recorded name) (restart_left k n s)) ∙ there));
+  comes = λ name there. inl (subst (λ (names : List Recorded). IsIn name names) (restart_left k n s) there);
   goes = λ name there out. absurd (both_ways (is_recorded name s.core.stable.names) (sym (ap (is_recorded name) (restart_left k n s)) ∙ out) there);
+  stays = λ name there. inl (subst (λ (names : List Recorded). IsIn name names) (sym (restart_left k n s)) there);
 }
 
 pub record_cut : (k n : ℕ) (s : Whole) (event : Event) → IsFree s → k ≤ (step n s event).made → IsRecordCut k n s event

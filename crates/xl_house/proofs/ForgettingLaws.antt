@@ -1,12 +1,14 @@
 -- Who waits, waits for itself. So nobody waits for a client once it expired, and its name doesn't come into the record again in that
 -- entry.
 use Rattle.std.proofs.Common.{◌≡◌, ℕ, Bool, true, false, not, ◌||◌, ◌==◌, inl, inr, ◌⊎◌, List, [], ◌∷◌, ◌++◌, Option, Some, None, IfSome, option_map, refl, sym, ap, subst, ◌∙◌}
+use Rattle.std.specs.Prelude.{bytes_eq}
 use Rattle.std.specs.List.{AllByRecursion, filter, list_any, slice_get}
 use Rattle.std.proofs.lemmas.Bool.{cases_Bool, both_ways, and_parts}
 use Rattle.std.proofs.lemmas.Option.{same_Some}
+use Rattle.std.proofs.lemmas.Slice.Eq.{bytes_eq-Decides}
 use Rattle.xl_base.proofs.Members.{all_in, all_append}
 use Rattle.xl_base.specs.Lists.{IsIn}
-use Rattle.xl_base.specs.Stable.{Stable, same_protocol, is_recorded}
+use Rattle.xl_base.specs.Stable.{Stable, same_protocol, same_name, is_recorded}
 use Rattle.xl_base.specs.declared.event.Moment.{Moment}
 use Rattle.xl_base.specs.declared.name.Owner.{Owner}
 use Rattle.xl_base.specs.declared.name.Owner.TheVariants as owners
@@ -46,7 +48,8 @@ use Rattle.xl_core.proofs.FrameLaws.{ended_expires, expired_both, turn_frame}
 use Rattle.xl_core.proofs.PutOffLaws.{expired_is}
 use Rattle.xl_house.specs.Free.{WaitsForItself}
 use Rattle.xl_house.specs.Lawful.{may_follow}
-use Rattle.xl_house.proofs.RecordingLaws.{deed_comes}
+use Rattle.xl_house.proofs.MarkLaws.{like_in, recorded_of}
+use Rattle.xl_house.proofs.RecordingLaws.{deed_from}
 use Rattle.xl_house.proofs.StoringLaws.{is_clocked}
 
 -- ---- who waits, waits for itself
@@ -140,19 +143,14 @@ deeds_wait n s (d ∷ ds) good fit all = deeds_wait n (done n s d) ds (deed_good
 
 -- the waiter isn't this client's
 abbrev pub IsOther : List Name → List ℕ → Waiter → Type 0
-IsOther names client w = recorded_at names w.party ≡ client_name client → ⊥
+IsOther names client w = same_name (recorded_at names w.party) (client_name client) ≡ true → ⊥
 
 -- the record names the client by its own name alone
-abbrev is_nfs : Protocol → Bool
-is_nfs Nlm = false
-is_nfs Nfs = true
-is_nfs Smb = false
+not_nfs : (name : Recorded) (client : List ℕ) → same_protocol name.protocol Nfs ≡ false → same_name name (client_name client) ≡ true → ⊥
+not_nfs name client other e = both_ways (same_protocol name.protocol Nfs) other (and_parts (same_protocol name.protocol Nfs) (bytes_eq name.name client) e).0
 
-not_nfs : (name : Recorded) (client : List ℕ) → is_nfs name.protocol ≡ false → name ≡ client_name client → ⊥
-not_nfs name client other e = both_ways (is_nfs name.protocol) other (ap (λ (x : Recorded). is_nfs x.protocol) e)
-
-named_so : (name : Name) (client : List ℕ) → recorded_name name ≡ client_name client → name ≡ NfsParty client
-named_so (NfsParty id) client e = ap (λ (x : Recorded). NfsParty x.name) e
+named_so : (name : Name) (client : List ℕ) → same_name (recorded_name name) (client_name client) ≡ true → name ≡ NfsParty client
+named_so (NfsParty id) client e = ap NfsParty ((bytes_eq-Decides id client).0 e)
 named_so (NlmParty caller) client e = absurd (not_nfs (recorded_name (NlmParty caller)) client refl e)
 named_so (NlmRange caller svid oh) client e = absurd (not_nfs (recorded_name (NlmRange caller svid oh)) client refl e)
 named_so (NlmShare caller oh) client e = absurd (not_nfs (recorded_name (NlmShare caller oh)) client refl e)
@@ -160,7 +158,7 @@ named_so (NfsRange id owner) client e = absurd (not_nfs (recorded_name (NfsRange
 named_so (NfsShare id owner) client e = absurd (not_nfs (recorded_name (NfsShare id owner)) client refl e)
 named_so (SmbLease guid key) client e = absurd (not_nfs (recorded_name (SmbLease guid key)) client refl e)
 
-found_so : (o : Option Name) (client : List ℕ) → recorded_by o ≡ client_name client → o ≡ Some (NfsParty client)
+found_so : (o : Option Name) (client : List ℕ) → same_name (recorded_by o) (client_name client) ≡ true → o ≡ Some (NfsParty client)
 found_so None client e = absurd (not_nfs (recorded_by None) client refl e)
 found_so (Some name) client e = ap Some (named_so name client e)
 
@@ -186,7 +184,7 @@ first_asked w pled = by w.asked refl pled where
   by (c ∷ cs) e pled = (c, cs, e)
 
 -- who waits as the client goes with the client's party
-goes_with : (s : CoreState) (w : Waiter) (client : List ℕ) → IsGood s → IsIn w s.waiters → WaitsForItself w → recorded_at s.names w.party ≡ client_name client
+goes_with : (s : CoreState) (w : Waiter) (client : List ℕ) → IsGood s → IsIn w s.waiters → WaitsForItself w → same_name (recorded_at s.names w.party) (client_name client) ≡ true
     → (party : Party) × (party_named s.names (NfsParty client) ≡ Some party) × (waits_for party w ≡ true)
 unfolding waits_for
 goes_with s w client good there itself e = by w.party refl e where
@@ -202,7 +200,7 @@ goes_with s w client good there itself e = by w.party refl e where
   first_own : asks.0.party ≡ w.party
   first_own = (subst (λ (cs : List Claim). AllByRecursion (λ c. c.party ≡ w.party) cs) asks.2 itself).0
 
-  by : (p : Party) → w.party ≡ p → recorded_at s.names p ≡ client_name client → (party : Party) × (party_named s.names (NfsParty client) ≡ Some party) × (list_any (λ c. same_parties c.party party) w.asked ≡ true)
+  by : (p : Party) → w.party ≡ p → same_name (recorded_at s.names p) (client_name client) ≡ true → (party : Party) × (party_named s.names (NfsParty client) ≡ Some party) × (list_any (λ c. same_parties c.party party) w.asked ≡ true)
   by (parties.Open number) own e = absurd (not_nfs (recorded_at s.names (parties.Open number)) client refl e)
   by (parties.Name protocol number) own e =
       let at : slice_get s.names number ≡ Some (NfsParty client) = found_so (slice_get s.names number) client e in
@@ -361,7 +359,12 @@ follow_forgets : (n : ℕ) (s : CoreState) (d : Deed) (client : List ℕ) → ma
 follow_forgets n s (Serves left) client follows good fit all out =
     elim (cases_Bool (is_recorded (client_name client) (done n s (Serves left)).stable.names)) [
       | inr none ↦ none
-      | inl came ↦ let by = deed_comes n s (Serves left) (client_name client) good fit out came in absurd (all_in (IsOther s.names client) by.0 s.waiters all by.2 by.4)
+      | inl came ↦
+          let held = recorded_of (client_name client) (done n s (Serves left)).stable.names came in
+          elim (deed_from n s (Serves left) held.0 good fit held.1) [
+            | inl before ↦ absurd (both_ways (is_recorded (client_name client) s.stable.names) out (like_in (client_name client) held.0 s.stable.names before held.2))
+            | inr by ↦ absurd (all_in (IsOther s.names client) by.0 s.waiters all by.3 (ap (λ (x : Recorded). same_name x (client_name client)) by.7 ∙ held.2))
+          ]
     ]
 follow_forgets n s Draws client follows good fit all out = ap (λ (x : Stable). is_recorded (client_name client) x.names) (drawn_stable s) ∙ out
 follow_forgets n s d client follows good fit all out = absurd (both_ways false refl follows)

@@ -61,6 +61,7 @@ use Rattle.xl_house.specs.State.{Whole, as_found, rooms_of}
 use Rattle.xl_house.specs.Telling.{TurnTaken}
 use Rattle.xl_house.specs.Timed.{leases_after}
 use Rattle.xl_house.proofs.LawfulLaws.{begun_held, begun_waits}
+use Rattle.xl_house.proofs.MarkLaws.{like_in, recorded_of}
 use Rattle.xl_house.proofs.MachineLaws.{heard_good}
 use Rattle.xl_house.proofs.DoneLaws.{rounds_are}
 use Rattle.xl_house.proofs.SettleLaws.{turns_are}
@@ -142,9 +143,11 @@ neither (inr x) = x
 pub record_changed_in : (n stores number : ℕ) (bytes : List ℕ) (outs : List Out) (s t : Whole) (name : Recorded) → deeds n s (Message number bytes) ≡ Draws ∷ []
     → is_recorded name s.core.stable.names ≡ false → is_recorded name t.core.stable.names ≡ true → IsRecording n s (record { event = Message number bytes; stores = stores; outs = outs }) t → ⊥
 record_changed_in n stores number bytes outs s t name does before now recording =
-    neither
-    (subst (λ (ds : List Deed). AnyAt (λ u d. IsMonitored name n u d) n (found s) ds) does
-    (recording.0.comes name (ap (λ (stable : Stable). is_recorded name stable.names) (begun_as s.core).0 ∙ before) now))
+    let held = recorded_of name t.core.stable.names now in
+    elim (recording.0.comes held.0 held.1) [
+      | inl there ↦ both_ways (is_recorded name s.core.stable.names) before (sym (ap (λ (stable : Stable). is_recorded name stable.names) (begun_as s.core).0) ∙ like_in name held.0 (found s).stable.names there held.2)
+      | inr by ↦ neither (subst (λ (ds : List Deed). AnyAt (λ u d. IsMonitored held.0 n u d) n (found s) ds) does by)
+    ]
 
 pub let_in_in : (n stores number : ℕ) (bytes : List ℕ) (outs : List Out) (s t : Whole) (left : Rooms) (a : Ask) (g : Running) (c : Claim) → deeds n s (Message number bytes) ≡ Asks left a ∷ [] → s.core.grace ≡ Some g → asks_claims a.act ≡ true
     → a.reclaim ≡ false → (ask n left (found s) a).0 ≡ Granted c → IsAdmitting n s (record { event = Message number bytes; stores = stores; outs = outs }) t → ⊥

@@ -1,5 +1,6 @@
 pub mod StartLaws
 pub mod StoringLaws
+pub mod MarkLaws
 pub mod RecordingLaws
 pub mod AdmittingLaws
 pub mod ForgettingLaws

@@ -42,7 +42,7 @@ use Rattle.xl_house.proofs.EachEntry.{always}
 use Rattle.xl_house.proofs.ForgettingLaws.{clock_clears, is_of_clock, turns_forget}
 use Rattle.xl_house.proofs.LawfulLaws.{next_core}
 use Rattle.xl_house.proofs.MachineLaws.{begin_free, begun_knows, step_free, step_is}
-use Rattle.xl_house.proofs.RecordingLaws.{deeds_come, deeds_go, deeds_noted}
+use Rattle.xl_house.proofs.RecordingLaws.{deeds_from, deeds_go, deeds_hold, deeds_noted, deeds_stay}
 use Rattle.xl_house.proofs.StoringLaws.{HasStored, IsPaid, begun_has, deeds_store, free_paid, is_clocked, paid_append, short_is, turns_paid}
 use Rattle.xl_house.proofs.TimedLaws.{fit_behind}
 
@@ -138,7 +138,7 @@ stored_by n s event free may = each_event (λ e. may_enter n e ≡ true → AreS
 
 begun_recorded : (n : ℕ) (u : CoreState) (ds : List Deed) (t : CoreState) → IsRecordedBy n u ds t → IsRecordedBy n u ds (step_begun t)
 unfolding step_begun
-begun_recorded n u ds t is = record { stable = is.stable; grace = is.grace; comes = is.comes; goes = is.goes }
+begun_recorded n u ds t is = record { stable = is.stable; grace = is.grace; comes = is.comes; goes = is.goes; stays = is.stays; held = is.held }
 
 recorded_by : (n : ℕ) (s : Whole) (event : Event) → is_restart event ≡ false → IsFree s → IsRecordedBy n (found s) (deeds n s event) (step n s event).next.core
 recorded_by n s event other free =
@@ -151,8 +151,10 @@ recorded_by n s event other free =
     (record {
       stable = noted.record_is;
       grace = noted.grace_is;
-      comes = λ name out there. deeds_come n (found s) ds name good fit out there;
+      comes = λ name there. deeds_from n (found s) ds name good fit there;
       goes = λ name there gone. deeds_go n (found s) ds name good fit there gone;
+      stays = λ name there. deeds_stay n (found s) ds name good fit there;
+      held = deeds_hold n (found s) ds good fit;
     }))
 
 -- ---- who expired

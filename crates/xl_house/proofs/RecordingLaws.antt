@@ -1,16 +1,16 @@
--- Exactly how each deed changes the record and the grace that runs, and which names come and go.
-use Rattle.std.proofs.Common.{◌≡◌, ℕ, Bool, true, false, not, ◌&&◌, ◌||◌, ◌==◌, if◌then◌else◌, inl, inr, ◌⊎◌, List, [], ◌∷◌, ◌++◌, Option, Some, None, IfSome, refl, sym, ap, subst, ◌∙◌, append-nil}
+-- Exactly how each deed changes the record and the grace that runs, and which names and marks come and go.
+use Rattle.std.proofs.Common.{◌≡◌, ℕ, Bool, true, false, not, ◌&&◌, ◌==◌, if◌then◌else◌, inl, inr, ◌⊎◌, List, [], ◌∷◌, ◌++◌, Option, Some, None, IfSome, refl, sym, ap, ap₂, subst, ◌∙◌, append-nil}
 use Rattle.std.specs.List.{filter}
-use Rattle.std.proofs.lemmas.Bool.{cases_Bool, both_ways, or_parts, eq-eqb, not-true}
-use Rattle.std.proofs.lemmas.List.Folds.{list_any-append}
-use Rattle.std.proofs.lemmas.Option.{same_Some}
-use Rattle.xl_base.proofs.Members.{all_in, in_append_right}
+use Rattle.std.proofs.lemmas.Bool.{cases_Bool, both_ways, and_parts, or_parts, eq-eqb, not-true}
+use Rattle.xl_base.proofs.Members.{all_in, in_append_right, in_filter, in_filter_from}
+use Rattle.xl_base.proofs.StableLaws.{same_name-sym, like_right, like_recorded}
 use Rattle.xl_base.specs.Lists.{IsIn, Pairwise}
 use Rattle.xl_base.specs.RecordFile.{with_name}
-use Rattle.xl_base.specs.Stable.{Stable, same_name, is_recorded, is_recordable}
+use Rattle.xl_base.specs.Stable.{Stable, same_name, keeps, is_recorded, is_kept}
 use Rattle.xl_base.specs.declared.name.Party.{Party}
+use Rattle.xl_base.specs.declared.stable.Mark.{Mark}
 use Rattle.xl_base.specs.declared.stable.Recorded.{Recorded}
-use Rattle.xl_grace.proofs.GraceLaws.{same_names}
+use Rattle.xl_grace.proofs.GraceLaws.{like_back}
 use Rattle.xl_grace.specs.Grace.{Running, expired, is_back, reclaimed, shortened}
 use Rattle.xl_matrix.specs.declared.claim.Claim.{Claim}
 use Rattle.xl_names.specs.declared.name.Name.{Name}
@@ -22,12 +22,12 @@ use Rattle.xl_core.specs.BreakAnswers.{client_of}
 use Rattle.xl_core.specs.BreaksBegun.{breaks_begun}
 use Rattle.xl_core.specs.Causes.{asks_claims, name_asked, name_waiting, noted_by}
 use Rattle.xl_core.specs.Decide.{ask}
-use Rattle.xl_core.specs.Deeds.{Deed, Asks, GivesBack, Weakens, Acks, Cancels, Ends, Serves, Draws, Advances, Lapses, Renews, Expires, Closes, FailsStore, EndsGrace, turned, done, all_done, IsFitDeed, AreFit}
+use Rattle.xl_core.specs.Deeds.{Deed, Asks, GivesBack, Weakens, Acks, Cancels, Ends, Serves, Draws, Advances, Lapses, Renews, Expires, Closes, FailsStore, EndsGrace, given, turned, done, all_done, IsFitDeed, AreFit}
 use Rattle.xl_core.specs.Frames.{serves_none}
 use Rattle.xl_core.specs.Good.{IsGood, are_apart}
 use Rattle.xl_core.specs.Judge.{to_record}
 use Rattle.xl_core.specs.Settle.{settle, way_again, plea_again, end_party}
-use Rattle.xl_core.specs.Standings.{recorded_as, recorded_at}
+use Rattle.xl_core.specs.Standings.{recorded_as, marked, asker_as, waiter_as, stores_name}
 use Rattle.xl_core.specs.State.{CoreState, Aside, aside_of}
 use Rattle.xl_core.specs.Stores.{stored, store_failed, client_name, recorded, record_left, unrecorded, unstored, without_name}
 use Rattle.xl_core.specs.Ticks.{end_some, unleased, barred, gone_client, forgotten, expire, lapsed_by, lapse, end_grace}
@@ -44,7 +44,8 @@ use Rattle.xl_core.proofs.FrameLaws.{cancel_aside, give_back_aside, weaken_aside
 use Rattle.xl_core.proofs.GoodLaws.{IsFirst, IsMoved, Answers, Rests, again_waits, each_turn, once_answered}
 use Rattle.xl_core.proofs.WayAsks.{ask_own, ask_way_noted}
 use Rattle.xl_core.proofs.WayLaws.{way_keeps, way_serves}
-use Rattle.xl_house.specs.Recording.{with_some, stable_by, name_waited, stable_served, without_client, stable_left, stable_after, grace_by, grace_without, grace_left, grace_after, AnyAt, IsMonitored, IsNamed, IsOver}
+use Rattle.xl_house.specs.Recording.{with_some, stable_by, name_waited, stable_served, without_client, stable_left, stable_after, grace_by, grace_without, grace_left, grace_after, AnyAt, HasServed, IsMonitored, IsNamed, IsOver, IsChanged, IsHeldOn, AreHeldOn}
+use Rattle.xl_house.proofs.MarkLaws.{kept_in, kept_named, kept_of, kept_with, keeps_apart, like_in, like_marked, one_asked, one_what, recorded_of, some_from, some_stays, wanted_is}
 
 -- it is so of the record and of the grace
 pub record IsNoted (s : CoreState) (stable : Stable) (grace : Option Running) (t : CoreState) : Type 0 where
@@ -151,7 +152,7 @@ none_served : (s : CoreState) (told : List Effect) (stable : Stable) → serves_
 none_served s told stable none = ap (λ (es : List Effect). stable_served s es stable) (sym (append-nil told)) ∙ behind_none s told [] stable none
 
 abbrev waited_as : List Name → Waiter → Stable → Option Recorded
-waited_as names w stable = to_record (unrecorded w.monitored (recorded_at names w.party) stable) w.asked
+waited_as names w stable = to_record (unrecorded w.monitored (waiter_as names w) stable) w.asked
 
 waited_there : (names : List Name) (stable : Stable) (before : List Waiter) (w : Waiter) (behind : List Waiter) → Pairwise are_apart (before ++ w ∷ behind) → name_waited w.id names (before ++ w ∷ behind) stable ≡ waited_as names w stable
 waited_there names stable [] w behind apart = ap (λ (b : Bool). if b then waited_as names w stable else name_waited w.id names behind stable) (eq-eqb w.id w.id refl)
@@ -291,57 +292,136 @@ deeds_noted n s (d ∷ ds) good fit =
       grace_is = later.grace_is ∙ ap (λ (grace : Option Running). grace_after n t ds grace) first.grace_is;
     }
 
--- ---- who comes
+-- ---- who comes, who stays, and who is kept
 
-one_named : (it name : Recorded) → is_recorded name (it ∷ []) ≡ true → it ≡ name
-one_named it name e = by (cases_Bool (same_name it name)) where
-  by : (same_name it name ≡ true) ⊎ (same_name it name ≡ false) → it ≡ name
-  by (inl same) = same_names it name same
-  by (inr other) = absurd (both_ways false refl (sym (ap (λ (b : Bool). b || false) other) ∙ e))
+not_other : (b : Bool) → not b ≡ false → b ≡ true
+not_other true e = refl
+not_other false e = absurd (both_ways true e refl)
 
--- a name that wasn't there is the one that came
-came_is : (name : Recorded) (o : Option Recorded) (stable : Stable) → is_recorded name stable.names ≡ false → is_recorded name (with_some o stable).names ≡ true → o ≡ Some name
-came_is name None stable out there = absurd (both_ways (is_recorded name stable.names) out there)
-came_is name (Some it) stable out there =
-    let last : is_recorded name (it ∷ []) ≡ true =
-    sym (ap (λ (b : Bool). b || is_recorded name (it ∷ [])) out) ∙ sym (list_any-append (λ held. same_name held name) stable.names (it ∷ [])) ∙ there in
-    ap Some (one_named it name last)
+-- it is granted, and this name is recorded for it
+abbrev Got : Option Recorded → Answer → Recorded → Type 0
+Got o answer name = ((c : Claim) × (answer ≡ Granted c)) × (o ≡ Some name)
 
-by_came : (name : Recorded) (o : Option Recorded) (answer : Answer) (stable : Stable) → is_recorded name stable.names ≡ false → is_recorded name (stable_by o answer stable).names ≡ true → (o ≡ Some name) × ((c : Claim) × (answer ≡ Granted c))
-by_came name o (Granted c) stable out there = (came_is name o stable out there, (c, refl))
-by_came name o StoreFailed stable out there = absurd (both_ways (is_recorded name stable.names) out there)
-by_came name o (Conflict c) stable out there = absurd (both_ways (is_recorded name stable.names) out there)
-by_came name o (Queued number) stable out there = absurd (both_ways (is_recorded name stable.names) out there)
-by_came name o (Recall c) stable out there = absurd (both_ways (is_recorded name stable.names) out there)
-by_came name o (Grace until) stable out there = absurd (both_ways (is_recorded name stable.names) out there)
-by_came name o (NoGrace clock) stable out there = absurd (both_ways (is_recorded name stable.names) out there)
-by_came name o NotRecorded stable out there = absurd (both_ways (is_recorded name stable.names) out there)
-by_came name o (Full limit) stable out there = absurd (both_ways (is_recorded name stable.names) out there)
-by_came name o NotHeld stable out there = absurd (both_ways (is_recorded name stable.names) out there)
+by_from : (name : Recorded) (o : Option Recorded) (answer : Answer) (stable : Stable) → IsIn name (stable_by o answer stable).names → IsIn name stable.names ⊎ Got o answer name
+by_from name o (Granted c) stable there = elim (some_from name o stable there) [ inl old ↦ inl old | inr is ↦ inr ((c, refl), is) ]
+by_from name o StoreFailed stable there = inl there
+by_from name o (Conflict c) stable there = inl there
+by_from name o (Queued number) stable there = inl there
+by_from name o (Recall c) stable there = inl there
+by_from name o (Grace until) stable there = inl there
+by_from name o (NoGrace clock) stable there = inl there
+by_from name o NotRecorded stable there = inl there
+by_from name o (Full limit) stable there = inl there
+by_from name o NotHeld stable there = inl there
 
--- only who is monitored is to be recorded, by its own name
-wanted_is : (monitored : Bool) (it name : Recorded) (stable : Stable) (cs : List Claim) → to_record (unrecorded monitored it stable) cs ≡ Some name → (monitored ≡ true) × (it ≡ name)
-wanted_is monitored it name stable [] e = absurd cc
-wanted_is monitored it name stable (c ∷ d ∷ cs) e = absurd cc
-wanted_is true it name stable (c ∷ []) e = (refl, by (is_recordable it && not (is_recorded it stable.names)) e) where
-  by : (b : Bool) → (if b then Some it else None) ≡ Some name → it ≡ name
-  by true e = same_Some it name e
-  by false e = absurd cc
-wanted_is false it name stable (c ∷ []) e = absurd cc
+-- it is granted, and the name is recorded for it with another mark
+abbrev Changes : Option Recorded → Answer → Recorded → Type 0
+Changes o answer held = (mark : Mark) × (keeps held.mark (Some mark) ≡ false) × Got o answer (marked held (Some mark))
 
-ask_comes : (n : ℕ) (left : Rooms) (s : CoreState) (a : Ask) (name : Recorded) → IsGood s → is_client a.owner a.party ≡ true → is_recorded name s.stable.names ≡ false → is_recorded name (ask n left s a).2.stable.names ≡ true → IsMonitored name n s (Asks left a)
-ask_comes n left s a name good client out there =
-    let r = ask n left s a in
-    let came = by_came name (name_asked s a) r.0 s.stable out (sym (ap (λ (x : Stable). is_recorded name x.names) (ask_noted n left s a good client).record_is) ∙ there) in
-    let is = wanted_is a.monitored (recorded_as a.party) name s.stable (asked_claims a (asked_whats a.act) s.names) came.0 in
-    (came.1.0, is.0, is.1, came.1.1)
+by_stays : (held : Recorded) (o : Option Recorded) (answer : Answer) (stable : Stable) → ((it : Recorded) → o ≡ Some it → is_kept it stable.names ≡ false) → IsIn held stable.names → IsIn held (stable_by o answer stable).names ⊎ Changes o answer held
+by_stays held o (Granted c) stable lacks there = elim (some_stays held o stable lacks there) [ inl stays ↦ inl stays | inr other ↦ inr (other.0, other.1, ((c, refl), other.2)) ]
+by_stays held o StoreFailed stable lacks there = inl there
+by_stays held o (Conflict c) stable lacks there = inl there
+by_stays held o (Queued number) stable lacks there = inl there
+by_stays held o (Recall c) stable lacks there = inl there
+by_stays held o (Grace until) stable lacks there = inl there
+by_stays held o (NoGrace clock) stable lacks there = inl there
+by_stays held o NotRecorded stable lacks there = inl there
+by_stays held o (Full limit) stable lacks there = inl there
+by_stays held o NotHeld stable lacks there = inl there
 
-abbrev TurnComes : Recorded → CoreState → Turned → Type 0
-TurnComes name s r = is_recorded name s.stable.names ≡ false → is_recorded name r.1.stable.names ≡ true
-    → (w : Waiter) × (c : Claim) × IsIn w s.waiters × (w.monitored ≡ true) × (recorded_at s.names w.party ≡ name) × IsIn (Served w.party w.id (Granted c)) r.0
+-- of an ask
 
-first_comes : (n : ℕ) (left : Rooms) (s : CoreState) (name : Recorded) (turn : Turned) → IsGood s → IsFirst n left s [] s.waiters turn → TurnComes name s turn
-first_comes n left s name turn good first out there = by first.moved where
+asked_so : (n : ℕ) (left : Rooms) (s : CoreState) (a : Ask) (name : Recorded) → Got (name_asked s a) (ask n left s a).0 name → IsMonitored name n s (Asks left a)
+asked_so n left s a name got =
+    let is = wanted_is (stores_name a) (asker_as a) name s.stable (asked_claims a (asked_whats a.act) s.names) got.1 in
+    let one = one_what a s.names (asked_whats a.act) is.4.0 is.4.1 in
+    let stores = and_parts a.monitored (not a.reclaim) is.0 in
+    (one.0, got.0.0, one.1, stores.0, not-true a.reclaim stores.1, is.1, is.3, got.0.1)
+
+ask_stable : (n : ℕ) (left : Rooms) (s : CoreState) (a : Ask) → IsGood s → is_client a.owner a.party ≡ true → (ask n left s a).2.stable ≡ stable_by (name_asked s a) (ask n left s a).0 s.stable
+ask_stable n left s a good client = (ask_noted n left s a good client).record_is
+
+ask_from : (n : ℕ) (left : Rooms) (s : CoreState) (a : Ask) (name : Recorded) → IsGood s → is_client a.owner a.party ≡ true → IsIn name (ask n left s a).2.stable.names → IsIn name s.stable.names ⊎ IsMonitored name n s (Asks left a)
+ask_from n left s a name good client there =
+    elim (by_from name (name_asked s a) (ask n left s a).0 s.stable (subst (λ (x : Stable). IsIn name x.names) (ask_stable n left s a good client) there)) [
+      | inl old ↦ inl old
+      | inr got ↦ inr (asked_so n left s a name got)
+    ]
+
+ask_stays : (n : ℕ) (left : Rooms) (s : CoreState) (a : Ask) (held : Recorded) → IsGood s → is_client a.owner a.party ≡ true → IsIn held s.stable.names → IsIn held (ask n left s a).2.stable.names ⊎ IsChanged held n s (Asks left a)
+ask_stays n left s a held good client there = elim (by_stays held (name_asked s a) (ask n left s a).0 s.stable lacks there) [
+  | inl stays ↦ inl (subst (λ (x : Stable). IsIn held x.names) (sym (ask_stable n left s a good client)) stays)
+  | inr other ↦ inr (inr (other.0, other.1, asked_so n left s a (marked held (Some other.0)) other.2))
+] where
+  lacks : (it : Recorded) → name_asked s a ≡ Some it → is_kept it s.stable.names ≡ false
+  lacks it named = (wanted_is (stores_name a) (asker_as a) it s.stable (asked_claims a (asked_whats a.act) s.names) named).2
+
+ask_keeps : (n : ℕ) (left : Rooms) (s : CoreState) (a : Ask) (name : Recorded) → IsGood s → is_client a.owner a.party ≡ true → IsMonitored name n s (Asks left a) → is_kept name (ask n left s a).2.stable.names ≡ true
+ask_keeps n left s a name good client its =
+    subst (λ (x : Stable). is_kept name x.names ≡ true) (sym is)
+    (subst (λ (it : Recorded). is_kept name (with_some (unrecorded true it s.stable) s.stable).names ≡ true) (sym its.6) (kept_with name s.stable its.5))
+  where
+    stores : stores_name a ≡ true
+    stores = ap₂ (λ (m r : Bool). m && not r) its.3 its.4
+
+    is : (ask n left s a).2.stable ≡ with_some (unrecorded true (asker_as a) s.stable) s.stable
+    is =
+        ask_stable n left s a good client
+        ∙ ap (λ (answer : Answer). stable_by (name_asked s a) answer s.stable) its.7
+        ∙ ap (λ (o : Option Recorded). with_some o s.stable) (one_asked a s.names (asked_whats a.act) its.0 (unrecorded (stores_name a) (asker_as a) s.stable) its.2)
+        ∙ ap (λ (b : Bool). with_some (unrecorded b (asker_as a) s.stable) s.stable) stores
+
+-- of a turn
+
+none_told : (party : Party) (id : ℕ) (answer : Answer) (told : List Effect) → serves_none told ≡ true → IsIn (Served party id answer) told → ⊥
+none_told party id answer [] none there = absurd there
+none_told party id answer (Served p i r ∷ told) none there = both_ways false refl none
+none_told party id answer (Begun cache to call ∷ told) none (inl e) = absurd cc
+none_told party id answer (Begun cache to call ∷ told) none (inr later) = none_told party id answer told none later
+none_told party id answer (Cancelled p i ∷ told) none (inl e) = absurd cc
+none_told party id answer (Cancelled p i ∷ told) none (inr later) = none_told party id answer told none later
+none_told party id answer (Expired client ∷ told) none (inl e) = absurd cc
+none_told party id answer (Expired client ∷ told) none (inr later) = none_told party id answer told none later
+
+-- what is told of one behind what serves none is that one
+told_last : (party : Party) (id : ℕ) (answer : Answer) (told : List Effect) (effect : Effect) → serves_none told ≡ true → IsIn (Served party id answer) (told ++ effect ∷ []) → effect ≡ Served party id answer
+told_last party id answer [] effect none (inl e) = e
+told_last party id answer [] effect none (inr never) = absurd never
+told_last party id answer (Served p i r ∷ told) effect none there = absurd (both_ways false refl none)
+told_last party id answer (Begun cache to call ∷ told) effect none (inl e) = absurd cc
+told_last party id answer (Begun cache to call ∷ told) effect none (inr later) = told_last party id answer told effect none later
+told_last party id answer (Cancelled p i ∷ told) effect none (inl e) = absurd cc
+told_last party id answer (Cancelled p i ∷ told) effect none (inr later) = told_last party id answer told effect none later
+told_last party id answer (Expired client ∷ told) effect none (inl e) = absurd cc
+told_last party id answer (Expired client ∷ told) effect none (inr later) = told_last party id answer told effect none later
+
+same_served : (p q : Party) (i j : ℕ) (a b : Answer) → Served p i a ≡ Served q j b → (i ≡ j) × (a ≡ b)
+same_served p q i j a b e = (ap number e, ap answer e) where
+  number : Effect → ℕ
+  number (Served party id told) = id
+  number effect = 0
+
+  answer : Effect → Answer
+  answer (Served party id told) = told
+  answer effect = NotHeld
+
+-- each waiter has its number alone
+one_numbered : (v w : Waiter) (ws : List Waiter) → Pairwise are_apart ws → IsIn v ws → IsIn w ws → w.id ≡ v.id → v ≡ w
+one_numbered v w [] apart there here same = absurd there
+one_numbered v w (u ∷ ws) apart (inl e) (inl f) same = sym e ∙ f
+one_numbered v w (u ∷ ws) apart (inl e) (inr later) same = absurd (both_ways (u.id == w.id) (not-true (u.id == w.id) (all_in (λ x. are_apart u x ≡ true) w ws apart.0 later)) (eq-eqb u.id w.id (ap (λ (x : Waiter). x.id) e ∙ sym same)))
+one_numbered v w (u ∷ ws) apart (inr later) (inl f) same = absurd (both_ways (u.id == v.id) (not-true (u.id == v.id) (all_in (λ x. are_apart u x ≡ true) v ws apart.0 later)) (eq-eqb u.id v.id (ap (λ (x : Waiter). x.id) f ∙ same)))
+one_numbered v w (u ∷ ws) apart (inr there) (inr here) same = one_numbered v w ws apart.1 there here same
+
+-- what a turn that tells this makes of the names
+pub record TurnRecords (s : CoreState) (told : List Effect) (t : CoreState) : Type 0 where
+  pub comes : (name : Recorded) → IsIn name t.stable.names → IsIn name s.stable.names ⊎ HasServed name s told
+  pub stays : (held : Recorded) → IsIn held s.stable.names → IsIn held t.stable.names ⊎ ((mark : Mark) × (keeps held.mark (Some mark) ≡ false) × HasServed (marked held (Some mark)) s told)
+  pub holds : (name : Recorded) → HasServed name s told → is_kept name t.stable.names ≡ true
+
+first_records : (n : ℕ) (left : Rooms) (s : CoreState) (turn : Turned) → IsGood s → IsFirst n left s [] s.waiters turn → TurnRecords s turn.0 turn.1
+first_records n left s turn good first = by first.moved where
   w : Waiter
   w = first.waiter
 
@@ -357,173 +437,221 @@ first_comes n left s name turn good first out there = by first.moved where
   same : aside_of t ≡ aside_of s
   same = way_keeps aside_of first.before (plea_again s w) w.asked s (λ c. begun_aside c s)
 
+  quiet : serves_none way.0 ≡ true
+  quiet = way_serves first.before (plea_again s w) w.asked s
+
   among : IsIn w s.waiters
   among = subst (λ (ws : List Waiter). IsIn w ws) (sym first.stood) (in_append_right w first.before (w ∷ first.behind) (inl refl))
 
-  by : IsMoved n left first.before s w first.claim first.claims turn → (v : Waiter) × (c : Claim) × IsIn v s.waiters × (v.monitored ≡ true) × (recorded_at s.names v.party ≡ name) × IsIn (Served v.party v.id (Granted c)) turn.0
-  by (Rests e up) =
-      let stays : is_recorded name turn.1.stable.names ≡ is_recorded name s.stable.names = ap (λ (x : Turned). is_recorded name x.1.stable.names) e ∙ ap (λ (x : Aside). is_recorded name x.stable.names) same in
-      absurd (both_ways (is_recorded name s.stable.names) out (sym stays ∙ there))
-  by (Answers answer told new due pass clear) =
-      let named = to_record (name_waiting t w) all in
-      let left_by : turn.1.stable ≡ stable_by named answer s.stable =
-      ap (λ (x : CoreState). x.stable) (new ∙ wish_claims w.wish answer (once_answered t w all answer)) ∙ left_stable named answer t ∙ ap (λ (x : Aside). stable_by named answer x.stable) same in
-      let came = by_came name named answer s.stable out (sym (ap (λ (x : Stable). is_recorded name x.names) left_by) ∙ there) in
-      let is = wanted_is w.monitored (recorded_at s.names w.party) name s.stable all (ap (λ (o : Option Recorded). to_record o all) (again_waits first.before s w) ∙ came.0) in (
-        w,
-        came.1.0,
-        among,
-        is.0,
-        is.1,
-        subst (λ (es : List Effect). IsIn (Served w.party w.id (Granted came.1.0)) es) (sym told)
-            (in_append_right (Served w.party w.id (Granted came.1.0)) way.0 (Served w.party w.id answer ∷ []) (inl (ap (λ (x : Answer). Served w.party w.id x) came.1.1))),
-      )
+  name : Option Recorded
+  name = to_record (unrecorded w.monitored (waiter_as s.names w) s.stable) all
 
-turn_comes : (name : Recorded) (s : CoreState) (o : Option Turned) → IfSome o (TurnComes name s) → TurnComes name s ((turned s o).1, (turned s o).2)
-turn_comes name s None each out there = absurd (both_ways (is_recorded name s.stable.names) out there)
-turn_comes name s (Some r) each out there = each out there
+  rests : turn ≡ way → TurnRecords s turn.0 turn.1
+  rests e = record {
+    comes = λ it there. inl (subst (λ (x : Stable). IsIn it x.names) is there);
+    stays = λ held there. inl (subst (λ (x : Stable). IsIn held x.names) (sym is) there);
+    holds = λ it served. absurd (none_told served.0.party served.0.id (Granted served.2) turn.0 (ap (λ (x : Turned). serves_none x.0) e ∙ quiet) served.8);
+  } where
+    is : turn.1.stable ≡ s.stable
+    is = ap (λ (x : Turned). x.1.stable) e ∙ ap (λ (x : Aside). x.stable) same
 
-filtered : (q : Recorded → Bool) (name : Recorded) (names : List Recorded) → is_recorded name (filter q names) ≡ true → is_recorded name names ≡ true
-filtered q name [] there = there
-filtered q name (it ∷ names) there =
-    elim (cases_Bool (same_name it name)) [
-      | inl same ↦ ap (λ (b : Bool). b || is_recorded name names) same
-      | inr other ↦ ap (λ (b : Bool). b || is_recorded name names) other ∙ elim (cases_Bool (q it)) [
-        | inl stays ↦ filtered q name names (sym (ap (λ (b : Bool). b || is_recorded name (filter q names)) other) ∙ (rw stays at there))
-        | inr goes ↦ filtered q name names (rw goes at there)
-      ]
+  answered_so : (answer : Answer) → turn.0 ≡ way.0 ++ Served w.party w.id answer ∷ [] → turn.1 ≡ wish_for w.wish answer (once_answered t w all answer) → TurnRecords s turn.0 turn.1
+  answered_so answer told new = record { comes = comes; stays = stays; holds = holds } where
+    is : turn.1.stable ≡ stable_by name answer s.stable
+    is =
+        ap (λ (x : CoreState). x.stable) (new ∙ wish_claims w.wish answer (once_answered t w all answer))
+        ∙ left_stable (to_record (name_waiting t w) all) answer t
+        ∙ ap (λ (x : Aside). stable_by (to_record (name_waiting t w) all) answer x.stable) same
+        ∙ ap (λ (o : Option Recorded). stable_by (to_record o all) answer s.stable) (sym (again_waits first.before s w))
+
+    served_so : (it : Recorded) → Got name answer it → HasServed it s turn.0
+    served_so it got =
+        let asks = wanted_is w.monitored (waiter_as s.names w) it s.stable all got.1 in (
+          w,
+          asks.4.0,
+          got.0.0,
+          among,
+          first.asked ∙ asks.4.1,
+          asks.0,
+          asks.1,
+          asks.3,
+          subst (λ (es : List Effect). IsIn (Served w.party w.id (Granted got.0.0)) es) (sym told)
+              (in_append_right (Served w.party w.id (Granted got.0.0)) way.0 (Served w.party w.id answer ∷ []) (inl (ap (λ (x : Answer). Served w.party w.id x) got.0.1))),
+        )
+
+    comes : (it : Recorded) → IsIn it turn.1.stable.names → IsIn it s.stable.names ⊎ HasServed it s turn.0
+    comes it there = elim (by_from it name answer s.stable (subst (λ (x : Stable). IsIn it x.names) is there)) [ inl old ↦ inl old | inr got ↦ inr (served_so it got) ]
+
+    lacks : (it : Recorded) → name ≡ Some it → is_kept it s.stable.names ≡ false
+    lacks it named = (wanted_is w.monitored (waiter_as s.names w) it s.stable all named).2
+
+    stays : (held : Recorded) → IsIn held s.stable.names → IsIn held turn.1.stable.names ⊎ ((mark : Mark) × (keeps held.mark (Some mark) ≡ false) × HasServed (marked held (Some mark)) s turn.0)
+    stays held there = elim (by_stays held name answer s.stable lacks there) [
+      | inl stays_there ↦ inl (subst (λ (x : Stable). IsIn held x.names) (sym is) stays_there)
+      | inr other ↦ inr (other.0, other.1, served_so (marked held (Some other.0)) other.2)
     ]
 
--- the record gains nothing by this
-abbrev NoneComes : Recorded → CoreState → CoreState → Type 0
-NoneComes name s t = is_recorded name s.stable.names ≡ false → is_recorded name t.stable.names ≡ true → ⊥
+    holds : (it : Recorded) → HasServed it s turn.0 → is_kept it turn.1.stable.names ≡ true
+    holds it served =
+        let v = served.0 in
+        let last : Served w.party w.id answer ≡ Served v.party v.id (Granted served.2) =
+        told_last v.party v.id (Granted served.2) way.0 (Served w.party w.id answer) quiet (subst (λ (es : List Effect). IsIn (Served v.party v.id (Granted served.2)) es) told served.8) in
+        let its = same_served w.party v.party w.id v.id answer (Granted served.2) last in
+        let one : v ≡ w = one_numbered v w s.waiters good.apart served.3 among its.0 in
+        let alone_is : all ≡ served.1 ∷ [] = sym first.asked ∙ ap (λ (x : Waiter). x.asked) (sym one) ∙ served.4 in
+        let stores : w.monitored ≡ true = ap (λ (x : Waiter). x.monitored) (sym one) ∙ served.5 in
+        let named : waiter_as s.names w ≡ it = ap (waiter_as s.names) (sym one) ∙ served.7 in
+        let left_by : turn.1.stable ≡ with_some (unrecorded true it s.stable) s.stable =
+        is
+        ∙ ap (λ (x : Answer). stable_by name x s.stable) its.1
+        ∙ ap (λ (cs : List Claim). with_some (to_record (unrecorded w.monitored (waiter_as s.names w) s.stable) cs) s.stable) alone_is
+        ∙ ap₂ (λ (b : Bool) (x : Recorded). with_some (unrecorded b x s.stable) s.stable) stores named in
+        subst (λ (x : Stable). is_kept it x.names ≡ true) (sym left_by) (kept_with it s.stable served.6)
 
-same_comes : (name : Recorded) (s t : CoreState) → t.stable ≡ s.stable → NoneComes name s t
-same_comes name s t same out there = both_ways (is_recorded name s.stable.names) out (sym (ap (λ (x : Stable). is_recorded name x.names) same) ∙ there)
+  by : IsMoved n left first.before s w first.claim first.claims turn → TurnRecords s turn.0 turn.1
+  by (Rests e up) = rests e
+  by (Answers answer told new due pass clear) = answered_so answer told new
 
-fewer_come : (name : Recorded) (s t : CoreState) (q : Recorded → Bool) → t.stable.names ≡ filter q s.stable.names → NoneComes name s t
-fewer_come name s t q fewer out there = both_ways (is_recorded name s.stable.names) out (filtered q name s.stable.names (sym (ap (λ (names : List Recorded). is_recorded name names) fewer) ∙ there))
+turn_records : (s : CoreState) (o : Option Turned) → IfSome o (λ r. TurnRecords s r.0 r.1) → TurnRecords s (turned s o).1 (turned s o).2
+turn_records s None each = record { comes = λ name there. inl there; stays = λ held there. inl there; holds = λ name served. absurd served.8 }
+turn_records s (Some r) each = each
 
-lapse_comes : (name : Recorded) (s : CoreState) (cache : Claim) → NoneComes name s (lapse s cache).1
-lapse_comes name s cache = by (client_of s.names cache.party) (lapse_noted s cache).record_is where
-  by : (o : Option (List ℕ)) → (lapse s cache).1.stable ≡ without_client o s.stable → NoneComes name s (lapse s cache).1
-  by None is = same_comes name s (lapse s cache).1 is
-  by (Some client) is = fewer_come name s (lapse s cache).1 (λ held. not (same_name held (client_name client))) (ap (λ (x : Stable). x.names) is)
+serving_records : (n : ℕ) (left : Rooms) (s : CoreState) → IsGood s → TurnRecords s (given n s (Serves left)).1 (done n s (Serves left))
+serving_records n left s good = turn_records s (settle n left s) (each_turn n left s (λ r. TurnRecords s r.0 r.1) good (λ turn first. first_records n left s turn good first))
+
+-- of the other deeds
+
+same_from : (name : Recorded) (s t : CoreState) → t.stable ≡ s.stable → IsIn name t.stable.names → IsIn name s.stable.names
+same_from name s t same there = subst (λ (x : Stable). IsIn name x.names) same there
 
 still : (n : ℕ) (s : CoreState) (d : Deed) → aside_of (done n s d) ≡ aside_of s → (done n s d).stable ≡ s.stable
 still n s d same = ap (λ (x : Aside). x.stable) same
 
-pub deed_comes : (n : ℕ) (s : CoreState) (d : Deed) (name : Recorded) → IsGood s → IsFitDeed s d → is_recorded name s.stable.names ≡ false → is_recorded name (done n s d).stable.names ≡ true → IsMonitored name n s d
-deed_comes n s (Asks left a) name good fit out there = ask_comes n left s a name good fit.party out there
-deed_comes n s (Serves left) name good fit out there = turn_comes name s (settle n left s) (each_turn n left s (TurnComes name s) good (λ turn first. first_comes n left s name turn good first)) out there
-deed_comes n s (GivesBack claim) name good fit out there = same_comes name s (done n s (GivesBack claim)) (still n s (GivesBack claim) (give_back_aside s claim)) out there
-deed_comes n s (Weakens share access deny) name good fit out there = same_comes name s (done n s (Weakens share access deny)) (still n s (Weakens share access deny) (weaken_aside s share access deny)) out there
-deed_comes n s (Acks cache to) name good fit out there = same_comes name s (done n s (Acks cache to)) (still n s (Acks cache to) (ack_aside s cache to)) out there
-deed_comes n s (Cancels id) name good fit out there = same_comes name s (done n s (Cancels id)) (still n s (Cancels id) (cancel_aside s id)) out there
-deed_comes n s (Ends party) name good fit out there = same_comes name s (done n s (Ends party)) (still n s (Ends party) (end_party_aside s party)) out there
-deed_comes n s Draws name good fit out there = same_comes name s (done n s Draws) (still n s Draws (drawn_aside s)) out there
-deed_comes n s (Advances now) name good fit out there = same_comes name s (done n s (Advances now)) (still n s (Advances now) (advanced_aside s now)) out there
-deed_comes n s (Renews client) name good fit out there = same_comes name s (done n s (Renews client)) (still n s (Renews client) (renew_aside s client)) out there
-deed_comes n s (Closes number party) name good fit out there = same_comes name s (done n s (Closes number party)) (still n s (Closes number party) (close_open_aside s number party)) out there
-deed_comes n s (FailsStore stable) name good fit out there = same_comes name s (done n s (FailsStore stable)) (failed_stable stable s) out there
-deed_comes n s (Lapses cache) name good fit out there = lapse_comes name s cache out there
-deed_comes n s (Expires client) name good fit out there = fewer_come name s (done n s (Expires client)) (λ held. not (same_name held (client_name client))) (ap (λ (x : Stable). x.names) (expire_noted s client).record_is) out there
-deed_comes n s EndsGrace name good fit out there = fewer_come name s (done n s EndsGrace) (λ held. is_back held s.grace) (ap (λ (x : Stable). x.names) (end_noted s).record_is) out there
+fewer_from : (name : Recorded) (s t : CoreState) (q : Recorded → Bool) → t.stable.names ≡ filter q s.stable.names → IsIn name t.stable.names → IsIn name s.stable.names
+fewer_from name s t q fewer there = (in_filter_from q name s.stable.names (subst (λ (names : List Recorded). IsIn name names) fewer there)).0
 
-pub deeds_come : (n : ℕ) (s : CoreState) (ds : List Deed) (name : Recorded) → IsGood s → AreFit n s ds → is_recorded name s.stable.names ≡ false → is_recorded name (all_done n s ds).stable.names ≡ true → AnyAt (λ u d. IsMonitored name n u d) n s ds
-deeds_come n s [] name good fit out there = both_ways (is_recorded name s.stable.names) out there
-deeds_come n s (d ∷ ds) name good fit out there =
-    elim (cases_Bool (is_recorded name (done n s d).stable.names)) [
-      | inl now ↦ inl (deed_comes n s d name good fit.0 out now)
-      | inr later ↦ inr (deeds_come n (done n s d) ds name (deed_good n s d good fit.0) fit.1 later there)
+-- a name that the record lacks then is one that the test leaves out
+fewer_stay : (held : Recorded) (s t : CoreState) (q : Recorded → Bool) → t.stable.names ≡ filter q s.stable.names → IsIn held s.stable.names → IsIn held t.stable.names ⊎ (q held ≡ false)
+fewer_stay held s t q fewer there =
+    elim (cases_Bool (q held)) [
+      | inl stays ↦ inl (subst (λ (names : List Recorded). IsIn held names) (sym fewer) (in_filter q held s.stable.names there stays))
+      | inr goes ↦ inr goes
     ]
 
--- ---- who goes
+without_from : (name : Recorded) (client : List ℕ) (s t : CoreState) → t.stable ≡ without_name (client_name client) s.stable → IsIn name t.stable.names → IsIn name s.stable.names
+without_from name client s t is there = fewer_from name s t (λ held. not (same_name held (client_name client))) (ap (λ (x : Stable). x.names) is) there
 
--- a name that is gone from among these is one that the test leaves out
-dropped : (q : Recorded → Bool) (name : Recorded) (names : List Recorded) → is_recorded name names ≡ true → is_recorded name (filter q names) ≡ false → q name ≡ false
-dropped q name [] there gone = absurd (both_ways false refl there)
-dropped q name (it ∷ names) there gone =
-    elim (cases_Bool (same_name it name)) [
-      | inl same ↦ elim (cases_Bool (q it)) [
-        | inl stays ↦ absurd (both_ways (same_name it name) (or_parts (same_name it name) (is_recorded name (filter q names)) (rw stays at gone)).0 same)
-        | inr goes ↦ ap q (sym (same_names it name same)) ∙ goes
-      ]
-      | inr other ↦
-          let later : is_recorded name names ≡ true = sym (ap (λ (b : Bool). b || is_recorded name names) other) ∙ there in
-          elim (cases_Bool (q it)) [
-            | inl stays ↦ dropped q name names later (or_parts (same_name it name) (is_recorded name (filter q names)) (rw stays at gone)).1
-            | inr goes ↦ dropped q name names later (rw goes at gone)
-          ]
+without_stays : (held : Recorded) (client : List ℕ) (s t : CoreState) → t.stable ≡ without_name (client_name client) s.stable → IsIn held s.stable.names → IsIn held t.stable.names ⊎ (same_name (client_name client) held ≡ true)
+without_stays held client s t is there =
+    elim (fewer_stay held s t (λ one. not (same_name one (client_name client))) (ap (λ (x : Stable). x.names) is) there) [
+      | inl stays ↦ inl stays
+      | inr goes ↦ inr (same_name-sym (client_name client) held ∙ not_other (same_name held (client_name client)) goes)
     ]
 
-not_other : (b : Bool) → not b ≡ false → b ≡ true
-not_other true e = refl
-not_other false e = absurd (both_ways true e refl)
+lapse_from : (name : Recorded) (s : CoreState) (cache : Claim) → IsIn name (lapse s cache).1.stable.names → IsIn name s.stable.names
+lapse_from name s cache there = by (client_of s.names cache.party) (lapse_noted s cache).record_is where
+  by : (o : Option (List ℕ)) → (lapse s cache).1.stable ≡ without_client o s.stable → IsIn name s.stable.names
+  by None is = same_from name s (lapse s cache).1 is there
+  by (Some client) is = without_from name client s (lapse s cache).1 is there
 
--- the record loses nothing by this
-abbrev NoneGoes : Recorded → CoreState → CoreState → Type 0
-NoneGoes name s t = is_recorded name s.stable.names ≡ true → is_recorded name t.stable.names ≡ false → ⊥
+lapse_stays : (held : Recorded) (s : CoreState) (cache : Claim) → IsIn held s.stable.names → IsIn held (lapse s cache).1.stable.names ⊎ IsNamed held (client_of s.names cache.party)
+lapse_stays held s cache there = by (client_of s.names cache.party) (lapse_noted s cache).record_is where
+  by : (o : Option (List ℕ)) → (lapse s cache).1.stable ≡ without_client o s.stable → IsIn held (lapse s cache).1.stable.names ⊎ IsNamed held o
+  by None is = inl (same_from held (lapse s cache).1 s (sym is) there)
+  by (Some client) is = without_stays held client s (lapse s cache).1 is there
 
-same_goes : (name : Recorded) (s t : CoreState) → t.stable ≡ s.stable → NoneGoes name s t
-same_goes name s t same there gone = both_ways (is_recorded name t.stable.names) gone (ap (λ (x : Stable). is_recorded name x.names) same ∙ there)
+-- each name that is there after a deed was there, or came by it
+pub deed_from : (n : ℕ) (s : CoreState) (d : Deed) (name : Recorded) → IsGood s → IsFitDeed s d → IsIn name (done n s d).stable.names → IsIn name s.stable.names ⊎ IsMonitored name n s d
+deed_from n s (Asks left a) name good fit there = ask_from n left s a name good fit.party there
+deed_from n s (Serves left) name good fit there = (serving_records n left s good).comes name there
+deed_from n s (GivesBack claim) name good fit there = inl (same_from name s (done n s (GivesBack claim)) (still n s (GivesBack claim) (give_back_aside s claim)) there)
+deed_from n s (Weakens share access deny) name good fit there = inl (same_from name s (done n s (Weakens share access deny)) (still n s (Weakens share access deny) (weaken_aside s share access deny)) there)
+deed_from n s (Acks cache to) name good fit there = inl (same_from name s (done n s (Acks cache to)) (still n s (Acks cache to) (ack_aside s cache to)) there)
+deed_from n s (Cancels id) name good fit there = inl (same_from name s (done n s (Cancels id)) (still n s (Cancels id) (cancel_aside s id)) there)
+deed_from n s (Ends party) name good fit there = inl (same_from name s (done n s (Ends party)) (still n s (Ends party) (end_party_aside s party)) there)
+deed_from n s Draws name good fit there = inl (same_from name s (done n s Draws) (still n s Draws (drawn_aside s)) there)
+deed_from n s (Advances now) name good fit there = inl (same_from name s (done n s (Advances now)) (still n s (Advances now) (advanced_aside s now)) there)
+deed_from n s (Renews client) name good fit there = inl (same_from name s (done n s (Renews client)) (still n s (Renews client) (renew_aside s client)) there)
+deed_from n s (Closes number party) name good fit there = inl (same_from name s (done n s (Closes number party)) (still n s (Closes number party) (close_open_aside s number party)) there)
+deed_from n s (FailsStore stable) name good fit there = inl (same_from name s (done n s (FailsStore stable)) (failed_stable stable s) there)
+deed_from n s (Lapses cache) name good fit there = inl (lapse_from name s cache there)
+deed_from n s (Expires client) name good fit there = inl (without_from name client s (done n s (Expires client)) (expire_noted s client).record_is there)
+deed_from n s EndsGrace name good fit there = inl (fewer_from name s (done n s EndsGrace) (λ held. is_back held s.grace) (ap (λ (x : Stable). x.names) (end_noted s).record_is) there)
 
-some_stays : (name : Recorded) (o : Option Recorded) (stable : Stable) → is_recorded name stable.names ≡ true → is_recorded name (with_some o stable).names ≡ true
-some_stays name None stable there = there
-some_stays name (Some it) stable there = list_any-append (λ held. same_name held name) stable.names (it ∷ []) ∙ ap (λ (b : Bool). b || is_recorded name (it ∷ [])) there
+-- each name that was there stays with its mark, or is changed by the deed
+deed_stays : (n : ℕ) (s : CoreState) (d : Deed) (held : Recorded) → IsGood s → IsFitDeed s d → IsIn held s.stable.names → IsIn held (done n s d).stable.names ⊎ IsChanged held n s d
+deed_stays n s (Asks left a) held good fit there = ask_stays n left s a held good fit.party there
+deed_stays n s (Serves left) held good fit there = elim ((serving_records n left s good).stays held there) [ inl stays ↦ inl stays | inr other ↦ inr (inr other) ]
+deed_stays n s (GivesBack claim) held good fit there = inl (same_from held (done n s (GivesBack claim)) s (sym (still n s (GivesBack claim) (give_back_aside s claim))) there)
+deed_stays n s (Weakens share access deny) held good fit there = inl (same_from held (done n s (Weakens share access deny)) s (sym (still n s (Weakens share access deny) (weaken_aside s share access deny))) there)
+deed_stays n s (Acks cache to) held good fit there = inl (same_from held (done n s (Acks cache to)) s (sym (still n s (Acks cache to) (ack_aside s cache to))) there)
+deed_stays n s (Cancels id) held good fit there = inl (same_from held (done n s (Cancels id)) s (sym (still n s (Cancels id) (cancel_aside s id))) there)
+deed_stays n s (Ends party) held good fit there = inl (same_from held (done n s (Ends party)) s (sym (still n s (Ends party) (end_party_aside s party))) there)
+deed_stays n s Draws held good fit there = inl (same_from held (done n s Draws) s (sym (still n s Draws (drawn_aside s))) there)
+deed_stays n s (Advances now) held good fit there = inl (same_from held (done n s (Advances now)) s (sym (still n s (Advances now) (advanced_aside s now))) there)
+deed_stays n s (Renews client) held good fit there = inl (same_from held (done n s (Renews client)) s (sym (still n s (Renews client) (renew_aside s client))) there)
+deed_stays n s (Closes number party) held good fit there = inl (same_from held (done n s (Closes number party)) s (sym (still n s (Closes number party) (close_open_aside s number party))) there)
+deed_stays n s (FailsStore stable) held good fit there = inl (same_from held (done n s (FailsStore stable)) s (sym (failed_stable stable s)) there)
+deed_stays n s (Lapses cache) held good fit there = elim (lapse_stays held s cache there) [ inl stays ↦ inl stays | inr over ↦ inr (inl over) ]
+deed_stays n s (Expires client) held good fit there = elim (without_stays held client s (done n s (Expires client)) (expire_noted s client).record_is there) [ inl stays ↦ inl stays | inr over ↦ inr (inl over) ]
+deed_stays n s EndsGrace held good fit there = elim (fewer_stay held s (done n s EndsGrace) (λ one. is_back one s.grace) (ap (λ (x : Stable). x.names) (end_noted s).record_is) there) [ inl stays ↦ inl stays | inr over ↦ inr (inl over) ]
 
-by_stays : (name : Recorded) (o : Option Recorded) (answer : Answer) (stable : Stable) → is_recorded name stable.names ≡ true → is_recorded name (stable_by o answer stable).names ≡ true
-by_stays name o (Granted c) stable there = some_stays name o stable there
-by_stays name o StoreFailed stable there = there
-by_stays name o (Conflict c) stable there = there
-by_stays name o (Queued number) stable there = there
-by_stays name o (Recall c) stable there = there
-by_stays name o (Grace until) stable there = there
-by_stays name o (NoGrace clock) stable there = there
-by_stays name o NotRecorded stable there = there
-by_stays name o (Full limit) stable there = there
-by_stays name o NotHeld stable there = there
+-- each name that is recorded for a deed is kept then
+deed_keeps : (n : ℕ) (s : CoreState) (d : Deed) (name : Recorded) → IsGood s → IsFitDeed s d → IsMonitored name n s d → is_kept name (done n s d).stable.names ≡ true
+deed_keeps n s (Asks left a) name good fit its = ask_keeps n left s a name good fit.party its
+deed_keeps n s (Serves left) name good fit its = (serving_records n left s good).holds name its
+deed_keeps n s d name good fit its = absurd its
 
-served_stays : (name : Recorded) (s : CoreState) (told : List Effect) (stable : Stable) → is_recorded name stable.names ≡ true → is_recorded name (stable_served s told stable).names ≡ true
-served_stays name s [] stable there = there
-served_stays name s (Served party id answer ∷ told) stable there =
-    served_stays name s told (stable_by (name_waited id s.names s.waiters stable) answer stable) (by_stays name (name_waited id s.names s.waiters stable) answer stable there)
-served_stays name s (Begun cache to call ∷ told) stable there = served_stays name s told stable there
-served_stays name s (Cancelled party id ∷ told) stable there = served_stays name s told stable there
-served_stays name s (Expired client ∷ told) stable there = served_stays name s told stable there
+-- ---- a name under each mark
 
-without_goes : (name : Recorded) (client : List ℕ) (s t : CoreState) → t.stable ≡ without_name (client_name client) s.stable → is_recorded name s.stable.names ≡ true → is_recorded name t.stable.names ≡ false → client_name client ≡ name
-without_goes name client s t is there gone =
-    let q : Recorded → Bool = λ held. not (same_name held (client_name client)) in
-    let out = dropped q name s.stable.names there (sym (ap (λ (x : Stable). is_recorded name x.names) is) ∙ gone) in
-    sym (same_names name (client_name client) (not_other (same_name name (client_name client)) out))
+named_like : (held name : Recorded) (o : Option (List ℕ)) → same_name held name ≡ true → IsNamed held o → IsNamed name o
+named_like held name None same over = absurd over
+named_like held name (Some client) same over = sym (like_right (client_name client) held name same) ∙ over
 
-lapse_goes : (name : Recorded) (s : CoreState) (cache : Claim) → is_recorded name s.stable.names ≡ true → is_recorded name (lapse s cache).1.stable.names ≡ false → IsNamed name (client_of s.names cache.party)
-lapse_goes name s cache there gone = by (client_of s.names cache.party) (lapse_noted s cache).record_is where
-  by : (o : Option (List ℕ)) → (lapse s cache).1.stable ≡ without_client o s.stable → IsNamed name o
-  by None is = same_goes name s (lapse s cache).1 is there gone
-  by (Some client) is = without_goes name client s (lapse s cache).1 is there gone
+over_like : (s : CoreState) (d : Deed) (held name : Recorded) → same_name held name ≡ true → IsOver held s d → IsOver name s d
+over_like s (Lapses cache) held name same over = named_like held name (client_of s.names cache.party) same over
+over_like s (Expires client) held name same over = sym (like_right (client_name client) held name same) ∙ over
+over_like s EndsGrace held name same over = sym (like_back held name s.grace same) ∙ over
+over_like s d held name same over = absurd over
 
+changed_like : (n : ℕ) (s : CoreState) (d : Deed) (held name : Recorded) → same_name held name ≡ true → keeps held.mark name.mark ≡ true → IsChanged held n s d → IsChanged name n s d
+changed_like n s d held name same kept (inl over) = inl (over_like s d held name same over)
+changed_like n s d held name same kept (inr anew) =
+    inr (anew.0, keeps_apart held.mark name.mark anew.0 kept anew.1, subst (λ (x : Recorded). IsMonitored x n s d) (like_marked held name (Some anew.0) same) anew.2)
+
+-- it goes by one of its ends alone
 deed_goes : (n : ℕ) (s : CoreState) (d : Deed) (name : Recorded) → IsGood s → IsFitDeed s d → is_recorded name s.stable.names ≡ true → is_recorded name (done n s d).stable.names ≡ false → IsOver name s d
-deed_goes n s (Asks left a) name good fit there gone =
-    both_ways (is_recorded name (done n s (Asks left a)).stable.names) gone
-    (ap (λ (x : Stable). is_recorded name x.names) (ask_noted n left s a good fit.party).record_is ∙ by_stays name (name_asked s a) (ask n left s a).0 s.stable there)
-deed_goes n s (Serves left) name good fit there gone =
-    both_ways (is_recorded name (done n s (Serves left)).stable.names) gone
-    (ap (λ (x : Stable). is_recorded name x.names) (deed_noted n s (Serves left) good fit).record_is ∙ served_stays name s (turned s (settle n left s)).1 s.stable there)
-deed_goes n s (GivesBack claim) name good fit there gone = same_goes name s (done n s (GivesBack claim)) (still n s (GivesBack claim) (give_back_aside s claim)) there gone
-deed_goes n s (Weakens share access deny) name good fit there gone = same_goes name s (done n s (Weakens share access deny)) (still n s (Weakens share access deny) (weaken_aside s share access deny)) there gone
-deed_goes n s (Acks cache to) name good fit there gone = same_goes name s (done n s (Acks cache to)) (still n s (Acks cache to) (ack_aside s cache to)) there gone
-deed_goes n s (Cancels id) name good fit there gone = same_goes name s (done n s (Cancels id)) (still n s (Cancels id) (cancel_aside s id)) there gone
-deed_goes n s (Ends party) name good fit there gone = same_goes name s (done n s (Ends party)) (still n s (Ends party) (end_party_aside s party)) there gone
-deed_goes n s Draws name good fit there gone = same_goes name s (done n s Draws) (still n s Draws (drawn_aside s)) there gone
-deed_goes n s (Advances now) name good fit there gone = same_goes name s (done n s (Advances now)) (still n s (Advances now) (advanced_aside s now)) there gone
-deed_goes n s (Renews client) name good fit there gone = same_goes name s (done n s (Renews client)) (still n s (Renews client) (renew_aside s client)) there gone
-deed_goes n s (Closes number party) name good fit there gone = same_goes name s (done n s (Closes number party)) (still n s (Closes number party) (close_open_aside s number party)) there gone
-deed_goes n s (FailsStore stable) name good fit there gone = same_goes name s (done n s (FailsStore stable)) (failed_stable stable s) there gone
-deed_goes n s (Lapses cache) name good fit there gone = lapse_goes name s cache there gone
-deed_goes n s (Expires client) name good fit there gone = without_goes name client s (done n s (Expires client)) (expire_noted s client).record_is there gone
-deed_goes n s EndsGrace name good fit there gone = dropped (λ held. is_back held s.grace) name s.stable.names there (sym (ap (λ (x : Stable). is_recorded name x.names) (end_noted s).record_is) ∙ gone)
+deed_goes n s d name good fit there gone = by (deed_stays n s d held.0 good fit held.1) where
+  held : (one : Recorded) × IsIn one s.stable.names × (same_name one name ≡ true)
+  held = recorded_of name s.stable.names there
+
+  lost : is_recorded name (done n s d).stable.names ≡ true → ⊥
+  lost there_still = both_ways (is_recorded name (done n s d).stable.names) gone there_still
+
+  by : IsIn held.0 (done n s d).stable.names ⊎ IsChanged held.0 n s d → IsOver name s d
+  by (inl stays) = absurd (lost (like_in name held.0 (done n s d).stable.names stays held.2))
+  by (inr (inl over)) = over_like s d held.0 name held.2 over
+  by (inr (inr anew)) =
+      let other = marked held.0 (Some anew.0) in
+      absurd (lost (sym (like_recorded other name (done n s d).stable.names held.2) ∙ kept_named other (done n s d).stable.names (deed_keeps n s d other good fit anew.2)))
+
+-- ---- the names after all of them
+
+pub deeds_from : (n : ℕ) (s : CoreState) (ds : List Deed) (name : Recorded) → IsGood s → AreFit n s ds → IsIn name (all_done n s ds).stable.names → IsIn name s.stable.names ⊎ AnyAt (λ u d. IsMonitored name n u d) n s ds
+deeds_from n s [] name good fit there = inl there
+deeds_from n s (d ∷ ds) name good fit there =
+    elim (deeds_from n (done n s d) ds name (deed_good n s d good fit.0) fit.1 there) [
+      | inl now ↦ elim (deed_from n s d name good fit.0 now) [ inl before ↦ inl before | inr by ↦ inr (inl by) ]
+      | inr later ↦ inr (inr later)
+    ]
+
+pub deeds_stay : (n : ℕ) (s : CoreState) (ds : List Deed) (held : Recorded) → IsGood s → AreFit n s ds → IsIn held s.stable.names → IsIn held (all_done n s ds).stable.names ⊎ AnyAt (λ u d. IsChanged held n u d) n s ds
+deeds_stay n s [] held good fit there = inl there
+deeds_stay n s (d ∷ ds) held good fit there =
+    elim (deed_stays n s d held good fit.0 there) [
+      | inl now ↦ elim (deeds_stay n (done n s d) ds held (deed_good n s d good fit.0) fit.1 now) [ inl last ↦ inl last | inr later ↦ inr (inr later) ]
+      | inr changed ↦ inr (inl changed)
+    ]
 
 pub deeds_go : (n : ℕ) (s : CoreState) (ds : List Deed) (name : Recorded) → IsGood s → AreFit n s ds → is_recorded name s.stable.names ≡ true → is_recorded name (all_done n s ds).stable.names ≡ false → AnyAt (λ u d. IsOver name u d) n s ds
 deeds_go n s [] name good fit there gone = both_ways (is_recorded name s.stable.names) gone there
@@ -532,3 +660,30 @@ deeds_go n s (d ∷ ds) name good fit there gone =
       | inr now ↦ inl (deed_goes n s d name good fit.0 there now)
       | inl later ↦ inr (deeds_go n (done n s d) ds name (deed_good n s d good fit.0) fit.1 later gone)
     ]
+
+any_weaker : (P Q : CoreState → Deed → Type 0) (n : ℕ) (s : CoreState) (ds : List Deed) → ((u : CoreState) (d : Deed) → P u d → Q u d) → AnyAt P n s ds → AnyAt Q n s ds
+any_weaker P Q n s [] step any = absurd any
+any_weaker P Q n s (d ∷ ds) step (inl one) = inl (step s d one)
+any_weaker P Q n s (d ∷ ds) step (inr later) = inr (any_weaker P Q n (done n s d) ds step later)
+
+held_on : (n : ℕ) (s : CoreState) (ds : List Deed) (name : Recorded) → IsGood s → AreFit n s ds → is_kept name s.stable.names ≡ true → IsHeldOn name n s ds (all_done n s ds).stable
+held_on n s ds name good fit kept = record {
+  named =
+      elim (cases_Bool (is_recorded name (all_done n s ds).stable.names)) [
+        | inl last ↦ inl last
+        | inr gone ↦ inr (deeds_go n s ds name good fit (kept_named name s.stable.names kept) gone)
+      ];
+  kept =
+      elim (deeds_stay n s ds held.0 good fit held.1) [
+        | inl last ↦ inl (kept_in name held.0 (all_done n s ds).stable.names last held.2 held.3)
+        | inr changed ↦ inr (any_weaker (λ u d. IsChanged held.0 n u d) (λ u d. IsChanged name n u d) n s ds (λ u d is. changed_like n u d held.0 name held.2 held.3 is) changed)
+      ];
+} where
+  held : (one : Recorded) × IsIn one s.stable.names × (same_name one name ≡ true) × (keeps one.mark name.mark ≡ true)
+  held = kept_of name s.stable.names kept
+
+pub deeds_hold : (n : ℕ) (s : CoreState) (ds : List Deed) → IsGood s → AreFit n s ds → AreHeldOn n s ds (all_done n s ds).stable
+deeds_hold n s [] good fit = tt
+deeds_hold n s (d ∷ ds) good fit =
+    let sound = deed_good n s d good fit.0 in
+    (λ name its. held_on n (done n s d) ds name sound fit.1 (deed_keeps n s d name good fit.0 its), deeds_hold n (done n s d) ds sound fit.1)

@@ -11,13 +11,12 @@ use Rattle.xl_base.specs.declared.stable.Recorded.{Recorded}
 use Rattle.xl_grace.specs.Grace.{reclaimed, shortened}
 use Rattle.xl_matrix.specs.declared.claim.Claim.{Claim}
 use Rattle.xl_matrix.specs.declared.claim.What.{What}
-use Rattle.xl_names.specs.declared.name.Name.{Name}
 use Rattle.xl_table.specs.Flat.{is_blocked}
 use Rattle.xl_table.specs.Least.{least}
 use Rattle.xl_table.specs.Relock.{granted_claims}
 use Rattle.xl_wait.specs.declared.waiter.Rooms.{Rooms}
 use Rattle.xl_wait.specs.declared.waiter.Waiter.{Waiter}
-use Rattle.xl_core.specs.Askers.{alone, asked_what, asked_whats, asked_claim, asked_claims, is_client}
+use Rattle.xl_core.specs.Askers.{asked_what, asked_whats, asked_claim, asked_claims, is_client}
 use Rattle.xl_core.specs.Blockers.{blockers, cache_against, is_stopped}
 use Rattle.xl_core.specs.BreakAnswers.{client_of}
 use Rattle.xl_core.specs.BreaksBegun.{breaks_begun}
@@ -29,7 +28,7 @@ use Rattle.xl_core.specs.Good.{IsGood}
 use Rattle.xl_core.specs.Judge.{to_record}
 use Rattle.xl_core.specs.Limits.{first_passed, grant_limits}
 use Rattle.xl_core.specs.Settle.{way_again, plea_again, settle}
-use Rattle.xl_core.specs.Standings.{recorded_as}
+use Rattle.xl_core.specs.Standings.{recorded_as, asker_as, stores_name}
 use Rattle.xl_core.specs.State.{CoreState, Aside, aside_of, step_begun}
 use Rattle.xl_core.specs.Stores.{may_store, stored, store_failed, client_name, record_left, may_record, unrecorded, bytes_with, without_name}
 use Rattle.xl_core.specs.Ticks.{gone_client, forgotten, expire, may_expire, may_lapse, may_lapse_by, lapsed_by, lapse, end_grace}
@@ -50,6 +49,7 @@ use Rattle.xl_core.proofs.WayAsks.{ask_due, ask_own, ask_way_noted}
 use Rattle.xl_core.proofs.WayLaws.{way_keeps}
 use Rattle.xl_plan.specs.Plans.{AllAt}
 use Rattle.xl_house.specs.Recording.{last_of}
+use Rattle.xl_house.proofs.MarkLaws.{one_what}
 
 -- the deed is one of the clock that may store
 abbrev pub is_clocked : Deed → Bool
@@ -138,11 +138,6 @@ may_then n s t name same = ap (λ (may : Bool). not (is_some name) || may) (may_
 
 -- ---- an ask
 
-one_what : (a : Ask) (names : List Name) (whats : List What) (c : Claim) → asked_claims a whats names ≡ c ∷ [] → (what : What) × (alone whats ≡ Some what)
-one_what a names [] c e = absurd cc
-one_what a names (what ∷ []) c e = (what, refl)
-one_what a names (what ∷ more ∷ whats) c e = absurd cc
-
 back_stores : (a : Ask) (s : CoreState) → SameStores s (is_back a s)
 back_stores a s = by a.reclaim where
   by : (b : Bool) → SameStores s (if b then record s { grace = reclaimed (recorded_as a.party) s.grace } else s)
@@ -179,7 +174,7 @@ ask_stored_by n left s a it named = by (ask n left s a).0 ((ask_due n left s a o
   aside = way_keeps aside_of s.waiters (plea_of left s a) (asked_claims a (asked_whats a.act) s.names) s (λ c. begun_aside c s)
 
   may : may_record n u (wanted u a) ≡ may_store n s
-  may = may_then n s u (wanted u a) (stores_same s u aside) ∙ ap (λ (x : Aside). may_record n s (unrecorded a.monitored (recorded_as a.party) x.stable)) aside ∙ ap (may_record n s) alone_is.2
+  may = may_then n s u (wanted u a) (stores_same s u aside) ∙ ap (λ (x : Aside). may_record n s (unrecorded (stores_name a) (asker_as a) x.stable)) aside ∙ ap (may_record n s) alone_is.2
 
   by : (answer : Answer) → IsClaimDue n left u a (asked_claim a one.0 s.names) answer → IsStoredBy n s answer
   by (Granted c) due = sym may ∙ due.4

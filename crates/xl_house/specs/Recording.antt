@@ -4,16 +4,18 @@ use Rattle.std.specs.Prelude.{◌≡◌, ◌⊎◌, ℕ, ◌+◌, ◌-◌, ◌�
 use Rattle.xl_base.specs.Lists.{IsIn}
 use Rattle.xl_base.specs.Outside.{Rose}
 use Rattle.xl_base.specs.RecordFile.{with_name}
-use Rattle.xl_base.specs.Stable.{Stable, raised, is_recorded}
+use Rattle.xl_base.specs.Stable.{Stable, raised, same_name, is_recorded, is_recordable, keeps, is_kept}
 use Rattle.xl_base.specs.declared.event.Event.{Event}
 use Rattle.xl_base.specs.declared.event.Event.TheVariants.{Tick, Restart}
 use Rattle.xl_base.specs.declared.event.Moment.{Moment}
+use Rattle.xl_base.specs.declared.stable.Mark.{Mark}
 use Rattle.xl_base.specs.declared.stable.Recorded.{Recorded}
-use Rattle.xl_grace.specs.Grace.{Running, begun, expired, is_back, reclaimed, shortened}
+use Rattle.xl_grace.specs.Grace.{Running, begun, expired, is_back, is_known, reclaimed, shortened}
 use Rattle.xl_matrix.specs.declared.claim.Claim.{Claim}
+use Rattle.xl_matrix.specs.declared.claim.What.{What}
 use Rattle.xl_names.specs.declared.name.Name.{Name}
 use Rattle.xl_wait.specs.declared.waiter.Waiter.{Waiter}
-use Rattle.xl_core.specs.Askers.{asked_whats, asked_claims}
+use Rattle.xl_core.specs.Askers.{asked_what, asked_whats, asked_claims}
 use Rattle.xl_core.specs.BreakAnswers.{client_of}
 use Rattle.xl_core.specs.Causes.{asks_claims}
 use Rattle.xl_core.specs.Decide.{ask}
@@ -21,7 +23,7 @@ use Rattle.xl_core.specs.Deeds.{Deed, Asks, Serves, Lapses, Expires, EndsGrace, 
 use Rattle.xl_core.specs.Frames.{who_expired}
 use Rattle.xl_core.specs.Judge.{to_record}
 use Rattle.xl_core.specs.Settle.{settle}
-use Rattle.xl_core.specs.Standings.{recorded_as, recorded_at}
+use Rattle.xl_core.specs.Standings.{recorded_as, marked, asker_as, waiter_as, stores_name}
 use Rattle.xl_core.specs.State.{CoreState}
 use Rattle.xl_core.specs.Stores.{Telling, Holds, client_name, given_more, unrecorded, without_name}
 use Rattle.xl_core.specs.declared.ask.Answer.{Answer}
@@ -38,7 +40,7 @@ use Rattle.xl_house.specs.State.{Whole, as_found}
 
 -- ---- the record
 
--- with this name behind the others, if there is one
+-- with this name and its mark, in its place or behind the others, if there is one
 abbrev pub with_some : Option Recorded → Stable → Stable
 with_some None stable = stable
 with_some (Some name) stable = with_name name stable
@@ -48,10 +50,10 @@ abbrev pub stable_by : Option Recorded → Answer → Stable → Stable
 stable_by name (Granted c) stable = with_some name stable
 stable_by name answer stable = stable
 
--- the name that is to be recorded before the waiter of this number is granted what it waits for
+-- the name that is to be recorded with its mark before the waiter of this number is granted what it waits for
 abbrev pub name_waited : ℕ → List Name → List Waiter → Stable → Option Recorded
 name_waited id names [] stable = None
-name_waited id names (w ∷ ws) stable = if w.id == id then to_record (unrecorded w.monitored (recorded_at names w.party) stable) w.asked else name_waited id names ws stable
+name_waited id names (w ∷ ws) stable = if w.id == id then to_record (unrecorded w.monitored (waiter_as names w) stable) w.asked else name_waited id names ws stable
 
 -- once a turn tells this
 abbrev pub stable_served : CoreState → List Effect → Stable → Stable
@@ -64,10 +66,11 @@ abbrev pub without_client : Option (List ℕ) → Stable → Stable
 without_client None stable = stable
 without_client (Some client) stable = without_name (client_name client) stable
 
--- The record after one deed, of what it was: it gains the name of one who is monitored and is granted what it asks or waits for, if
--- it lacks that; it loses that of a client that expires, and at the end of grace those that reclaimed nothing.
+-- The record after one deed, of what it was: it gains the name of one who is monitored, reclaims nothing and is granted what it asks
+-- or waits for, if it lacks that, and its mark, if it came with one that isn't kept; it loses the name of a client that expires, and
+-- at the end of grace those that reclaimed nothing.
 abbrev pub stable_left : ℕ → CoreState → Deed → Stable → Stable
-stable_left n s (Asks left a) stable = stable_by (to_record (unrecorded a.monitored (recorded_as a.party) stable) (asked_claims a (asked_whats a.act) s.names)) (ask n left s a).0 stable
+stable_left n s (Asks left a) stable = stable_by (to_record (unrecorded (stores_name a) (asker_as a) stable) (asked_claims a (asked_whats a.act) s.names)) (ask n left s a).0 stable
 stable_left n s (Serves left) stable = stable_served s (given n s (Serves left)).1 stable
 stable_left n s (Lapses cache) stable = without_client (client_of s.names cache.party) stable
 stable_left n s (Expires client) stable = without_name (client_name client) stable
@@ -109,30 +112,60 @@ abbrev pub AnyAt : (CoreState → Deed → Type 0) → ℕ → CoreState → Lis
 AnyAt P n s [] = ⊥
 AnyAt P n s (d ∷ ds) = P s d ⊎ AnyAt P n (done n s d) ds
 
--- the deed is a monitored ask of the client of this name, which is granted, or serves one who waited by such an ask with its grant
+-- one who waited for one thing by a monitored ask, of the client of this name with this mark, or without one, is told of its grant
+abbrev pub HasServed : Recorded → CoreState → List Effect → Type 0
+HasServed name s told =
+    (w : Waiter) × (asked : Claim) × (c : Claim) × IsIn w s.waiters × (w.asked ≡ asked ∷ []) × (w.monitored ≡ true) × (is_recordable name ≡ true) × (waiter_as s.names w ≡ name) × IsIn (Served w.party w.id (Granted c)) told
+
+-- The deed is a monitored ask for one thing, and no reclaim, of the client of this name with this mark, or without one, which is
+-- granted; or it serves one who waited by such an ask with its grant.
 abbrev pub IsMonitored : Recorded → ℕ → CoreState → Deed → Type 0
-IsMonitored name n s (Asks left a) = (c : Claim) × (a.monitored ≡ true) × (recorded_as a.party ≡ name) × ((ask n left s a).0 ≡ Granted c)
-IsMonitored name n s (Serves left) = (w : Waiter) × (c : Claim) × IsIn w s.waiters × (w.monitored ≡ true) × (recorded_at s.names w.party ≡ name) × IsIn (Served w.party w.id (Granted c)) (given n s (Serves left)).1
+IsMonitored name n s (Asks left a) =
+    (what : What) × (c : Claim) × (asked_what a.act ≡ Some what) × (a.monitored ≡ true) × (a.reclaim ≡ false) × (is_recordable name ≡ true) × (asker_as a ≡ name) × ((ask n left s a).0 ≡ Granted c)
+IsMonitored name n s (Serves left) = HasServed name s (given n s (Serves left)).1
 IsMonitored name n s deed = ⊥
+
+-- the deed is such a grant to the client of this name, which came with another mark than this one
+abbrev pub IsMarkedAnew : Recorded → ℕ → CoreState → Deed → Type 0
+IsMarkedAnew name n s deed = (mark : Mark) × (keeps name.mark (Some mark) ≡ false) × IsMonitored (marked name (Some mark)) n s deed
 
 abbrev pub IsNamed : Recorded → Option (List ℕ) → Type 0
 IsNamed name None = ⊥
-IsNamed name (Some client) = client_name client ≡ name
+IsNamed name (Some client) = same_name (client_name client) name ≡ true
 
--- the deed is the expiry of the client of this name, or the end of a grace in which it reclaimed nothing
+-- the deed is the expiry of the client of this name, whatever its mark, or the end of a grace in which it reclaimed nothing
 abbrev pub IsOver : Recorded → CoreState → Deed → Type 0
 IsOver name s (Lapses cache) = IsNamed name (client_of s.names cache.party)
-IsOver name s (Expires client) = client_name client ≡ name
+IsOver name s (Expires client) = same_name (client_name client) name ≡ true
 IsOver name s EndsGrace = is_back name s.grace ≡ false
 IsOver name s deed = ⊥
 
--- What becomes of the record and of the grace by these deeds. A name comes into the record by a monitored ask of its client alone;
--- it goes only as its client expires, or at the end of a grace in which it reclaimed nothing.
+-- the deed ends the name, or gives it another mark
+abbrev pub IsChanged : Recorded → ℕ → CoreState → Deed → Type 0
+IsChanged name n s deed = IsOver name s deed ⊎ IsMarkedAnew name n s deed
+
+-- Behind these deeds the name is recorded, unless one of them ends it; and its mark is kept, if it has one, unless one of them ends
+-- the name or gives it another.
+pub record IsHeldOn (name : Recorded) (n : ℕ) (s : CoreState) (ds : List Deed) (stable : Stable) : Type 0 where
+  pub named : (is_recorded name stable.names ≡ true) ⊎ AnyAt (λ u d. IsOver name u d) n s ds
+  pub kept : (is_kept name stable.names ≡ true) ⊎ AnyAt (λ u d. IsChanged name n u d) n s ds
+
+-- so it is behind each of these deeds of each name that is to be recorded for it
+abbrev pub AreHeldOn : ℕ → CoreState → List Deed → Stable → Type 0
+AreHeldOn n s [] stable = Unit {0}
+AreHeldOn n s (d ∷ ds) stable = ((name : Recorded) → IsMonitored name n s d → IsHeldOn name n (done n s d) ds stable) × AreHeldOn n (done n s d) ds stable
+
+-- What becomes of the record and of the grace by these deeds. A name comes into the record, and a mark beside it, only by a monitored
+-- ask of its client with that mark, which reclaims nothing; it goes only as its client expires, or at the end of a grace in which it
+-- reclaimed nothing; and while it stays a kept mark goes only by such an ask with another. Each such ask that is granted leaves the
+-- name recorded, with its mark if it has one.
 pub record IsRecordedBy (n : ℕ) (s : CoreState) (ds : List Deed) (t : CoreState) : Type 0 where
   pub stable : t.stable ≡ stable_after n s ds s.stable
   pub grace : t.grace ≡ grace_after n s ds s.grace
-  pub comes : (name : Recorded) → is_recorded name s.stable.names ≡ false → is_recorded name t.stable.names ≡ true → AnyAt (λ u d. IsMonitored name n u d) n s ds
+  pub comes : (name : Recorded) → IsIn name t.stable.names → IsIn name s.stable.names ⊎ AnyAt (λ u d. IsMonitored name n u d) n s ds
   pub goes : (name : Recorded) → is_recorded name s.stable.names ≡ true → is_recorded name t.stable.names ≡ false → AnyAt (λ u d. IsOver name u d) n s ds
+  pub stays : (name : Recorded) → IsIn name s.stable.names → IsIn name t.stable.names ⊎ AnyAt (λ u d. IsChanged name n u d) n s ds
+  pub held : AreHeldOn n s ds t.stable
 
 -- Who is told of as expired at a reading of the clock isn't in the record at the end of the entry.
 abbrev pub IsForgetting : ℕ → Whole → Moment → Whole → Type 0
@@ -182,10 +215,10 @@ pub record HasKept (turn : Turn) (before now : Telling) : Type 0 where
 
 -- ---- in grace
 
--- While grace runs a share or a lock is granted only to one who reclaims it and whose client the record has; and nobody who waits has
--- a turn.
+-- While grace runs a share or a lock is granted only to one who reclaims it and whose client the record has, with a mark that agrees
+-- with its own; and nobody who waits has a turn.
 abbrev pub IsAdmittedBy : ℕ → CoreState → Deed → Type 0
-IsAdmittedBy n s (Asks left a) = (g : Running) (c : Claim) → s.grace ≡ Some g → asks_claims a.act ≡ true → (ask n left s a).0 ≡ Granted c → (a.reclaim ≡ true) × (is_recorded (recorded_as a.party) s.stable.names ≡ true)
+IsAdmittedBy n s (Asks left a) = (g : Running) (c : Claim) → s.grace ≡ Some g → asks_claims a.act ≡ true → (ask n left s a).0 ≡ Granted c → (a.reclaim ≡ true) × (is_known (asker_as a) s.stable.names ≡ true)
 IsAdmittedBy n s (Serves left) = (g : Running) → s.grace ≡ Some g → settle n left s ≡ None
 IsAdmittedBy n s deed = Unit {0}
 

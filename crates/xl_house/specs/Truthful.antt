@@ -1,6 +1,7 @@
 -- Reclaims over restarts and crashes: what was held before the server started, and that truthful reclaims never collide (RFC 7530
 -- 9.6.2, 9.6.3; XNFS C702, NLM_LOCK).
-use Rattle.std.specs.Prelude.{◌≡◌, ℕ, ◌≤◌, true, false, if◌then◌else◌, List, [], ◌∷◌, map, take, is_some}
+use Rattle.std.specs.Prelude.{◌≡◌, ◌⊎◌, ℕ, ◌≤◌, true, false, if◌then◌else◌, List, [], ◌∷◌, map, take, is_some}
+use Rattle.xl_base.specs.Lists.{IsIn}
 use Rattle.xl_base.specs.Stable.{Stable, raised, is_recorded}
 use Rattle.xl_base.specs.declared.event.Event.{Event}
 use Rattle.xl_base.specs.declared.event.Event.TheVariants.{Restart}
@@ -13,7 +14,7 @@ use Rattle.xl_plan.specs.Plans.{AllAt}
 use Rattle.xl_house.specs.Done.{deeds}
 use Rattle.xl_house.specs.Lawful.{found}
 use Rattle.xl_house.specs.Machine.{step}
-use Rattle.xl_house.specs.Recording.{AnyAt, IsMonitored, IsOver, last_of}
+use Rattle.xl_house.specs.Recording.{AnyAt, IsMonitored, IsOver, IsChanged, last_of}
 use Rattle.xl_house.specs.State.{Whole, no_fronts, times_of}
 
 -- ---- crashes
@@ -38,11 +39,13 @@ crashed k n now s event =
     record { exports = s.exports; place = 0; connections = []; front = no_fronts; core = started (raised (record_left k n s event)) now (times_of s.exports) }
 
 -- What a crash makes of the record, in the step of an event of whose stores n would have succeeded, once its first k stores were made: a
--- name comes into it only by a monitored ask of its client in that step, and goes only as its client expires in it, or at the end of a
--- grace in which it reclaimed nothing.
+-- name comes into it, and a mark beside it, only by a monitored ask of its client with that mark in that step, which reclaims nothing;
+-- it goes only as its client expires in it, or at the end of a grace in which it reclaimed nothing; and while it stays a kept mark goes
+-- only by such an ask with another.
 pub record IsRecordCut (k n : ℕ) (s : Whole) (event : Event) : Type 0 where
-  pub comes : (name : Recorded) → is_recorded name s.core.stable.names ≡ false → is_recorded name (record_left k n s event).names ≡ true → AnyAt (λ u d. IsMonitored name n u d) n (found s) (deeds n s event)
+  pub comes : (name : Recorded) → IsIn name (record_left k n s event).names → IsIn name s.core.stable.names ⊎ AnyAt (λ u d. IsMonitored name n u d) n (found s) (deeds n s event)
   pub goes : (name : Recorded) → is_recorded name s.core.stable.names ≡ true → is_recorded name (record_left k n s event).names ≡ false → AnyAt (λ u d. IsOver name u d) n (found s) (deeds n s event)
+  pub stays : (name : Recorded) → IsIn name s.core.stable.names → IsIn name (record_left k n s event).names ⊎ AnyAt (λ u d. IsChanged name n u d) n (found s) (deeds n s event)
 
 -- so it is of whatever event comes then, behind any of the stores that it makes
 unfoldable pub IsCutWell : Whole → Type 0
@@ -69,7 +72,7 @@ before_then before s event = before
 abbrev pub AreTruthful : Before → ℕ → Whole → Event → Type 0
 AreTruthful before n s event = AllAt (λ u d. TellsTruth before u d) n (found s) (deeds n s event)
 
--- none of them is turned away: by what is held, for want of its name in the record, or for want of a grace that runs
+-- none of them is turned away: by what is held, for want of its name in the record, with a mark that agrees, or of a grace that runs
 abbrev pub AreLetIn : ℕ → Whole → Event → Type 0
 AreLetIn n s event = AllAt (λ u d. IsLetIn n u d) n (found s) (deeds n s event)
 

@@ -457,10 +457,12 @@ impl<K: Keeper> House<K> {
     ///   served;
     /// - lawful: each entry leaves at each place, and of each lease, what its deeds made of it;
     /// - steady: what is exported, the times and the epoch of the record stay, and numbers are given out one by one;
-    /// - recorded: the record is the last that was stored, and no more was stored than the entry tells; a name comes into it by a
-    ///   monitored ask of its client alone, and goes only as its client expires, or at the end of a grace in which it reclaimed
-    ///   nothing; who expired is not in it;
-    /// - admitted: while grace runs a share or a lock is granted only to one who reclaims it and whose client is recorded;
+    /// - recorded: the record is the last that was stored, and no more was stored than the entry tells; a name comes into it, and a
+    ///   mark beside it, by a monitored ask of its client with that mark alone, which reclaims nothing; it goes only as its client
+    ///   expires, or at the end of a grace in which it reclaimed nothing; while it stays its mark goes only by such an ask with
+    ///   another; each such ask that is granted leaves it recorded, with its mark if it has one; who expired is not in it;
+    /// - admitted: while grace runs a share or a lock is granted only to one who reclaims it and whose client is recorded, with a mark
+    ///   that agrees with its own;
     /// - parties: each claim is held for a party that had something of its owner's there, asked for it, or waited for it;
     /// - waiting: those who waited go on to wait, except those whom the entry served, cancelled or ended;
     /// - kept_until_answered: while the break of a cache runs, the cache is held at its full kind, until its party
@@ -471,9 +473,10 @@ impl<K: Keeper> House<K> {
     ///   done, except what waits for a store that failed;
     /// - fit: each deed is one that may be done where it is done;
     /// - wished: a wish got one of its choices, the least kind with one of them and what its party had, or nothing;
-    /// - asking: an ask of a request of NLM is on the file that it names, a reclaim if it says so, and within the room for hosts; those
-    ///   of an operation of NFSv4 are for what it says, on the file of its current handle or that it claims there, a reclaim if it says
-    ///   so; those of a LOCK and a CREATE of SMB are of the open and on the file that they name;
+    /// - asking: an ask of a request of NLM is on the file that it names, a reclaim if it says so, with the state that it names as its
+    ///   mark, and within the room for hosts; those of an operation of NFSv4 are for what it says, on the file of its current handle or
+    ///   that it claims there, a reclaim if it says so, and of a confirmed client with its verifier as their mark; those of a LOCK and a
+    ///   CREATE of SMB are of the open and on the file that they name;
     /// - owed: a grant that its client refuses is given up;
     /// - meant: what the reply to a request of NLM, or to a LOCK, CREATE or CLOSE of SMB, says is done is done, and the stateids that a
     ///   reply of NFSv4 tells name what is there, but for that of a lock owner's first LOCK under an open;

@@ -1,7 +1,7 @@
 //! Laws of the house. The functions do nothing.
 ghost use Rattle.std.specs.Prelude.{◌≡◌, ℕ, nat_lt, Bool, true, false, List, [], ◌∷◌, Option, Some, None, ◌==◌, find};
 ghost use Rattle.xl_base.specs.Lists.{IsIn};
-ghost use Rattle.xl_base.specs.Stable.{is_recorded};
+ghost use Rattle.xl_base.specs.Stable.{is_kept, is_recordable, is_recorded};
 ghost use Rattle.xl_base.specs.declared.event.Event.TheVariants.{Message, Tick, Called, Restart};
 ghost use Rattle.xl_base.specs.declared.event.Moment.{Moment};
 ghost use Rattle.xl_base.specs.declared.event.Out.{Out};
@@ -11,7 +11,7 @@ ghost use Rattle.xl_base.specs.declared.name.Owner.{Owner};
 ghost use Rattle.xl_base.specs.declared.name.Party.{Party};
 ghost use Rattle.xl_base.specs.declared.stable.Recorded.{Recorded};
 ghost use Rattle.xl_cache.specs.BreakPlans.{is_running, is_obstacle};
-ghost use Rattle.xl_grace.specs.Grace.{Running};
+ghost use Rattle.xl_grace.specs.Grace.{Running, is_known};
 ghost use Rattle.xl_matrix.specs.declared.claim.Break.{Break};
 ghost use Rattle.xl_matrix.specs.declared.claim.CacheKind.{CacheKind};
 ghost use Rattle.xl_matrix.specs.declared.claim.Claim.{Claim};
@@ -43,7 +43,7 @@ ghost use Rattle.xl_wait.specs.Waiting.{waits_on};
 ghost use Rattle.xl_core.specs.Places.{CacheOf, held_at};
 ghost use Rattle.xl_house.specs.Wished.{IsWished};
 ghost use Rattle.xl_table.specs.Flat.{blocks};
-ghost use Rattle.xl_core.specs.Askers.{asked_whats, asked_claims};
+ghost use Rattle.xl_core.specs.Askers.{asked_what, asked_whats, asked_claims};
 ghost use Rattle.xl_core.specs.Blockers.{is_stopped};
 ghost use Rattle.xl_core.specs.Decide.{way, ask};
 ghost use Rattle.xl_house.specs.Breaking.{IsBroken, IsFirstOf, HasBegun};
@@ -64,7 +64,7 @@ ghost use Rattle.xl_reclaims.specs.Truthful.{Before, WereHeld, Reclaims, turns_a
 ghost use Rattle.xl_base.specs.declared.journal.Head.{Head};
 ghost use Rattle.xl_core.specs.Deeds.{all_told_of};
 ghost use Rattle.xl_core.specs.Frames.{who_expired};
-ghost use Rattle.xl_core.specs.Standings.{recorded_as};
+ghost use Rattle.xl_core.specs.Standings.{asker_as};
 ghost use Rattle.xl_core.specs.Stores.{client_name};
 ghost use Rattle.xl_base.specs.declared.event.Dest.TheVariants.{Conn};
 ghost use Rattle.xl_programs.specs.Sent.{sent_to};
@@ -177,21 +177,29 @@ pub fn machines_that_tell_wrongly_are_refused()
 {}
 
 /// A machine that tells that a client has expired, and whose record has it still, doesn't record rightly; nor does one that forgets a
-/// recorded name at a restart. One that lets a client in while grace runs whom the record lacks lets nobody in rightly; and one that
-/// turns a reclaim away has no entry that lets each in.
+/// recorded name at a restart, that grants a monitored lock and doesn't keep the mark that its client came with, that stores a name or
+/// a mark for a reclaim, or that drops a kept mark at an ask without one. One that lets a client in while grace runs whom the record
+/// lacks, or whose mark doesn't agree with the kept one, lets nobody in rightly; and one that turns a reclaim away has no entry that
+/// lets each in.
 #[tactic(auto, using(crate::proofs::RecoveringLaws::expired_stays_in, crate::proofs::RecoveringLaws::unrecorded_let_in, crate::proofs::RecoveringLaws::name_forgotten_in, crate::proofs::RecoveringLaws::reclaim_turned_away_in))]
 pub fn machines_that_recover_wrongly_are_refused()
     ensures expired_stays { (n stores : ℕ) (outs : List Out) (s t : Whole) (now : Moment) (client : List ℕ) → IsIn client (who_expired (all_told_of n (found s) (own_of n (as_found s) (Tick now)).deeds)) → is_recorded (client_name client) t.core.stable.names ≡ true
         → IsRecording n s (record { event = Tick now; stores = stores; outs = outs }) t → ⊥ }
     ensures unrecorded { (n stores number : ℕ) (bytes : List ℕ) (outs : List Out) (s t : Whole) (left : Rooms) (a : Ask) (g : Running) (c : Claim) → deeds n s (Message number bytes) ≡ Asks left a ∷ [] → s.core.grace ≡ Some g → asks_claims a.act ≡ true
-        → is_recorded (recorded_as a.party) s.core.stable.names ≡ false → (ask n left (found s) a).0 ≡ Answer.Granted c → IsAdmitting n s (record { event = Message number bytes; stores = stores; outs = outs }) t → ⊥ }
+        → is_known (asker_as a) s.core.stable.names ≡ false → (ask n left (found s) a).0 ≡ Answer.Granted c → IsAdmitting n s (record { event = Message number bytes; stores = stores; outs = outs }) t → ⊥ }
+    ensures mark_missed { (n stores number : ℕ) (bytes : List ℕ) (outs : List Out) (s t : Whole) (left : Rooms) (a : Ask) (what : What) (c : Claim) → deeds n s (Message number bytes) ≡ Asks left a ∷ [] → asked_what a.act ≡ Some what → a.monitored ≡ true → a.reclaim ≡ false → is_recordable (asker_as a) ≡ true
+        → (ask n left (found s) a).0 ≡ Answer.Granted c → is_kept (asker_as a) t.core.stable.names ≡ false → IsRecording n s (record { event = Message number bytes; stores = stores; outs = outs }) t → ⊥ }
+    ensures reclaim_stores { (n stores number : ℕ) (bytes : List ℕ) (outs : List Out) (s t : Whole) (left : Rooms) (a : Ask) (name : Recorded) → deeds n s (Message number bytes) ≡ Asks left a ∷ [] → a.reclaim ≡ true
+        → IsIn name t.core.stable.names → (IsIn name s.core.stable.names → ⊥) → IsRecording n s (record { event = Message number bytes; stores = stores; outs = outs }) t → ⊥ }
+    ensures mark_dropped { (n stores number : ℕ) (bytes : List ℕ) (outs : List Out) (s t : Whole) (left : Rooms) (a : Ask) (name : Recorded) → deeds n s (Message number bytes) ≡ Asks left a ∷ [] → a.mark ≡ None
+        → IsIn name s.core.stable.names → (IsIn name t.core.stable.names → ⊥) → IsRecording n s (record { event = Message number bytes; stores = stores; outs = outs }) t → ⊥ }
     ensures name_forgotten { (n stores : ℕ) (outs : List Out) (s t : Whole) (name : Recorded) → is_recorded name s.core.stable.names ≡ true → is_recorded name t.core.stable.names ≡ false → IsRecording n s (record { event = Restart; stores = stores; outs = outs }) t → ⊥ }
     ensures turned_away { (n number : ℕ) (bytes : List ℕ) (s : Whole) (left : Rooms) (a : Ask) (answer : Answer) → deeds n s (Message number bytes) ≡ Asks left a ∷ [] → Reclaims (found s) a → (ask n left (found s) a).0 ≡ answer → turns_away answer ≡ true → AreLetIn n s (Message number bytes) → ⊥ }
 {}
 
 /// Truthful reclaims never collide, whatever happens from a start on, restarts and crashes too: while grace runs, if each reclaim since
-/// the server started told the truth, none is turned away by what is held, nor for want of its name in the record or of a grace that
-/// runs. A reclaim tells the truth if the record has its client, and what it asks for lies within what the client held, by names,
+/// the server started told the truth, none is turned away by what is held, nor for want of its name and mark in the record or of a grace that
+/// runs. A reclaim tells the truth if the record has its client, with a mark that agrees, and what it asks for lies within what the client held, by names,
 /// just before the server stopped; or if grace ran then, before that began.
 #[tactic(auto, using(crate::proofs::TruthfulLaws::never_collide))]
 pub fn truthful_reclaims_never_collide()

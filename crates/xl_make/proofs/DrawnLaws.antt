@@ -5,8 +5,11 @@ use Rattle.std.proofs.lemmas.Bool.{cases_lt, both_ways, and_right, le-leb, lt-lt
 use Rattle.std.proofs.lemmas.Bool.Decides.{nat_tests}
 use Rattle.xl_base.specs.Codec.{big_endian}
 use Rattle.xl_base.specs.Lists.{IsIn}
+use Rattle.xl_base.specs.declared.record_file.RecordForm.TheVariants.{Marked}
 use Rattle.xl_base.specs.RecordFile.{most_record_bytes, name_text, names_text, record_text, with_name}
-use Rattle.xl_base.specs.Stable.{Stable, is_recorded}
+use Rattle.xl_base.specs.Stable.{Stable, is_kept as is_kept_with, put_name}
+use Rattle.xl_base.specs.declared.stable.Mark.{Mark}
+use Rattle.xl_base.specs.declared.stable.Mark.TheVariants.{State}
 use Rattle.xl_base.specs.declared.stable.Recorded.{Recorded}
 use Rattle.xl_base.proofs.RecordFileLaws.{head_length}
 use Rattle.xl_base.proofs.Members.{all_append}
@@ -19,6 +22,7 @@ use Rattle.xl_matrix.specs.declared.claim.Claim.{Claim}
 use Rattle.xl_matrix.specs.declared.claim.Extent.TheVariants.{Bytes, Empty}
 use Rattle.xl_matrix.specs.declared.claim.What.{What}
 use Rattle.xl_matrix.specs.declared.claim.What.TheVariants.{Share, Range, Cache}
+use Rattle.xl_rpc.specs.Xdr.{signed}
 use Rattle.xl_names.specs.Names.{protocol_of, place_of, number_of, is_kept, entered, most_names}
 use Rattle.xl_names.specs.declared.name.Name.{Name}
 use Rattle.xl_names.specs.declared.name.Name.TheVariants.{NlmRange, NlmParty}
@@ -26,7 +30,7 @@ use Rattle.xl_wait.specs.declared.waiter.Rooms.{Rooms}
 use Rattle.xl_table.specs.Held.{mode_of, is_cache}
 use Rattle.xl_table.specs.Relock.{most_claims, granted_claims, holds_byte}
 use Rattle.xl_core.specs.State.{CoreState, Aside}
-use Rattle.xl_core.specs.Standings.{is_smb, is_timely, recorded_as, standing, standing_by, stands}
+use Rattle.xl_core.specs.Standings.{is_smb, is_timely, asker_as, standing, standing_by, stands}
 use Rattle.xl_core.specs.Stores.{bytes_with, may_record, unrecorded}
 use Rattle.xl_grace.specs.Grace.{Running, admission}
 use Rattle.xl_core.specs.Askers.{IsFit, is_client, both_entered, asked_claim, asker, asking_party, known_claim, number_or}
@@ -58,6 +62,7 @@ use Rattle.xl_core.proofs.WayCode.{no_way_for}
 use Rattle.xl_core.proofs.AskWishLaws.{empty_after}
 use Rattle.xl_front_nlm.specs.Asks.{ask_of}
 use Rattle.xl_front_nlm.specs.Hosts.{rooms, host_rows}
+use Rattle.xl_house.proofs.MarkLaws.{kept_put}
 use Rattle.xl_make.proofs.GroupLaws.{HasBytes, IsFew, AreFew, owner_at, relocked_few, relocked_room}
 use Rattle.xl_make.proofs.SumLaws.{few_names}
 
@@ -70,13 +75,20 @@ five =
 abbrev pub name_by : ℕ → Name
 name_by who = NlmRange (codes "m") (pos who) []
 
--- the caller of a lock alone is monitored
+-- the state of the caller's host
+abbrev pub our_mark : Mark
+our_mark = State (signed (pos 0))
+
+-- the caller of a lock alone is monitored, and comes with a mark
 abbrev pub drawn_ask : Bool → ℕ → ℕ → Act → Rooms → Ask
-drawn_ask monitored who file act rows = record (ask_of (name_by who) (codes "m") file act rows) { monitored = monitored }
+drawn_ask monitored who file act rows = record (ask_of (name_by who) (codes "m") file act rows) { monitored = monitored; mark = if monitored then Some our_mark else None }
 
 -- the only name that is recorded
 abbrev pub our_name : Recorded
-our_name = record { protocol = Nlm; name = codes "m" }
+our_name = record { protocol = Nlm; name = codes "m"; mark = Some our_mark }
+
+ours_is : (monitored : Bool) (who file : ℕ) (act : Act) (rows : Rooms) → monitored ≡ true → asker_as (drawn_ask monitored who file act rows) ≡ our_name
+ours_is monitored who file act rows e = ap (λ (b : Bool). record { protocol = Nlm; name = codes "m"; mark = if b then Some our_mark else None }) e
 
 abbrev pub AreOurNames : List Recorded → Type 0
 AreOurNames names = (names ≡ []) ⊎ (names ≡ our_name ∷ [])
@@ -151,13 +163,13 @@ passes_by h r held bytes kept hosts claims short names = grind (arith, nat_tests
 -- a record of one name at most is short
 record_short : (stable : Stable) → stable.names ≡ [] → length (record_text (with_name our_name stable)) ≤ most_record_bytes
 unfolding name_text big_endian
-record_short stable none = omega (arith, head_length (with_name our_name stable), ap (λ (names : List Recorded). length (names_text (names ++ our_name ∷ []))) none)
+record_short stable none = omega (arith, head_length Marked (with_name our_name stable), ap (λ (names : List Recorded). length (names_text Marked (put_name our_name names))) none)
 
 bytes_short : (monitored : Bool) (stable : Stable) → AreOurNames stable.names → bytes_with (unrecorded monitored our_name stable) stable ≤ most_record_bytes
 bytes_short false stable ours = omega arith
 bytes_short true stable (inl none) =
-    subst (λ (known : Bool). bytes_with (if not known then Some our_name else None) stable ≤ most_record_bytes) (sym (ap (is_recorded our_name) none)) (record_short stable none)
-bytes_short true stable (inr one) = subst (λ (known : Bool). bytes_with (if not known then Some our_name else None) stable ≤ most_record_bytes) (sym (ap (is_recorded our_name) one)) (omega arith)
+    subst (λ (known : Bool). bytes_with (if not known then Some our_name else None) stable ≤ most_record_bytes) (sym (ap (is_kept_with our_name) none)) (record_short stable none)
+bytes_short true stable (inr one) = subst (λ (known : Bool). bytes_with (if not known then Some our_name else None) stable ≤ most_record_bytes) (sym (ap (is_kept_with our_name) one ∙ kept_put our_name [])) (omega arith)
 
 host_room : (hosts : List (List ℕ)) → AreOurs hosts → (host_rows (codes "m") hosts).hosts ≤ (rooms hosts).hosts
 host_room hosts (inl none) = subst (λ (hs : List (List ℕ)). (host_rows (codes "m") hs).hosts ≤ (rooms hs).hosts) (sym none) (omega arith)
@@ -201,7 +213,7 @@ no_wait false x y e hurries may = both_ways y hurries may
 hurried : (s : CoreState) (a : Ask) (claim : Claim) → a.blocking ≡ false → a.awaits ≡ false → s.grace ≡ None → a.reclaim ≡ false → IsWaiting (stands s a) s.waiters s a claim → ⊥
 unfolding standing
 hurried s a claim hurries rests calm new waits =
-    let name : Recorded = recorded_as a.party in
+    let name : Recorded = asker_as a in
     let once = subst (λ (g : Option Running). IsWaiting (standing_by (is_smb a.party) a.reclaim s.clock (admission g name a.reclaim)) s.waiters s a claim) calm waits in
     let timely = subst (λ (r : Bool). IsWaiting (standing_by (is_smb a.party) r s.clock (admission None name r)) s.waiters s a claim) new once in
     no_wait (is_stopped s.waiters s claim) a.blocking a.awaits hurries rests timely.0
@@ -227,8 +239,8 @@ plain_claim n left s a claim (answers.Full limit) hurries rests fits new calm ab
     ]
 plain_claim n left s a claim answers.NotHeld hurries rests fits new calm able due = tt
 plain_claim n left s a claim (answers.Recall c) hurries rests fits new calm able due = tt
-plain_claim n left s a claim (answers.Grace until) hurries rests fits new calm able due = absurd (both_ways (is_timely (stands s a)) (ap is_timely due) (timely_so s (recorded_as a.party) (is_smb a.party) a.reclaim calm new))
-plain_claim n left s a claim answers.NotRecorded hurries rests fits new calm able due = absurd (both_ways (is_timely (stands s a)) (ap is_timely due) (timely_so s (recorded_as a.party) (is_smb a.party) a.reclaim calm new))
+plain_claim n left s a claim (answers.Grace until) hurries rests fits new calm able due = absurd (both_ways (is_timely (stands s a)) (ap is_timely due) (timely_so s (asker_as a) (is_smb a.party) a.reclaim calm new))
+plain_claim n left s a claim answers.NotRecorded hurries rests fits new calm able due = absurd (both_ways (is_timely (stands s a)) (ap is_timely due) (timely_so s (asker_as a) (is_smb a.party) a.reclaim calm new))
 plain_claim n left s a claim answers.StoreFailed hurries rests fits new calm able due = absurd (both_ways (may_record n s (wanted s a)) due.3 (stores_more n s (wanted s a) able))
 
 -- what stays true of the core
@@ -273,19 +285,19 @@ calm_after n left s a good client calm =
     let noted = (ask_own n left s a good client).noted ∙ ask_way_noted left s a (ask n left s a).0 in
     none_runs (ask n left s a).2.grace (ap (λ (x : Aside). is_some x.grace) noted ∙ by_runs s a (ask n left s a).0 ∙ ap is_some calm)
 
-ours_after : (n : ℕ) (left : Rooms) (s : CoreState) (a : Ask) → IsGood s → is_client a.owner a.party ≡ true → recorded_as a.party ≡ our_name → AreOurNames s.stable.names → AreOurNames (ask n left s a).2.stable.names
+ours_after : (n : ℕ) (left : Rooms) (s : CoreState) (a : Ask) → IsGood s → is_client a.owner a.party ≡ true → (a.monitored ≡ true → asker_as a ≡ our_name) → AreOurNames s.stable.names → AreOurNames (ask n left s a).2.stable.names
 ours_after n left s a good client ours names = of (gained_told n left s a good client) where
   new : Stable
   new = (ask n left s a).2.stable
 
-  -- who gains its name wasn't recorded, so nobody was
-  gained : AreOurNames s.stable.names → is_recorded (recorded_as a.party) s.stable.names ≡ false → new ≡ with_name (recorded_as a.party) s.stable → AreOurNames new.names
-  gained (inl none) lacks is = inr (ap (λ (t : Stable). t.names) is ∙ ap₂ (λ (name : Recorded) (held : List Recorded). held ++ name ∷ []) ours none)
-  gained (inr one) lacks is = absurd (both_ways (is_recorded (recorded_as a.party) s.stable.names) lacks (ap₂ is_recorded ours one))
+  -- who gains its name and mark wasn't kept, so nobody was
+  gained : AreOurNames s.stable.names → asker_as a ≡ our_name → is_kept_with (asker_as a) s.stable.names ≡ false → new ≡ with_name (asker_as a) s.stable → AreOurNames new.names
+  gained (inl none) its lacks is = inr (ap (λ (t : Stable). t.names) is ∙ ap₂ put_name its none)
+  gained (inr one) its lacks is = absurd (both_ways (is_kept_with (asker_as a) s.stable.names) lacks (ap₂ is_kept_with its one ∙ kept_put our_name []))
 
-  of : (new ≡ s.stable) ⊎ (((c : Claim) × ((ask n left s a).0 ≡ answers.Granted c)) × (a.monitored ≡ true) × (is_recorded (recorded_as a.party) s.stable.names ≡ false) × (new ≡ with_name (recorded_as a.party) s.stable)) → AreOurNames new.names
+  of : (new ≡ s.stable) ⊎ (((c : Claim) × ((ask n left s a).0 ≡ answers.Granted c)) × (a.monitored ≡ true) × (a.reclaim ≡ false) × (is_kept_with (asker_as a) s.stable.names ≡ false) × (new ≡ with_name (asker_as a) s.stable)) → AreOurNames new.names
   of (inl same) = subst (λ (t : Stable). AreOurNames t.names) (sym same) names
-  of (inr more) = gained names more.2 more.3
+  of (inr more) = gained names (ours more.1) more.3 more.4
 
 -- what is left but for the claims
 well : (n : ℕ) (left : Rooms) (s : CoreState) (monitored : Bool) (who file : ℕ) (act : Act) (rows : Rooms) → IsMadeCore s → who < 4 → IsFit (drawn_ask monitored who file act rows)
@@ -301,7 +313,7 @@ well n left s monitored who file act rows core one fit plain few =
             (names_plain a (ask n left s a).0 s.names core.names (both_among monitored who file act rows s.names one core.names) plain);
         claims = few;
         calm = calm_after n left s a core.good fit.party core.calm;
-        recorded = ours_after n left s a core.good fit.party refl core.recorded;
+        recorded = ours_after n left s a core.good fit.party (ours_is monitored who file act rows) core.recorded;
       };
     }
 

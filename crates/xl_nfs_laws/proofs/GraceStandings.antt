@@ -8,7 +8,7 @@ use Rattle.xl_table.specs.Flat.{blocks}
 use Rattle.xl_table.specs.Least.{least}
 use Rattle.xl_core.specs.Blockers.{blockers, is_stopped}
 use Rattle.xl_core.specs.Causes.{IsAgainst, IsWaiting}
-use Rattle.xl_core.specs.Standings.{is_smb, recorded_as, standing, standing_by, stands}
+use Rattle.xl_core.specs.Standings.{asker_as, is_smb, standing, standing_by, stands}
 use Rattle.xl_core.specs.State.{CoreState}
 use Rattle.xl_core.specs.declared.ask.Ask.{Ask}
 
@@ -18,7 +18,7 @@ no_wait true x y hurries e may = true≢false (sym may ∙ hurries)
 no_wait false x y e hurries may = true≢false (sym may ∙ hurries)
 
 -- how it stands
-stands_so : (s : CoreState) (a : Ask) (stays : Bool) (g : Option Running) (b : Bool) → is_smb a.party ≡ stays → s.grace ≡ g → a.reclaim ≡ b → stands s a ≡ standing_by stays b s.clock (admission g (recorded_as a.party) b)
+stands_so : (s : CoreState) (a : Ask) (stays : Bool) (g : Option Running) (b : Bool) → is_smb a.party ≡ stays → s.grace ≡ g → a.reclaim ≡ b → stands s a ≡ standing_by stays b s.clock (admission g (asker_as a) b)
 unfolding standing
 stands_so s a stays g b other runs back = rw (other, runs, back) refl
 
@@ -29,16 +29,16 @@ never_waits s a claim hurries rests other waits = by s.grace a.reclaim (subst (�
   lets true w = w
   lets false w = w
 
-  by : (g : Option Running) (b : Bool) → IsWaiting (standing_by false b s.clock (admission g (recorded_as a.party) b)) s.waiters s a claim → ⊥
+  by : (g : Option Running) (b : Bool) → IsWaiting (standing_by false b s.clock (admission g (asker_as a) b)) s.waiters s a claim → ⊥
   by None true w = w
   by None false w = no_wait (is_stopped s.waiters s claim) a.blocking a.awaits hurries rests w.0
-  by (Some g) true w = lets (may_reclaim (recorded_as a.party) g.reclaimants) w
+  by (Some g) true w = lets (may_reclaim (asker_as a) g.reclaimants) w
   by (Some g) false w = w
 
 -- what stands against one that doesn't reclaim is the least of what does for good
 pub against_asked : (s : CoreState) (a : Ask) (claim c : Claim) → is_smb a.party ≡ false → a.reclaim ≡ false → IsAgainst (stands s a) s a claim c
     → (a.blocking ≡ false) × (least s.names (blockers s.waiters s claim) ≡ Some c) × IsIn c s.claims × (blocks claim c ≡ true)
 against_asked s a claim c other plain against = by s.grace (subst (λ standing. IsAgainst standing s a claim c) (stands_so s a false s.grace false other refl plain) against) where
-  by : (g : Option Running) → IsAgainst (standing_by false false s.clock (admission g (recorded_as a.party) false)) s a claim c → (a.blocking ≡ false) × (least s.names (blockers s.waiters s claim) ≡ Some c) × IsIn c s.claims × (blocks claim c ≡ true)
+  by : (g : Option Running) → IsAgainst (standing_by false false s.clock (admission g (asker_as a) false)) s a claim c → (a.blocking ≡ false) × (least s.names (blockers s.waiters s claim) ≡ Some c) × IsIn c s.claims × (blocks claim c ≡ true)
   by None is = is
   by (Some g) is = absurd is

@@ -73,7 +73,7 @@ first_repeated n s l current a x number k e = repeat_kept n s l current (find (i
 
 named_both : (c : Option ClientRow) (o : OwnerRow) → is_some c ≡ true → (x : Opener) × (opener_named c (Some o) ≡ Some x)
 named_both None o there = absurd (true≢false (sym there))
-named_both (Some c) o there = (record { client = c.number; id = c.id; kind = o.name.kind; owner = o.name.owner }, refl)
+named_both (Some c) o there = (record { client = c.number; id = c.id; verifier = c.details.verifier; kind = o.name.kind; owner = o.name.owner }, refl)
 
 pub opener_there : (l : NfsLists) (r : StateidRow) (owner : ℕ) (o : OwnerRow) → IsSound l → find (is_stateid r.number) l.stateids ≡ Some r → find (is_owner owner) l.owners ≡ Some o → (x : Opener) × (opener_by l r.client owner ≡ Some x)
 unfolding opener_by

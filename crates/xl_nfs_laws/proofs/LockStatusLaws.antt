@@ -29,7 +29,7 @@ use Rattle.xl_core.specs.Decide.{way, ask}
 use Rattle.xl_core.specs.Deeds.{Asks}
 use Rattle.xl_core.specs.Good.{IsGood}
 use Rattle.xl_core.specs.Places.{ByteOf, held_at, byte_held, answered_at, cleared_at, else_was}
-use Rattle.xl_core.specs.Standings.{is_smb, recorded_as, refusal}
+use Rattle.xl_core.specs.Standings.{asker_as, is_smb, refusal}
 use Rattle.xl_core.specs.State.{CoreState}
 use Rattle.xl_core.specs.declared.ask.Answer.{Answer}
 use Rattle.xl_core.specs.declared.ask.Answer.TheVariants as answers
@@ -188,7 +188,7 @@ test_forth s t l a claim (answers.Queued number) early due = absurd due
 test_forth s t l a claim (answers.Full limit) early due = absurd due
 test_forth s t l a claim (answers.Recall c) early due = absurd due
 test_forth s t l a claim (answers.Grace until) early due = (until, due)
-test_forth s t l a claim answers.NotRecorded early due = absurd (true≢false (sym (unrecorded_runs s (recorded_as a.party) false a.reclaim (ap refusal due)).1 ∙ early))
+test_forth s t l a claim answers.NotRecorded early due = absurd (true≢false (sym (unrecorded_runs s (asker_as a) false a.reclaim (ap refusal due)).1 ∙ early))
 test_forth s t l a claim answers.NotHeld early due = absurd due
 test_forth s t l a claim answers.StoreFailed early due = absurd due
 

@@ -28,7 +28,7 @@ use Rattle.xl_core.specs.Deeds.{Asks}
 use Rattle.xl_core.specs.Good.{IsGood}
 use Rattle.xl_core.specs.Places.{ByteOf, held_at, entered_at, answered_at, else_was}
 use Rattle.xl_core.specs.State.{CoreState, drawn}
-use Rattle.xl_core.specs.Stores.{client_name, may_record, unstored}
+use Rattle.xl_core.specs.Stores.{may_record, unstored}
 use Rattle.xl_core.specs.declared.ask.Answer.{Answer}
 use Rattle.xl_core.specs.declared.ask.Answer.TheVariants as answers
 use Rattle.xl_core.specs.declared.ask.Ask.{Ask}
@@ -43,6 +43,7 @@ use Rattle.xl_nfs_opens.specs.Plans.{carried, status_of}
 use Rattle.xl_nfs_opens.specs.Seqids.{is_room_for}
 use Rattle.xl_nfs_opens.specs.declared.opener.Opener.{Opener}
 use Rattle.xl_nfs_laws.proofs.GraceStandings.{never_waits}
+use Rattle.xl_nfs_laws.specs.OwnersRecorded.{recorded_for}
 use Rattle.xl_nfs_laws.proofs.LockOwn.{lock_fits}
 
 -- ---- a granted lock, byte by byte
@@ -113,7 +114,7 @@ refused_stays n s o file kind reclaim first last good le fails stored =
     let a = lock_ask o file kind reclaim first last in
     refused_noted n s o file kind reclaim first last good le fails ∙ same_noted (lock_way s o file kind reclaim first last) a (ask n all_rooms s a).0 (λ c e. true≢false (sym (ap is_granted e) ∙ fails)) stored
 
--- then the store of the record with its client failed
+-- then the store of the record with its client and the client's verifier failed
 failed_leaves : (n : ℕ) (s : CoreState) (o : Opener) (file : ℕ) (kind : LockType) (reclaim : Bool) (first last : ℕ) → IsGood s → first ≤ last → (ask n all_rooms s (lock_ask o file kind reclaim first last)).0 ≡ answers.StoreFailed
     → (ask n all_rooms s (lock_ask o file kind reclaim first last)).2 ≡ unstored_for o (lock_way s o file kind reclaim first last)
 failed_leaves n s o file kind reclaim first last good le failed =
@@ -125,11 +126,11 @@ failed_leaves n s o file kind reclaim first last good le failed =
     t : CoreState
     t = lock_way s o file kind reclaim first last
 
-    some : (b : Bool) → may_record n t (if b then Some (client_name o.id) else None) ≡ false → (if b then Some (client_name o.id) else None) ≡ Some (client_name o.id)
+    some : (b : Bool) → may_record n t (if b then Some (recorded_for o) else None) ≡ false → (if b then Some (recorded_for o) else None) ≡ Some (recorded_for o)
     some true e = refl
     some false e = absurd (true≢false e)
 
-    named : name_asked t a ≡ Some (client_name o.id)
+    named : name_asked t a ≡ Some (recorded_for o)
     named = some _ ((ask_due n all_rooms s a (whats.Range (Bytes first last) (is_exclusive kind)) answers.StoreFailed refl).0 failed).3
 
 -- ---- LOCK

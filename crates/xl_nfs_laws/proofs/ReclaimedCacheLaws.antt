@@ -45,7 +45,7 @@ use Rattle.xl_core.specs.Good.{IsGood, IsHeld, are_kept}
 use Rattle.xl_core.specs.Judge.{blocks_beside, blocks_its_cache, cache_beside, held_then}
 use Rattle.xl_core.specs.Limits.{IsRoom}
 use Rattle.xl_core.specs.Places.{CacheOf, else_was, held_in, is_cache_on}
-use Rattle.xl_core.specs.Standings.{enters, is_smb, is_timely, recorded_as, standing, standing_by, stands}
+use Rattle.xl_core.specs.Standings.{asker_as, enters, is_smb, is_timely, recorded_as, standing, standing_by, stands}
 use Rattle.xl_core.specs.State.{Aside, CoreState, aside_of}
 use Rattle.xl_core.specs.Stores.{recorded, stored}
 use Rattle.xl_core.specs.Ways.{made_way}
@@ -68,9 +68,9 @@ untimely s a re = rw re (by s.grace)
     lets true = refl
     lets false = refl
 
-    by : (g : Option Running) → is_timely (standing_by (is_smb a.party) true s.clock (admission g (recorded_as a.party) true)) ≡ false
+    by : (g : Option Running) → is_timely (standing_by (is_smb a.party) true s.clock (admission g (asker_as a) true)) ≡ false
     by None = refl
-    by (Some g) = lets (may_reclaim (recorded_as a.party) g.reclaimants)
+    by (Some g) = lets (may_reclaim (asker_as a) g.reclaimants)
 
 -- no way is made for it
 reclaim_way : (left : Rooms) (s : CoreState) (a : Ask) → a.reclaim ≡ true → way left s a ≡ ([], s)
@@ -86,15 +86,18 @@ in_grace : (s : CoreState) (a : Ask) → a.reclaim ≡ true → enters (stands s
 unfolding standing
 in_grace s a re goes = by s.grace (rw re at goes)
   where
-    by : (g : Option Running) → enters (standing_by (is_smb a.party) true s.clock (admission g (recorded_as a.party) true)) ≡ true → is_some g ≡ true
+    by : (g : Option Running) → enters (standing_by (is_smb a.party) true s.clock (admission g (asker_as a) true)) ≡ true → is_some g ≡ true
     by None e = absurd (both_ways false refl e)
     by (Some g) e = refl
 
 -- and grace runs on behind it
 noted_runs : (s : CoreState) (a : Ask) (c : Claim) → asks_claims a.act ≡ true → a.reclaim ≡ true → is_some s.grace ≡ true → is_some (noted_by s a (answers.Granted c)).grace ≡ true
 unfolding stored
-noted_runs s a c asks re runs = rw (asks, re) (back (recorded (name_asked s a) s).grace (still (name_asked s a)))
+noted_runs s a c asks re runs = rw asks (by a.reclaim re)
   where
+    got : CoreState
+    got = recorded (name_asked s a) s
+
     still : (name : Option Recorded) → is_some (recorded name s).grace ≡ true
     still None = runs
     still (Some name) = runs
@@ -102,6 +105,10 @@ noted_runs s a c asks re runs = rw (asks, re) (back (recorded (name_asked s a) s
     back : (g : Option Running) → is_some g ≡ true → is_some (reclaimed (recorded_as a.party) g) ≡ true
     back None e = absurd (both_ways false refl e)
     back (Some g) e = refl
+
+    by : (b : Bool) → b ≡ true → is_some (if b then record got { grace = reclaimed (recorded_as a.party) got.grace } else got).grace ≡ true
+    by true e = back got.grace (still (name_asked s a))
+    by false e = absurd (both_ways false refl e)
 
 -- ---- room for both
 

@@ -1,12 +1,15 @@
 -- What a request asks for is its own (RFC 7530 9.6.2, 16.2, 16.10 to 16.12, 16.16): each operation asks for what it says, on the file that
--- it names by the current handle, and reclaims only if it says so.
+-- it names by the current handle, and reclaims only if it says so. It asks as a confirmed client, with its verifier.
 use Rattle.std.specs.Prelude.{◌≡◌, ℕ, Bool, true, false, List, [], ◌∷◌, ◌++◌, Option, Some}
-use Rattle.std.specs.List.{AllByRecursion}
+use Rattle.std.specs.List.{AllByRecursion, find}
 use Rattle.std.specs.Option.{option_and_then}
 use Rattle.xl_base.specs.declared.journal.Exports.{Exports}
+use Rattle.xl_base.specs.declared.stable.Mark.TheVariants.{Verifier}
 use Rattle.xl_matrix.specs.declared.claim.Extent.TheVariants.{Bytes}
+use Rattle.xl_names.specs.declared.name.Name.TheVariants.{NfsParty}
 use Rattle.xl_nfs.specs.Ops.{OpItem, Open, Close, Lock, LockT, LockU}
-use Rattle.xl_nfs_state.specs.State.{NfsLists}
+use Rattle.xl_nfs_state.specs.State.{NfsLists, is_client}
+use Rattle.xl_nfs_state.specs.declared.client.ClientRow.{ClientRow}
 use Rattle.xl_programs.specs.Programs.{RequestItem}
 use Rattle.xl_wait.specs.Waiting.{no_rows}
 use Rattle.xl_wait.specs.declared.waiter.Rooms.{Rooms}
@@ -15,6 +18,7 @@ use Rattle.xl_core.specs.State.{CoreState}
 use Rattle.xl_core.specs.declared.ask.Act.{Act}
 use Rattle.xl_core.specs.declared.ask.Act.TheVariants as acts
 use Rattle.xl_core.specs.declared.ask.Ask.{Ask}
+use Rattle.xl_core.specs.declared.ask.Who.TheVariants.{Named}
 use Rattle.xl_plan.specs.Plans.{carried}
 use Rattle.xl_nfs_opens.specs.Asks.{all_ones}
 use Rattle.xl_nfs_opens.specs.Opens.{all_rooms, file_claimed, reclaims, rights_of}
@@ -61,15 +65,25 @@ pub record IsItsAsk (files : List (List ℕ)) (current : Option ℕ) (op : OpIte
   pub room : left ≡ all_rooms
   pub rows : a.rows ≡ no_rows
 
--- if a deed is an ask
-abbrev pub IsAskedBy : List (List ℕ) → Option ℕ → OpItem → Deed → Type 0
-IsAskedBy files current op (Asks left a) = IsItsAsk files current op left a
-IsAskedBy files current op deed = Unit {0}
+-- It is of a confirmed client: in the name of its record, with the verifier there, which changes if the client starts anew. So the
+-- client is recorded with that one, and reclaims with it once the server has started anew (9.1.1, 9.6.3).
+pub record IsOfClient (clients : List ClientRow) (a : Ask) : Type 0 where
+  pub number : ℕ
+  pub client : ClientRow
+  pub found : find (is_client number true) clients ≡ Some client
+  pub party : a.party ≡ Named (NfsParty client.id)
+  pub mark : a.mark ≡ Some (Verifier client.details.verifier)
 
--- so are an operation's asks, by the current handle that those before it left; if its arguments can't be read it does nothing
-abbrev pub IsAsking : List (List ℕ) → Course → Step → List Deed → Type 0
-IsAsking files c (Runs op) deeds = AllByRecursion (λ d. IsAskedBy files c.current op d) deeds
-IsAsking files c step deeds = deeds ≡ []
+-- if a deed is an ask
+abbrev pub IsAskedBy : List (List ℕ) → List ClientRow → Option ℕ → OpItem → Deed → Type 0
+IsAskedBy files clients current op (Asks left a) = IsItsAsk files current op left a × IsOfClient clients a
+IsAskedBy files clients current op deed = Unit {0}
+
+-- so are an operation's asks, by the current handle and the clients that those before it left; if its arguments can't be read it
+-- does nothing
+abbrev pub IsAsking : List (List ℕ) → Course → List ClientRow → Step → List Deed → Type 0
+IsAsking files c clients (Runs op) deeds = AllByRecursion (λ d. IsAskedBy files clients c.current op d) deeds
+IsAsking files c clients step deeds = deeds ≡ []
 
 -- the first if others are run behind it, else the second
 abbrev pub IfRun : Bool → Type 0 → Type 0 → Type 0
@@ -80,7 +94,7 @@ IfRun false Rest None = None
 abbrev pub AreAllAsking : List (List ℕ) → ℕ → ℕ → Course → CoreState → NfsLists → List Step → List Deed → Type 0
 AreAllAsking files others n c s l [] deeds = deeds ≡ []
 AreAllAsking files others n c s l (step ∷ steps) deeds =
-    (own : List Deed) × (rest : List Deed) × (deeds ≡ own ++ rest) × IsAsking files c step own
+    (own : List Deed) × (rest : List Deed) × (deeds ≡ own ++ rest) × IsAsking files c l.clients step own
     × IfRun (goes_on (carried n s l (step_plan files others c s l step)).0)
     (AreAllAsking files others n (carried n s l (step_plan files others c s l step)).0 (carried n s l (step_plan files others c s l step)).3 (carried n s l (step_plan files others c s l step)).2 steps rest)
     (rest ≡ [])

@@ -16,5 +16,6 @@ pub mod Denied
 pub mod OpenAnswers
 pub mod OwnersStay
 pub mod AskedRequests
+pub mod OwnersRecorded
 pub mod OtherDeeds
 pub mod AsTold

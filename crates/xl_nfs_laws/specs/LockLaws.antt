@@ -24,7 +24,7 @@ use Rattle.xl_core.specs.Causes.{IsClaimDue, IsTestDue, stands_against}
 use Rattle.xl_core.specs.Decide.{way}
 use Rattle.xl_core.specs.Places.{ByteOf, held_at}
 use Rattle.xl_core.specs.State.{CoreState}
-use Rattle.xl_core.specs.Stores.{client_name, store_failed}
+use Rattle.xl_core.specs.Stores.{store_failed}
 use Rattle.xl_core.specs.declared.ask.Answer.TheVariants as answers
 use Rattle.xl_core.specs.declared.ask.Ask.{Ask}
 use Rattle.xl_core.specs.declared.ask.Who.TheVariants.{Named}
@@ -34,6 +34,7 @@ use Rattle.xl_nfs_opens.specs.Asks.{unlock_ask}
 use Rattle.xl_nfs_opens.specs.Opens.{all_rooms}
 use Rattle.xl_nfs_opens.specs.declared.opener.Opener.{Opener}
 use Rattle.xl_nfs_opens.specs.declared.told.HeldLock.{HeldLock}
+use Rattle.xl_nfs_laws.specs.OwnersRecorded.{recorded_for}
 
 -- ---- the claims
 
@@ -45,9 +46,9 @@ lock_claim s o file kind first last = asked_claim (lock_ask o file kind false fi
 abbrev pub lock_way : CoreState → Opener → ℕ → LockType → Bool → ℕ → ℕ → CoreState
 lock_way s o file kind reclaim first last = (way all_rooms s (lock_ask o file kind reclaim first last)).1
 
--- the store of the record with this owner's client failed
+-- the store of the record with this owner's client failed, and the client's verifier
 abbrev pub unstored_for : Opener → CoreState → CoreState
-unstored_for o s = store_failed (with_name (client_name o.id) s.stable) s
+unstored_for o s = store_failed (with_name (recorded_for o) s.stable) s
 
 -- the claim of a LOCKT, and the bytes that a LOCKU gives up
 abbrev pub test_claim : CoreState → Opener → ℕ → LockType → ℕ → ℕ → Claim
@@ -83,8 +84,9 @@ AreFree o file first last s t = AreBytes (unlock_claim s o file first last) firs
 -- OK if grace lets the lock in, nothing held stands against it, there is room for it, and its client is recorded or can be, if n
 -- stores of the step succeed; DENIED if something stands against it for good, and RECLAIM_CONFLICT if anything does against a
 -- reclaim; DELAY if a cache keeps it off, and RESOURCE if a limit is passed, that of the record too; GRACE while grace runs, for
--- what is no reclaim, and NO_GRACE for a reclaim while none runs; RECLAIM_BAD for a reclaim of a client that isn't recorded; and
--- SERVERFAULT if it would be OK, but the store fails that records its client. Nothing else is answered (RFC 7530 9.6.2).
+-- what is no reclaim, and NO_GRACE for a reclaim while none runs; RECLAIM_BAD for a reclaim of a client that isn't recorded, or is
+-- with another verifier; and SERVERFAULT if it would be OK, but the store fails that records its client. Nothing else is answered
+-- (RFC 7530 9.6.2).
 abbrev pub IsLockTold : ℕ → CoreState → Ask → Claim → NfsStatus → Type 0
 IsLockTold n s a claim statuses.Ok = IsClaimDue n all_rooms s a claim (answers.Granted claim)
 IsLockTold n s a claim statuses.Denied = (a.reclaim ≡ false) × ((c : Claim) × IsClaimDue n all_rooms s a claim (answers.Conflict c))

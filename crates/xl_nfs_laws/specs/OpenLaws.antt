@@ -61,8 +61,9 @@ share_way s wish o a file = (way all_rooms s (share_ask wish o a file)).1
 -- OK if grace lets the share in, nothing stands against it, there is room for it, and its client is recorded or can be, if n
 -- stores of the step succeed; SHARE_DENIED if something stands against it for good, and RECLAIM_CONFLICT if anything does against
 -- a reclaim; DELAY if a cache keeps it off, and RESOURCE if a limit is passed, that of the record too; GRACE while grace runs,
--- for what is no reclaim, and NO_GRACE for a reclaim while none runs; RECLAIM_BAD for a reclaim of a client that isn't recorded;
--- and SERVERFAULT if it would be OK, but the store fails that records its client. Nothing else is answered (RFC 7530 9.6.2).
+-- for what is no reclaim, and NO_GRACE for a reclaim while none runs; RECLAIM_BAD for a reclaim of a client that isn't recorded, or
+-- is with another verifier; and SERVERFAULT if it would be OK, but the store fails that records its client. Nothing else is
+-- answered (RFC 7530 9.6.2).
 abbrev pub IsOpenTold : ℕ → CoreState → Ask → Claim → NfsStatus → Type 0
 IsOpenTold n s a claim statuses.Ok = IsClaimDue n all_rooms s a claim (answers.Granted claim)
 IsOpenTold n s a claim statuses.ShareDenied = (a.reclaim ≡ false) × ((c : Claim) × IsClaimDue n all_rooms s a claim (answers.Conflict c))

@@ -31,8 +31,8 @@ ghost use Rattle.xl_nfs_opens.specs.declared.told.Told.TheVariants.{Denied, Ende
 /// A LOCK whose checks passed and that is OK leaves each byte of its range to its owner, in its mode, and each other
 /// byte, each byte of another owner and of another file as they were (RFC 7530 9.1.2, 16.10). So it is of an owner that
 /// has a stateid and of one that gives the open's. One that isn't OK leaves the core as it was once its breaks began:
-/// nothing changes except the caches whose breaks began; and if it is SERVERFAULT the store of the record with its client
-/// failed besides.
+/// nothing changes except the caches whose breaks began; and if it is SERVERFAULT the store of the record with its client,
+/// by its name and verifier, failed besides.
 pub fn granted_locks_are_held()
     ensures known { (n : ℕ) (s : CoreState) (l : NfsLists) (current : Option ℕ) (a : LockArgsItem) (r : StateidRow) (owner : ℕ) (seqids : OwnerSeqids) (seqid last : ℕ) (o : LockOwner) → IsGood s → a.offset ≤ last → is_ok (status_of (carried n s l (lock_by_owner l current a r owner seqids seqid last (Some o))).0) ≡ true → AreLocked o r.file a.kind a.offset last s (carried n s l (lock_by_owner l current a r owner seqids seqid last (Some o))).4 }
     ensures first { (n : ℕ) (s : CoreState) (l : NfsLists) (current : Option ℕ) (a : LockArgsItem) (b : Owners) (o : LockOwner) (r : StateidRow) (q : Option StateidRow) (last : ℕ) → IsGood s → a.offset ≤ last → is_room_for o l ≡ true → is_ok (status_of (carried n s l (join_to l current a b o r q (Ok last))).0) ≡ true → AreLocked o r.file a.kind a.offset last s (carried n s l (join_to l current a b o r q (Ok last))).4 }
@@ -46,9 +46,9 @@ pub fn granted_locks_are_held()
 /// caches in its way began: OK if grace lets it in, nothing held stands against it, no limit is passed, and its client is
 /// recorded or can be; DENIED if something stands against it for good, and RECLAIM_CONFLICT if anything does against a reclaim;
 /// DELAY if a cache keeps it off, RESOURCE at a limit; GRACE in grace if it doesn't reclaim, NO_GRACE out of grace if it does,
-/// RECLAIM_BAD if it reclaims and its client isn't recorded; SERVERFAULT if the store fails that records its client; and no
-/// other (RFC 7530 9.6.2). If there is no room for its owner, RESOURCE, and nothing changes (RFC 7530 16.10). DENIED gives a
-/// claim that is held and stands against the lock, the least of those that do, with its holder.
+/// RECLAIM_BAD if it reclaims and its client isn't recorded, or is with another verifier; SERVERFAULT if the store fails that
+/// records its client; and no other (RFC 7530 9.6.2). If there is no room for its owner, RESOURCE, and nothing changes (RFC 7530
+/// 16.10). DENIED gives a claim that is held and stands against the lock, the least of those that do, with its holder.
 pub fn lock_statuses_have_causes()
     ensures known { (n : ℕ) (s : CoreState) (l : NfsLists) (current : Option ℕ) (a : LockArgsItem) (r : StateidRow) (owner : ℕ) (seqids : OwnerSeqids) (seqid last : ℕ) (o : LockOwner) (status : Status) → (status_of (carried n s l (lock_by_owner l current a r owner seqids seqid last (Some o))).0 ≡ status) ↔ IsLockTold n (lock_way s o r.file a.kind a.reclaim a.offset last) (lock_ask o r.file a.kind a.reclaim a.offset last) (lock_claim s o r.file a.kind a.offset last) status }
     ensures first { (n : ℕ) (s : CoreState) (l : NfsLists) (current : Option ℕ) (a : LockArgsItem) (b : Owners) (o : LockOwner) (r : StateidRow) (q : Option StateidRow) (last : ℕ) (status : Status) → is_room_for o l ≡ true → (status_of (carried n s l (join_to l current a b o r q (Ok last))).0 ≡ status) ↔ IsLockTold n (lock_way s o r.file a.kind a.reclaim a.offset last) (lock_ask o r.file a.kind a.reclaim a.offset last) (lock_claim s o r.file a.kind a.offset last) status }

@@ -135,9 +135,9 @@ pub fn opens_again_are_widened()
 /// share, and its client is recorded or can be; SHARE_DENIED if something stands against it for good, RECLAIM_CONFLICT if
 /// anything does against a reclaim, or against the delegation that is reclaimed with it; DELAY if a cache keeps it off,
 /// RESOURCE if the core or the record has no room; GRACE in grace if it doesn't reclaim, NO_GRACE out of grace if it does,
-/// RECLAIM_BAD if it reclaims and its client isn't recorded; SERVERFAULT if the store fails that records its client; and no
-/// other (RFC 7530 9.6.2). So is that of an owner that was never confirmed, once the shares of its opens are given back and
-/// it is gone.
+/// RECLAIM_BAD if it reclaims and its client isn't recorded, or is with another verifier; SERVERFAULT if the store fails that
+/// records its client; and no other (RFC 7530 9.6.2). So is that of an owner that was never confirmed, once the shares of its
+/// opens are given back and it is gone.
 pub fn open_statuses_have_causes()
     ensures told { (n : ℕ) (files : List (List ℕ)) (others : ℕ) (s : CoreState) (l : NfsLists) (current : Option ℕ) (at : ℕ) (o : OpenOwner) (a : OpenArgsItem) (confirmed : Bool) (file : ℕ) (status : NfsStatus) → goes_on (judged l o a.seqid) ≡ Some confirmed → opened_file files s l o.client at a ≡ Ok file → has_room others l o file ≡ true → (status_of (carried n s l (open_judged files others s l current at o a (judged l o a.seqid))).0 ≡ status) ↔ IsOpenTold n (share_way s (wish_of s l o a confirmed file) o a file) (share_ask (wish_of s l o a confirmed file) o a file) (share_claim s o a file) status }
     ensures anew { (n : ℕ) (files : List (List ℕ)) (others : ℕ) (s t : CoreState) (l : NfsLists) (current : Option ℕ) (at : ℕ) (o : OpenOwner) (a : OpenArgsItem) (number file : ℕ) (status : NfsStatus) → judged l o a.seqid ≡ Anew number → t ≡ all_done n s (gives_all s o (filter (is_whose (OfOwner number)) l.stateids)) → opened_file files t (without_owner number l) o.client at a ≡ Ok file → has_room others (without_owner number l) o file ≡ true → (status_of (carried n s l (open_judged files others s l current at o a (judged l o a.seqid))).0 ≡ status) ↔ IsOpenTold n (share_way t (wish_of t (without_owner number l) o a false file) o a file) (share_ask (wish_of t (without_owner number l) o a false file) o a file) (share_claim t o a file) status }

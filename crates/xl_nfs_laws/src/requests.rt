@@ -55,7 +55,8 @@ pub fn deeds_are_the_clients()
 /// What a request asks for is its own: its deeds are those of its operations in order, up to the first that fails, and each
 /// operation asks for what it says, on the file of its current handle or that an OPEN claims there, and reclaims exactly if it says
 /// so: OPEN by CLAIM_PREVIOUS, LOCK by its argument (RFC 7530 9.6.2, 16.10, 16.16). CLOSE asks that the locks under its open go. No
-/// other operation asks. None waits, and none is judged by the room in the fronts' tables.
+/// other operation asks. None waits, and none is judged by the room in the fronts' tables. Each is in the name of a confirmed client,
+/// with its verifier, which is recorded with it (RFC 7530 9.1.1, 9.6.3).
 #[tactic(auto, using(crate::proofs::AskedRequestLaws::request_asks))]
 pub fn asks_are_the_operations()
     ensures { (n : ℕ) (exports : Exports) (others : ℕ) (f : FrontNfs) (s : CoreState) (r : RequestItem) → AreRequestAsks n exports others f s r (nfs_deeds n exports others f s r) }

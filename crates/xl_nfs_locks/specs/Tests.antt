@@ -21,7 +21,7 @@ use Rattle.xl_nfs_opens.specs.declared.told.Told.TheVariants.{Ended, Free}
 
 -- a lock owner of this client
 abbrev pub locker_of : ClientRow → List ℕ → Opener
-locker_of c owner = record { client = c.number; id = c.id; kind = kinds.Lock; owner = owner }
+locker_of c owner = record { client = c.number; id = c.id; verifier = c.details.verifier; kind = kinds.Lock; owner = owner }
 
 abbrev pub tested_told : CoreState → NfsLists → Answer → Told
 tested_told s l answer = if is_granted answer then Free else lock_told s l false answer

@@ -26,6 +26,7 @@ pub(crate) fn locker_of(alloc: Global, row: &ClientRow, owner: &[u8]) -> Result<
     Ok(Opener {
         client: row.number,
         id: Sequence::from_slice(alloc, row.id.as_slice())?,
+        verifier: row.details.verifier,
         kind: OwnerKind::Lock,
         owner: Sequence::from_slice(alloc, owner)?,
     })

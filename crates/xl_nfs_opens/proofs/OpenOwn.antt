@@ -254,7 +254,7 @@ opener_held : (s : CoreState) (Client : List ℕ → Type 0) (file : ℕ) (c : O
 opener_held s Client file None o claim good each e = absurd cc
 opener_held s Client file (Some c) None claim good each e = absurd cc
 opener_held s Client file (Some c) (Some o) claim good each e =
-    let one = held_is s (record { client = c.number; id = c.id; kind = o.name.kind; owner = o.name.owner }) file claim good e in
+    let one = held_is s (record { client = c.number; id = c.id; verifier = c.details.verifier; kind = o.name.kind; owner = o.name.owner }) file claim good e in
     (one.0, (c.id, each c refl, one.1))
 
 pub open_share : (s : CoreState) (l : NfsLists) (Client : List ℕ → Type 0) (r : StateidRow) (owner : ℕ) (claim : Claim) → IsGood s → ((c : ClientRow) → find (is_client r.client true) l.clients ≡ Some c → Client c.id) → share_of_open s l r owner ≡ Some claim

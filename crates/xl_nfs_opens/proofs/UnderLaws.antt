@@ -99,7 +99,7 @@ unlock_fits o file = record { act = omega arith; own = refl; party = own_client 
 named_is : (Client : List ℕ → Type 0) (c : Option ClientRow) (w : Option OwnerRow) (o : Opener) → ((r : ClientRow) → c ≡ Some r → Client r.id) → opener_named c w ≡ Some o → Client o.id
 named_is Client None w o each e = absurd cc
 named_is Client (Some c) None o each e = absurd cc
-named_is Client (Some c) (Some w) o each e = subst (λ (x : Opener). Client x.id) (same_Some (record { client = c.number; id = c.id; kind = w.name.kind; owner = w.name.owner }) o e) (each c refl)
+named_is Client (Some c) (Some w) o each e = subst (λ (x : Opener). Client x.id) (same_Some (record { client = c.number; id = c.id; verifier = c.details.verifier; kind = w.name.kind; owner = w.name.owner }) o e) (each c refl)
 
 pub opener_is : (Client : List ℕ → Type 0) (l : NfsLists) (client owner : ℕ) (o : Opener) → ((r : ClientRow) → find (is_client client true) l.clients ≡ Some r → Client r.id) → opener_by l client owner ≡ Some o → Client o.id
 unfolding opener_by

@@ -1,5 +1,6 @@
 -- What the core is asked for a lock owner.
-use Rattle.std.specs.Prelude.{ℕ, ◌-◌, ◌^◌, Bool, true, false, [], None}
+use Rattle.std.specs.Prelude.{ℕ, ◌-◌, ◌^◌, Bool, true, false, [], Some, None}
+use Rattle.xl_base.specs.declared.stable.Mark.TheVariants.{Verifier}
 use Rattle.xl_matrix.specs.declared.claim.Extent.TheVariants.{Bytes}
 use Rattle.xl_names.specs.declared.name.Name.TheVariants.{NfsRange, NfsParty}
 use Rattle.xl_wait.specs.Waiting.{no_rows}
@@ -13,7 +14,7 @@ use Rattle.xl_nfs_opens.specs.declared.opener.Opener.{Opener}
 abbrev pub all_ones : ℕ
 all_ones = 2 ^ 64 - 1
 
--- an ask of a lock owner, which never waits; its client is recorded before a grant (RFC 7530 9.6.3)
+-- an ask of a lock owner, which never waits; its client is recorded with its verifier before a grant (RFC 7530 9.1.1, 9.6.3)
 abbrev pub range_ask : Opener → ℕ → Act → Bool → Ask
 range_ask o file act reclaim = record {
   file = file;
@@ -26,6 +27,7 @@ range_ask o file act reclaim = record {
   awaits = false;
   reclaim = reclaim;
   monitored = true;
+  mark = Some (Verifier o.verifier);
   rows = no_rows;
 }
 

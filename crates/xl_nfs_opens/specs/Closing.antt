@@ -136,7 +136,7 @@ can_weaken r access deny =
 -- ---- the owner's share in the core
 
 abbrev pub opener_named : Option ClientRow → Option OwnerRow → Option Opener
-opener_named (Some c) (Some o) = Some (record { client = c.number; id = c.id; kind = o.name.kind; owner = o.name.owner })
+opener_named (Some c) (Some o) = Some (record { client = c.number; id = c.id; verifier = c.details.verifier; kind = o.name.kind; owner = o.name.owner })
 opener_named _ _ = None
 
 -- the owner of an open, or of locks

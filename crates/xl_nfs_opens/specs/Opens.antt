@@ -5,6 +5,7 @@ use Rattle.std.specs.Option.{option_and_then}
 use Rattle.xl_base.specs.declared.name.Owner.TheVariants as owners
 use Rattle.xl_base.specs.declared.name.Party.{Party}
 use Rattle.xl_base.specs.declared.name.Protocol.TheVariants.{Nfs}
+use Rattle.xl_base.specs.declared.stable.Mark.TheVariants.{Verifier}
 use Rattle.xl_matrix.specs.declared.claim.CacheKind.{CacheKind}
 use Rattle.xl_matrix.specs.declared.claim.CacheKind.TheVariants as cache_kinds
 use Rattle.xl_matrix.specs.declared.claim.What.{What}
@@ -284,8 +285,8 @@ wished_kinds None = []
 wished_kinds (Some write) = (if write then cache_kinds.WriteDeleg else cache_kinds.ReadDeleg) ∷ []
 
 -- The share of an owner, which never waits, with this wish: of a reclaim the delegation that is claimed with it, so that both are
--- there or neither (RFC 7530 10.2.1) (NFS-34). Its client is recorded before the grant (RFC 7530 9.6.3). The rows that it adds are
--- counted before (CORE-6).
+-- there or neither (RFC 7530 10.2.1) (NFS-34). Its client is recorded with its verifier before the grant (RFC 7530 9.1.1, 9.6.3). The
+-- rows that it adds are counted before (CORE-6).
 unfoldable pub share_ask : Option Bool → Opener → OpenArgsItem → ℕ → Ask
 share_ask wish o a file = record {
   file = file;
@@ -298,6 +299,7 @@ share_ask wish o a file = record {
   awaits = false;
   reclaim = reclaims a.claim;
   monitored = true;
+  mark = Some (Verifier o.verifier);
   rows = no_rows;
 }
 
@@ -490,7 +492,7 @@ open_judged files others s l current at o a judgements.New = open_as files other
 open_judged files others s l current at o a judgements.Next = open_as files others s l current at o a true
 
 abbrev pub opener_of : ClientRow → OpenArgsItem → Opener
-opener_of c a = record { client = c.number; id = c.id; kind = kinds.Open; owner = a.owner.owner }
+opener_of c a = record { client = c.number; id = c.id; verifier = c.details.verifier; kind = kinds.Open; owner = a.owner.owner }
 
 abbrev pub open_of : List (List ℕ) → ℕ → CoreState → NfsLists → Option ℕ → ℕ → OpenArgsItem → Option ClientRow → Plan
 open_of files others s l current at a client =

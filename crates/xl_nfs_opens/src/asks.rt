@@ -8,7 +8,7 @@ ghost use Rattle.xl_nfs_opens.specs.Short.{IsNfsAsk};
 
 use crate::opener::Opener;
 use std::alloc::{AllocError, Global};
-use xl_base::Sequence;
+use xl_base::{Mark, Sequence};
 use xl_core::{Act, Ask, Who};
 use xl_matrix::Extent;
 use xl_names::Name;
@@ -44,6 +44,7 @@ pub fn range_ask(
         awaits: false,
         reclaim,
         monitored: true,
+        mark: Some(Mark::Verifier(owner.verifier)),
         rows: NO_ROWS,
     })
 }

@@ -216,6 +216,7 @@ pub fn opener_by(
     Ok(Some(Opener {
         client: client_row.number,
         id: Sequence::from_slice(alloc, client_row.id.as_slice())?,
+        verifier: client_row.details.verifier,
         kind: owner_row.name.kind,
         owner: Sequence::from_slice(alloc, owner_row.name.owner.as_slice())?,
     }))

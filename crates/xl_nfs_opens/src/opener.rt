@@ -3,13 +3,15 @@ use xl_base::Sequence;
 use xl_nfs::NfsStatus;
 use xl_nfs_state::{OwnerKind, SeqidState, StateidRow};
 
-/// An owner of opens or of locks (RFC 7530 9.1.5): its client, by the client's number and id string, and its own bytes.
+/// An owner of opens or of locks (RFC 7530 9.1.5): its client, by the client's number, id string and verifier, and its own bytes.
 #[derive(Drop)]
 pub struct Opener {
     /// The client's number.
     pub client: u32,
     /// The client's id string.
     pub id: Sequence<u8>,
+    /// The client's verifier, which changes if it starts anew (RFC 7530 9.1.1).
+    pub verifier: [u8; 8],
     /// What it owns.
     pub kind: OwnerKind,
     /// The owner's bytes.

@@ -384,6 +384,7 @@ fn opener_of(alloc: Global, row: &ClientRow, args: &OpenArgs) -> Result<Opener, 
     Ok(Opener {
         client: row.number,
         id: Sequence::from_slice(alloc, row.id.as_slice())?,
+        verifier: row.details.verifier,
         kind: OwnerKind::Open,
         owner: Sequence::from_slice(alloc, args.owner.owner)?,
     })

@@ -17,7 +17,7 @@ ghost use Rattle.xl_nfs_opens.specs.Short.{Leaves, IsNfsAsk};
 use crate::delegating::wished_kinds;
 use crate::opener::Opener;
 use std::alloc::{AllocError, Global};
-use xl_base::{Keeper, Owner, Protocol, Sequence};
+use xl_base::{Keeper, Mark, Owner, Protocol, Sequence};
 use xl_core::{Act, Answer, Ask, Core, Effect, MOST_HOSTS, MOST_OPENS, MOST_OWNERS, Who};
 use xl_matrix::{Claim, Rwd, What, rights_within};
 use xl_names::Name;
@@ -192,6 +192,7 @@ pub(crate) fn share_ask(
         awaits: false,
         reclaim: reclaims(&args.claim),
         monitored: true,
+        mark: Some(Mark::Verifier(opener.verifier)),
         rows: NO_ROWS,
     })
 }

@@ -1,10 +1,9 @@
 -- What one who asks for one thing is told of grace, exactly, as fronts are told of it.
 use Rattle.std.proofs.Common.{◌≡◌, ℕ, Bool, true, false, if◌then◌else◌, inl, inr, Option, Some, None, is_some, ◌↔◌, refl, sym, ap, subst, ◌∙◌}
 use Rattle.std.proofs.lemmas.Bool.{cases_Bool, both_ways}
-use Rattle.xl_base.specs.Stable.{is_recorded}
 use Rattle.xl_base.specs.declared.event.Moment.{Moment}
 use Rattle.xl_base.specs.declared.stable.Recorded.{Recorded}
-use Rattle.xl_grace.specs.Grace.{Running, admission}
+use Rattle.xl_grace.specs.Grace.{Running, is_known, admission}
 use Rattle.xl_grace.specs.declared.grace.Admission.TheVariants.{Enters, Grace, NotRecorded}
 use Rattle.xl_matrix.specs.declared.claim.Claim.{Claim}
 use Rattle.xl_matrix.specs.declared.claim.What.{What}
@@ -17,7 +16,7 @@ use Rattle.xl_core.specs.Askers.{asked_what, asked_claim, known_claim}
 use Rattle.xl_core.specs.Causes.{IsClaimDue, IsTestDue, asks_claims}
 use Rattle.xl_core.specs.Decide.{way, ask}
 use Rattle.xl_core.specs.Knowing.{KnowsRecord}
-use Rattle.xl_core.specs.Standings.{enters, is_smb, recorded_as, refusal, standing, standing_by, stands, stands_alone}
+use Rattle.xl_core.specs.Standings.{asker_as, enters, is_smb, refusal, standing, standing_by, stands, stands_alone}
 use Rattle.xl_core.specs.State.{CoreState}
 use Rattle.xl_core.specs.declared.ask.Answer.{Answer}
 use Rattle.xl_core.specs.declared.ask.Answer.TheVariants as answers
@@ -84,7 +83,7 @@ early_told n left s a what act other = (forth, back) where
   claim = asked_claim a what s.names
 
   forth : ((until : Moment) × ((ask n left s a).0 ≡ answers.Grace until)) → (is_some s.grace ≡ true) × (a.reclaim ≡ false)
-  forth told = early_runs s (recorded_as a.party) (is_smb a.party) a.reclaim told.0 (ap refusal (sym (ask_way_stands left s a) ∙ (ask_due n left s a what (answers.Grace told.0) act).0 told.1))
+  forth told = early_runs s (asker_as a) (is_smb a.party) a.reclaim told.0 (ap refusal (sym (ask_way_stands left s a) ∙ (ask_due n left s a what (answers.Grace told.0) act).0 told.1))
 
   back : (is_some s.grace ≡ true) × (a.reclaim ≡ false) → (until : Moment) × ((ask n left s a).0 ≡ answers.Grace until)
   back is =
@@ -103,40 +102,40 @@ late_told n left s a what act = (forth, back) where
   back : (is_some s.grace ≡ false) × (a.reclaim ≡ true) → (clock : Moment) × ((ask n left s a).0 ≡ answers.NoGrace clock)
   back is = (t.clock, (ask_due n left s a what (answers.NoGrace t.clock) act).1 (refl, ask_way_grace left s a ∙ no_grace s.grace is.0, is.1))
 
--- That the record lacks its client is told exactly of a reclaim in grace whose client it lacks.
+-- That the record lacks its client is told exactly of a reclaim in grace whose client it lacks, or has with another mark.
 pub unrecorded_told : (n : ℕ) (left : Rooms) (s : CoreState) (a : Ask) (what : What) → asked_what a.act ≡ Some what → KnowsRecord s
-    → ((ask n left s a).0 ≡ answers.NotRecorded) ↔ ((is_some s.grace ≡ true) × (a.reclaim ≡ true) × (is_recorded (recorded_as a.party) s.stable.names ≡ false))
+    → ((ask n left s a).0 ≡ answers.NotRecorded) ↔ ((is_some s.grace ≡ true) × (a.reclaim ≡ true) × (is_known (asker_as a) s.stable.names ≡ false))
 unrecorded_told n left s a what act knows = (forth, back) where
-  forth : (ask n left s a).0 ≡ answers.NotRecorded → (is_some s.grace ≡ true) × (a.reclaim ≡ true) × (is_recorded (recorded_as a.party) s.stable.names ≡ false)
+  forth : (ask n left s a).0 ≡ answers.NotRecorded → (is_some s.grace ≡ true) × (a.reclaim ≡ true) × (is_known (asker_as a) s.stable.names ≡ false)
   forth told =
       let due = (ask_due n left s a what answers.NotRecorded act).0 told in
       let stood = sym (ask_way_stands left s a) ∙ due in
-      let runs = unrecorded_runs s (recorded_as a.party) (is_smb a.party) a.reclaim (ap refusal stood) in
+      let runs = unrecorded_runs s (asker_as a) (is_smb a.party) a.reclaim (ap refusal stood) in
       (runs.0, runs.1, by s.grace refl runs.0 stood)
     where
-      by : (g : Option Running) → s.grace ≡ g → is_some s.grace ≡ true → IsClaimDue n left s a (asked_claim a what s.names) answers.NotRecorded → is_recorded (recorded_as a.party) s.stable.names ≡ false
+      by : (g : Option Running) → s.grace ≡ g → is_some s.grace ≡ true → IsClaimDue n left s a (asked_claim a what s.names) answers.NotRecorded → is_known (asker_as a) s.stable.names ≡ false
       by None none is stood = absurd (both_ways (is_some s.grace) (ap is_some none) is)
       by (Some g) some is stood = ((unrecorded_is s a g knows some).0 stood).1
 
-  back : (is_some s.grace ≡ true) × (a.reclaim ≡ true) × (is_recorded (recorded_as a.party) s.stable.names ≡ false) → (ask n left s a).0 ≡ answers.NotRecorded
+  back : (is_some s.grace ≡ true) × (a.reclaim ≡ true) × (is_known (asker_as a) s.stable.names ≡ false) → (ask n left s a).0 ≡ answers.NotRecorded
   back is = (ask_due n left s a what answers.NotRecorded act).1 (ask_way_stands left s a ∙ by s.grace refl is.0) where
     by : (g : Option Running) → s.grace ≡ g → is_some s.grace ≡ true → IsClaimDue n left s a (asked_claim a what s.names) answers.NotRecorded
     by None none runs = absurd (both_ways (is_some s.grace) (ap is_some none) runs)
     by (Some g) some runs = (unrecorded_is s a g knows some).1 (is.1, is.2)
 
--- What is granted reclaims exactly if grace runs, and then its client is recorded.
+-- What is granted reclaims exactly if grace runs, and then its client is recorded with a mark that agrees.
 pub granted_told : (n : ℕ) (left : Rooms) (s : CoreState) (a : Ask) (what : What) (c : Claim) → asked_what a.act ≡ Some what → asks_claims a.act ≡ true → KnowsRecord s → (ask n left s a).0 ≡ answers.Granted c
-    → (a.reclaim ≡ is_some s.grace) × (a.reclaim ≡ true → is_recorded (recorded_as a.party) s.stable.names ≡ true)
+    → (a.reclaim ≡ is_some s.grace) × (a.reclaim ≡ true → is_known (asker_as a) s.stable.names ≡ true)
 granted_told n left s a what c act asks knows told = by s.grace refl where
   name : Recorded
-  name = recorded_as a.party
+  name = asker_as a
 
   came_late : s.grace ≡ None → a.reclaim ≡ true → ⊥
   came_late none back =
       let entered = ap enters (sym (ask_way_stands left s a)) ∙ ((ask_due n left s a what (answers.Granted c) act).0 told).1 in
       both_ways (enters (stands s a)) (ap enters (ap (standing s name (is_smb a.party)) back ∙ late s name (is_smb a.party) none)) entered
 
-  by : (g : Option Running) → s.grace ≡ g → (a.reclaim ≡ is_some s.grace) × (a.reclaim ≡ true → is_recorded name s.stable.names ≡ true)
+  by : (g : Option Running) → s.grace ≡ g → (a.reclaim ≡ is_some s.grace) × (a.reclaim ≡ true → is_known name s.stable.names ≡ true)
   by None none =
       elim (cases_Bool a.reclaim) [
         | inl back ↦ absurd (came_late none back)

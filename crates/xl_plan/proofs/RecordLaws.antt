@@ -1,11 +1,14 @@
 -- What one who asks for one thing leaves of the record and of the stores of the step.
-use Rattle.std.proofs.Common.{◌≡◌, ℕ, Bool, true, false, not, ◌&&◌, if◌then◌else◌, inl, inr, ◌⊎◌, List, [], ◌∷◌, ◌++◌, Option, Some, None, is_some, ◌↔◌, refl, sym, ap, subst, ◌∙◌}
+use Rattle.std.proofs.Common.{◌≡◌, ℕ, Bool, true, false, not, ◌&&◌, if◌then◌else◌, inl, inr, ◌⊎◌, List, [], ◌∷◌, Option, Some, None, is_some, ◌↔◌, refl, sym, ap, subst, ◌∙◌, arith}
 use Rattle.std.proofs.lemmas.Bool.{cases_Bool, both_ways, and_parts, not-true}
+use Rattle.std.proofs.lemmas.Bool.Decides.{nat_tests}
 use Rattle.std.proofs.lemmas.Slice.Eq.{bytes_eq-Decides}
 use Rattle.xl_base.specs.RecordFile.{with_name}
-use Rattle.xl_base.specs.Stable.{Stable, same_protocol, same_name, is_recorded, is_recordable}
+use Rattle.xl_base.specs.Stable.{Stable, same_protocol, same_name, same_mark, keeps, is_kept, put_name, is_recordable}
 use Rattle.xl_base.specs.declared.name.Protocol.{Protocol}
 use Rattle.xl_base.specs.declared.name.Protocol.TheVariants.{Nlm, Nfs, Smb}
+use Rattle.xl_base.specs.declared.stable.Mark.{Mark}
+use Rattle.xl_base.specs.declared.stable.Mark.TheVariants.{Verifier, State}
 use Rattle.xl_base.specs.declared.stable.Recorded.{Recorded}
 use Rattle.xl_grace.specs.Grace.{reclaimed}
 use Rattle.xl_matrix.specs.declared.claim.Claim.{Claim}
@@ -18,7 +21,7 @@ use Rattle.xl_core.specs.Causes.{IsClaimDue, asks_claims, back_by, name_asked, n
 use Rattle.xl_core.specs.Decide.{is_back, way, ask}
 use Rattle.xl_core.specs.Good.{IsGood}
 use Rattle.xl_core.specs.Judge.{to_record}
-use Rattle.xl_core.specs.Standings.{recorded_as}
+use Rattle.xl_core.specs.Standings.{recorded_as, asker_as, stores_name}
 use Rattle.xl_core.specs.State.{CoreState, Aside, aside_of}
 use Rattle.xl_core.specs.Stores.{may_record, may_store, recorded, record_left, store_failed, stored, unrecorded, unstored}
 use Rattle.xl_core.specs.BreaksBegun.{breaks_begun}
@@ -106,9 +109,22 @@ same_protocol_self Smb = refl
 same_self : (name : Recorded) → same_name name name ≡ true
 same_self name = rw (same_protocol_self name.protocol) ((bytes_eq-Decides name.name name.name).1 refl)
 
-is_behind : (name : Recorded) (names : List Recorded) → is_recorded name (names ++ name ∷ []) ≡ true
-is_behind name [] = rw (same_self name) refl
-is_behind name (first ∷ names) = elim (cases_Bool (same_name first name)) [ inl e ↦ rw e refl | inr e ↦ rw e (is_behind name names) ]
+same_marks : (mark : Mark) → same_mark mark mark ≡ true
+same_marks (Verifier bytes) = (bytes_eq-Decides bytes bytes).1 refl
+same_marks (State bytes) = (bytes_eq-Decides bytes bytes).1 refl
+
+keeps_self : (mark : Option Mark) → keeps mark mark ≡ true
+keeps_self None = refl
+keeps_self (Some mark) = same_marks mark
+
+-- a name that is put among others is there with its mark
+kept_put : (name : Recorded) (names : List Recorded) → is_kept name (put_name name names) ≡ true
+kept_put name [] = rw (same_self name, keeps_self name.mark) refl
+kept_put name (held ∷ names) =
+    elim (cases_Bool (same_name held name)) [
+      | inl here ↦ rw here (rw (same_self name, keeps_self name.mark) refl)
+      | inr other ↦ rw other (rw (kept_put name names) (grind (arith, nat_tests)))
+    ]
 
 back_stable : (asks reclaims : Bool) (name : Recorded) (t : CoreState) → (if asks then (if reclaims then record t { grace = reclaimed name t.grace } else t) else t).stable ≡ t.stable
 back_stable true true name t = refl
@@ -118,35 +134,36 @@ back_stable false reclaims name t = refl
 granted_stable : (s : CoreState) (a : Ask) (c : Claim) → (noted_by s a (answers.Granted c)).stable ≡ (recorded (name_asked s a) s).stable
 granted_stable s a c = back_stable (asks_claims a.act) a.reclaim (recorded_as a.party) (recorded (name_asked s a) s)
 
--- A client that is monitored and granted something is in the record then.
-pub recorded_told : (n : ℕ) (left : Rooms) (s : CoreState) (a : Ask) (what : What) (c : Claim) → IsGood s → is_client a.owner a.party ≡ true → asked_what a.act ≡ Some what → a.monitored ≡ true → is_recordable (recorded_as a.party) ≡ true
-    → (ask n left s a).0 ≡ answers.Granted c → is_recorded (recorded_as a.party) (ask n left s a).2.stable.names ≡ true
+-- A client that is monitored, reclaims nothing and is granted something is in the record then, with its mark.
+pub recorded_told : (n : ℕ) (left : Rooms) (s : CoreState) (a : Ask) (what : What) (c : Claim) → IsGood s → is_client a.owner a.party ≡ true → asked_what a.act ≡ Some what → a.monitored ≡ true → a.reclaim ≡ false → is_recordable (asker_as a) ≡ true
+    → (ask n left s a).0 ≡ answers.Granted c → is_kept (asker_as a) (ask n left s a).2.stable.names ≡ true
 unfolding stored
-recorded_told n left s a what c good client act monitored recordable told = ap (λ (stable : Stable). is_recorded name stable.names) stable ∙ by (is_recorded name s.stable.names) refl where
+recorded_told n left s a what c good client act monitored plain recordable told = ap (λ (stable : Stable). is_kept name stable.names) stable ∙ by (is_kept name s.stable.names) refl where
   name : Recorded
-  name = recorded_as a.party
+  name = asker_as a
 
   stable : (ask n left s a).2.stable ≡ (recorded (wanted s a) s).stable
   stable =
       ap (λ (x : Aside). x.stable) (left_aside n left s a good client) ∙ ap (λ (answer : Answer). (noted_by s a answer).stable) told ∙ granted_stable s a c
       ∙ ap (λ (o : Option Recorded). (recorded o s).stable) (one_named s a what act)
 
-  by : (b : Bool) → is_recorded name s.stable.names ≡ b → is_recorded name (recorded (wanted s a) s).stable.names ≡ true
-  by true known = rw (monitored, recordable, known) known
-  by false new = rw (monitored, recordable, new) (is_behind name s.stable.names)
+  by : (b : Bool) → is_kept name s.stable.names ≡ b → is_kept name (recorded (wanted s a) s).stable.names ≡ true
+  by true known = rw (monitored, plain, recordable, known) known
+  by false new = rw (monitored, plain, recordable, new) (kept_put name s.stable.names)
 
 abbrev Gains : CoreState → Ask → Stable → Answer → Type 0
 Gains s a new answer =
-    (new ≡ s.stable) ⊎ (((c : Claim) × (answer ≡ answers.Granted c)) × (a.monitored ≡ true) × (is_recorded (recorded_as a.party) s.stable.names ≡ false) × (new ≡ with_name (recorded_as a.party) s.stable))
+    (new ≡ s.stable) ⊎ (((c : Claim) × (answer ≡ answers.Granted c)) × (a.monitored ≡ true) × (a.reclaim ≡ false) × (is_kept (asker_as a) s.stable.names ≡ false) × (new ≡ with_name (asker_as a) s.stable))
 
--- The record is as it was, or it gains the client's name, which it lacked, where one who is monitored is granted something.
+-- The record is as it was, or it gains the client's name with its mark, which it lacked, where one who is monitored and reclaims nothing
+-- is granted something.
 pub gained_told : (n : ℕ) (left : Rooms) (s : CoreState) (a : Ask) → IsGood s → is_client a.owner a.party ≡ true
     → ((ask n left s a).2.stable ≡ s.stable)
-    ⊎ (((c : Claim) × ((ask n left s a).0 ≡ answers.Granted c)) × (a.monitored ≡ true) × (is_recorded (recorded_as a.party) s.stable.names ≡ false) × ((ask n left s a).2.stable ≡ with_name (recorded_as a.party) s.stable))
+    ⊎ (((c : Claim) × ((ask n left s a).0 ≡ answers.Granted c)) × (a.monitored ≡ true) × (a.reclaim ≡ false) × (is_kept (asker_as a) s.stable.names ≡ false) × ((ask n left s a).2.stable ≡ with_name (asker_as a) s.stable))
 unfolding stored store_failed
 gained_told n left s a good client = by (ask n left s a).0 refl where
   name : Recorded
-  name = recorded_as a.party
+  name = asker_as a
 
   new : Stable
   new = (ask n left s a).2.stable
@@ -158,12 +175,13 @@ gained_told n left s a good client = by (ask n left s a).0 refl where
   failed None = refl
   failed (Some other) = elim (cases_Bool s.failed) [ inl e ↦ rw e refl | inr e ↦ rw e refl ]
 
-  wants : (b : Bool) → (a.monitored && (is_recordable name && not (is_recorded name s.stable.names))) ≡ b → (c : Claim) → new ≡ (recorded (if b then Some name else None) s).stable → Gains s a new (answers.Granted c)
+  wants : (b : Bool) → (stores_name a && (is_recordable name && not (is_kept name s.stable.names))) ≡ b → (c : Claim) → new ≡ (recorded (if b then Some name else None) s).stable → Gains s a new (answers.Granted c)
   wants false none c is = inl is
   wants true some c is =
-      let parts = and_parts a.monitored (is_recordable name && not (is_recorded name s.stable.names)) some in
-      let rest = and_parts (is_recordable name) (not (is_recorded name s.stable.names)) parts.1 in
-      inr ((c, refl), parts.0, not-true (is_recorded name s.stable.names) rest.1, is)
+      let parts = and_parts (stores_name a) (is_recordable name && not (is_kept name s.stable.names)) some in
+      let stores = and_parts a.monitored (not a.reclaim) parts.0 in
+      let rest = and_parts (is_recordable name) (not (is_kept name s.stable.names)) parts.1 in
+      inr ((c, refl), stores.0, not-true a.reclaim stores.1, not-true (is_kept name s.stable.names) rest.1, is)
 
   granted : (whats : List What) → (c : Claim) → new ≡ (recorded (to_record (wanted s a) (asked_claims a whats s.names)) s).stable → Gains s a new (answers.Granted c)
   granted [] c is = inl is
@@ -182,14 +200,17 @@ gained_told n left s a good client = by (ask n left s a).0 refl where
   by (answers.Full limit) e = inl (noted (answers.Full limit) e)
   by answers.NotHeld e = inl (noted answers.NotHeld e)
 
--- One who isn't monitored leaves the record and the stores of the step alone.
-pub unmonitored_told : (n : ℕ) (left : Rooms) (s : CoreState) (a : Ask) → IsGood s → is_client a.owner a.party ≡ true → a.monitored ≡ false → aside_of (record (ask n left s a).2 { grace = s.grace }) ≡ aside_of s
-unmonitored_told n left s a good client plain = ap (λ (x : Aside). record x { grace = s.grace }) (left_aside n left s a good client) ∙ by (ask n left s a).0 where
+-- One whose name isn't to be stored leaves the record and the stores of the step alone.
+left_alone : (n : ℕ) (left : Rooms) (s : CoreState) (a : Ask) → IsGood s → is_client a.owner a.party ≡ true → stores_name a ≡ false → aside_of (record (ask n left s a).2 { grace = s.grace }) ≡ aside_of s
+left_alone n left s a good client plain = ap (λ (x : Aside). record x { grace = s.grace }) (left_aside n left s a good client) ∙ by (ask n left s a).0 where
+  unwanted : wanted s a ≡ None
+  unwanted = ap (λ (stores : Bool). unrecorded stores (asker_as a) s.stable) plain
+
   none : name_asked s a ≡ None
   none = of (asked_whats a.act) where
     of : (whats : List What) → to_record (wanted s a) (asked_claims a whats s.names) ≡ None
     of [] = refl
-    of (w ∷ []) = rw plain refl
+    of (w ∷ []) = unwanted
     of (w ∷ v ∷ ws) = refl
 
   back : (asks reclaims : Bool) (name : Recorded) → aside_of (record (if asks then (if reclaims then record s { grace = reclaimed name s.grace } else s) else s) { grace = s.grace }) ≡ aside_of s
@@ -208,3 +229,14 @@ unmonitored_told n left s a good client plain = ap (λ (x : Aside). record x { g
   by answers.NotRecorded = refl
   by (answers.Full limit) = refl
   by answers.NotHeld = refl
+
+-- One who isn't monitored does.
+pub unmonitored_told : (n : ℕ) (left : Rooms) (s : CoreState) (a : Ask) → IsGood s → is_client a.owner a.party ≡ true → a.monitored ≡ false → aside_of (record (ask n left s a).2 { grace = s.grace }) ≡ aside_of s
+unmonitored_told n left s a good client plain = left_alone n left s a good client (ap (λ (b : Bool). b && not a.reclaim) plain)
+
+-- So does one who reclaims.
+pub reclaim_told : (n : ℕ) (left : Rooms) (s : CoreState) (a : Ask) → IsGood s → is_client a.owner a.party ≡ true → a.reclaim ≡ true → aside_of (record (ask n left s a).2 { grace = s.grace }) ≡ aside_of s
+reclaim_told n left s a good client reclaims = left_alone n left s a good client (ap (λ (b : Bool). a.monitored && not b) reclaims ∙ and_false a.monitored) where
+  and_false : (b : Bool) → (b && false) ≡ false
+  and_false true = refl
+  and_false false = refl

@@ -3,13 +3,12 @@ use Rattle.std.proofs.Common.{◌≡◌, ℕ, Bool, true, false, not, ◌==◌, 
 use Rattle.std.specs.List.{AllByRecursion}
 use Rattle.std.proofs.lemmas.Bool.{cases_Bool, both_ways, and_right}
 use Rattle.xl_base.specs.Lists.{IsIn}
-use Rattle.xl_base.specs.Stable.{is_recorded}
 use Rattle.xl_base.proofs.Members.{all_in}
 use Rattle.xl_base.specs.declared.name.Owner.{Owner}
 use Rattle.xl_base.specs.declared.name.Owner.TheVariants as owners
 use Rattle.xl_base.specs.declared.name.Protocol.{Protocol}
 use Rattle.xl_cache.specs.Wishing.{is_its_cache}
-use Rattle.xl_grace.specs.Grace.{Running, may_reclaim, admission}
+use Rattle.xl_grace.specs.Grace.{Running, may_reclaim, is_known, admission}
 use Rattle.xl_grace.specs.declared.grace.Admission.TheVariants.{Enters, NotRecorded}
 use Rattle.xl_matrix.specs.Equal.{same_owners, same_parties}
 use Rattle.xl_matrix.specs.Blocks.{is_replaced, is_own, is_met, blocks}
@@ -33,7 +32,7 @@ use Rattle.xl_core.specs.Decide.{beside_of, plea_of, way, ask}
 use Rattle.xl_core.specs.Good.{are_kept, IsHeldBy, IsHeld, IsGood}
 use Rattle.xl_core.specs.Judge.{cache_beside, blocks_beside, blocks_its_cache}
 use Rattle.xl_core.specs.Knowing.{KnowsRecord}
-use Rattle.xl_core.specs.Standings.{recorded_as, is_smb, standing, standing_by, stands, is_timely}
+use Rattle.xl_core.specs.Standings.{asker_as, is_smb, standing, standing_by, stands, is_timely}
 use Rattle.xl_core.specs.State.{CoreState}
 use Rattle.xl_core.specs.Wishes.{wish_of}
 use Rattle.xl_core.specs.declared.ask.Act.{Act}
@@ -61,8 +60,8 @@ none_runs g e = absurd cc
 
 pub not_timely : (s : CoreState) (a : Ask) (g : Running) → s.grace ≡ Some g → is_timely (stands s a) ≡ false
 unfolding standing
-not_timely s a g runs = rw runs (by a.reclaim (is_smb a.party) (may_reclaim (recorded_as a.party) g.reclaimants) refl) where
-  by : (reclaim stays may : Bool) → may_reclaim (recorded_as a.party) g.reclaimants ≡ may → is_timely (standing_by stays reclaim s.clock (admission (Some g) (recorded_as a.party) reclaim)) ≡ false
+not_timely s a g runs = rw runs (by a.reclaim (is_smb a.party) (may_reclaim (asker_as a) g.reclaimants) refl) where
+  by : (reclaim stays may : Bool) → may_reclaim (asker_as a) g.reclaimants ≡ may → is_timely (standing_by stays reclaim s.clock (admission (Some g) (asker_as a) reclaim)) ≡ false
   by true stays true e = rw e refl
   by true stays false e = rw e refl
   by false true may e = refl
@@ -269,16 +268,16 @@ let_in n before left s a g were good knows fit runs holds asks reclaims truth = 
   due : (answer : Answer) → (ask n left s a).0 ≡ answer → IsClaimDue n left s a claim answer
   due answer e = subst (λ (w : List Effect × CoreState). IsClaimDue n left w.1 a claim answer) (no_way left s a g runs) ((ask_due n left s a one.0 answer one.1).0 e)
 
-  stands_so : (b : Bool) → may_reclaim (recorded_as a.party) g.reclaimants ≡ b → stands s a ≡ standing_by (is_smb a.party) true s.clock (if b then Enters else NotRecorded)
+  stands_so : (b : Bool) → may_reclaim (asker_as a) g.reclaimants ≡ b → stands s a ≡ standing_by (is_smb a.party) true s.clock (if b then Enters else NotRecorded)
   stands_so b e = rw (runs, reclaims, e) refl
 
-  against : (c : Claim) (b : Bool) → may_reclaim (recorded_as a.party) g.reclaimants ≡ b → IsAgainst (stands s a) s a claim c → ⊥
+  against : (c : Claim) (b : Bool) → may_reclaim (asker_as a) g.reclaimants ≡ b → IsAgainst (stands s a) s a claim c → ⊥
   against c true e h = (let so = subst (λ now. IsAgainst now s a claim c) (stands_so true e) h in none_against before s a one.0 c g were good fit runs holds truth reclaims one.1 so.1 so.2)
   against c false e h = subst (λ now. IsAgainst now s a claim c) (stands_so false e) h
 
   by : (answer : Answer) → (ask n left s a).0 ≡ answer → turns_away answer ≡ false
-  by (answers.Conflict c) e = absurd (against c (may_reclaim (recorded_as a.party) g.reclaimants) refl (due (answers.Conflict c) e))
-  by answers.NotRecorded e = absurd (both_ways (is_recorded (recorded_as a.party) s.stable.names) ((unrecorded_is s a g knows runs).0 (due answers.NotRecorded e)).1 truth.recorded)
+  by (answers.Conflict c) e = absurd (against c (may_reclaim (asker_as a) g.reclaimants) refl (due (answers.Conflict c) e))
+  by answers.NotRecorded e = absurd (both_ways (is_known (asker_as a) s.stable.names) ((unrecorded_is s a g knows runs).0 (due answers.NotRecorded e)).1 truth.recorded)
   by (answers.NoGrace clock) e = none_runs g (sym (due (answers.NoGrace clock) e).1 ∙ runs)
   by (answers.Granted c) e = refl
   by (answers.Queued number) e = refl

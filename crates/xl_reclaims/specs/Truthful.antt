@@ -3,12 +3,11 @@
 use Rattle.std.specs.Prelude.{◌≡◌, ℕ, ◌≤◌, ◌==◌, ◌&&◌, Bool, true, false, List, Option, Some, None}
 use Rattle.std.specs.List.{AllByRecursion, list_any, slice_get}
 use Rattle.xl_base.specs.Lists.{Pairwise}
-use Rattle.xl_base.specs.Stable.{is_recorded}
 use Rattle.xl_base.specs.declared.name.Owner.{Owner}
 use Rattle.xl_base.specs.declared.name.Owner.TheVariants as owners
 use Rattle.xl_base.specs.declared.name.Party.{Party}
 use Rattle.xl_base.specs.declared.name.Party.TheVariants as parties
-use Rattle.xl_grace.specs.Grace.{Running}
+use Rattle.xl_grace.specs.Grace.{Running, is_known}
 use Rattle.xl_matrix.specs.Kinds.{kind_lies_within}
 use Rattle.xl_matrix.specs.Matrix.{compat, lock_on, is_as_strong}
 use Rattle.xl_matrix.specs.declared.claim.CacheKind.{CacheKind}
@@ -24,7 +23,7 @@ use Rattle.xl_core.specs.Decide.{ask}
 use Rattle.xl_core.specs.Deeds.{Deed, Asks}
 use Rattle.xl_core.specs.Good.{IsHeld, is_single}
 use Rattle.xl_core.specs.Settle.{share_has}
-use Rattle.xl_core.specs.Standings.{recorded_as}
+use Rattle.xl_core.specs.Standings.{asker_as}
 use Rattle.xl_core.specs.State.{CoreState}
 use Rattle.xl_core.specs.declared.ask.Answer.{Answer}
 use Rattle.xl_core.specs.declared.ask.Answer.TheVariants.{Conflict, NoGrace, NotRecorded}
@@ -125,10 +124,10 @@ HoldsWithin before s = (g : Running) → s.grace ≡ Some g → AreWithin before
 abbrev pub Reclaims : CoreState → Ask → Type 0
 Reclaims s a = (g : Running) × (s.grace ≡ Some g) × (asks_claims a.act ≡ true) × (a.reclaim ≡ true)
 
--- A reclaim is truthful if the record has its client, and each share or range that it asks for, and each delegation that it asks for
--- with a share, lies within what the client held before, by names.
+-- A reclaim is truthful if the record has its client with a mark that agrees, and each share or range that it asks for, and each
+-- delegation that it asks for with a share, lies within what the client held before, by names.
 pub record IsTruthful (before : Before) (s : CoreState) (a : Ask) : Type 0 where
-  pub recorded : is_recorded (recorded_as a.party) s.stable.names ≡ true
+  pub recorded : is_known (asker_as a) s.stable.names ≡ true
   pub claims : AreWithin before (both_entered a s.names) (asked_claims a (asked_whats a.act) s.names)
   pub caches : AllByRecursion (λ kind. IsWithin before (both_entered a s.names) (asked_claim a (Cache kind None) s.names)) a.wish
 
@@ -137,7 +136,7 @@ abbrev pub TellsTruth : Before → CoreState → Deed → Type 0
 TellsTruth before s (Asks left a) = Reclaims s a → IsTruthful before s a
 TellsTruth before s deed = Unit {0}
 
--- a reclaim is turned away by what is held, for want of its name in the record, or for want of a grace that runs
+-- a reclaim is turned away by what is held, for want of its name in the record with its mark, or for want of a grace that runs
 abbrev pub turns_away : Answer → Bool
 turns_away (Conflict c) = true
 turns_away NotRecorded = true

@@ -28,9 +28,9 @@ pub fn what_was_held_is_within()
     ensures { (before : Before) (c : Claim) (name : Name) → WereHeld before → IsIn c before.claims → owner_name before.names c.owner ≡ Some name → IsWithin before before.names c }
 {}
 
-/// While grace runs a reclaim that tells the truth isn't turned away by what is held, nor for want of its name in the record
-/// (RFC 7530 9.6.2), as long as all that is held lies within what was held before; and that stays so whatever is done to the core
-/// while grace runs, if each reclaim tells the truth.
+/// While grace runs a reclaim that tells the truth isn't turned away by what is held, nor for want of its name in the record with
+/// its mark (RFC 7530 9.6.2), as long as all that is held lies within what was held before; and that stays so whatever is done to
+/// the core while grace runs, if each reclaim tells the truth.
 #[tactic(auto, using(crate::proofs::Keeps::deed_lets_in, crate::proofs::Keeps::deed_lies))]
 pub fn truthful_reclaims_are_let_in()
     ensures let_in { (n : ℕ) (before : Before) (s : CoreState) (d : Deed) → WereHeld before → IsGood s → KnowsRecord s → IsFitDeed s d → HoldsWithin before s → TellsTruth before s d → IsLetIn n s d }

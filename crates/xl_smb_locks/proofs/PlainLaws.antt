@@ -1,5 +1,5 @@
 -- An open's asks reclaim nothing, and no record names its client: they store nothing, and wait while grace runs.
-use Rattle.std.proofs.Common.{◌≡◌, ◌⊎◌, inl, inr, ℕ, Bool, true, false, if◌then◌else◌, List, [], ◌∷◌, Option, Some, None, is_some, refl, sym, ap, ◌∙◌}
+use Rattle.std.proofs.Common.{◌≡◌, ◌⊎◌, inl, inr, ℕ, Bool, true, false, not, ◌&&◌, if◌then◌else◌, List, [], ◌∷◌, Option, Some, None, is_some, refl, sym, ap, ◌∙◌}
 use Rattle.std.proofs.lemmas.Bool.{cases_Bool, true≢false, false≢true}
 use Rattle.xl_base.specs.declared.stable.Recorded.{Recorded}
 use Rattle.xl_matrix.specs.declared.claim.Claim.{Claim}
@@ -11,7 +11,7 @@ use Rattle.xl_core.specs.Causes.{IsClaimDue, asks_claims, back_by, name_asked, n
 use Rattle.xl_core.specs.Decide.{ask, is_back}
 use Rattle.xl_core.specs.Good.{IsGood}
 use Rattle.xl_core.specs.Judge.{to_record}
-use Rattle.xl_core.specs.Standings.{is_smb, recorded_as, refusal, standing, standing_again, stands}
+use Rattle.xl_core.specs.Standings.{asker_as, is_smb, refusal, standing, standing_again, stands}
 use Rattle.xl_core.specs.State.{CoreState, aside_of}
 use Rattle.xl_core.specs.Stores.{may_record, record_left, unrecorded}
 use Rattle.xl_core.specs.declared.ask.Answer.{Answer}
@@ -25,7 +25,7 @@ use Rattle.xl_smb_locks.specs.Short.{IsOpenAsk}
 -- ---- the record
 
 none_wanted : (s : CoreState) (a : Ask) → a.monitored ≡ false → wanted s a ≡ None
-none_wanted s a none = ap (λ (b : Bool). unrecorded b (recorded_as a.party) s.stable) none
+none_wanted s a none = ap (λ (b : Bool). unrecorded (b && not a.reclaim) (asker_as a) s.stable) none
 
 pub none_recorded : (claims : List Claim) → to_record None claims ≡ None
 none_recorded [] = refl
@@ -104,8 +104,8 @@ by_grace s name = elim (some_or s.grace) [ inl none ↦ rw none refl | inr runs 
 -- it waits while grace runs, and nothing of grace is in its way if none does
 pub plain_stands : (s : CoreState) (a : Ask) → IsOpenAsk a → stands s a ≡ standing_again s
 plain_stands s a is =
-    ap (λ (b : Bool). standing s (recorded_as a.party) b a.reclaim) (party_smb a.owner a.party is.unnamed is.fit.party)
-    ∙ ap (λ (b : Bool). standing s (recorded_as a.party) true b) is.reclaim ∙ by_grace s (recorded_as a.party)
+    ap (λ (b : Bool). standing s (asker_as a) b a.reclaim) (party_smb a.owner a.party is.unnamed is.fit.party)
+    ∙ ap (λ (b : Bool). standing s (asker_as a) true b) is.reclaim ∙ by_grace s (asker_as a)
 
 -- ---- what it may be answered
 

@@ -37,6 +37,7 @@ range_ask conn number row act blocking = record {
   awaits = true;
   reclaim = false;
   monitored = false;
+  mark = None;
   rows = no_rows;
 }
 

@@ -39,6 +39,7 @@ fn range_ask(
         awaits: true,
         reclaim: false,
         monitored: false,
+        mark: None,
         rows: NO_ROWS,
     }
 }

@@ -4,7 +4,7 @@ use std::alloc::{AllocError, Global};
 use std::fmt::Write;
 use std::test::Fail;
 use xl_base::{
-    Entry, Event, Exports, Head, Journal, Kind, Moment, Protocol, Record, Recorded, Sequence,
+    Entry, Event, Exports, Head, Journal, Kind, Mark, Moment, Protocol, Record, Recorded, Sequence,
 };
 use xl_capture::{ALL_STORES, Capture, Step, capture_of, read_capture};
 use xl_names::put_hex_word;
@@ -81,6 +81,14 @@ N nlm 00ff
 N nfs 00ff
 N nfs -
 T 5
+--
+N nlm 61 0000000A
+N nfs 61 0102030405060708
+N nlm -\t00000000
+=>
+N nlm 61 0000000a
+N nfs 61 0102030405060708
+N nlm - 00000000
 --
 T\t1\t!0
 T 18446744073709551615 !9999
@@ -178,6 +186,10 @@ fn put_record(alloc: Global, text: &mut String, stable: &Record) -> Result<(), A
             Protocol::Smb => "N smb ",
         })?;
         put_hex_word(alloc, text, client.name.as_slice())?;
+        if let Some(mark) = &client.mark {
+            text.push_str(" ")?;
+            put_hex_word(alloc, text, mark.as_bytes())?;
+        }
         text.push_str("\n")?;
     }
     Ok(())
@@ -218,7 +230,7 @@ F a.txt
 H 61 1.2
 L 1 2 3
 K 4294967295
-N nlm 61
+N nlm 61 00000003
 N nfs -
 O smb !0
 B 0 0000000161 !1
@@ -237,9 +249,14 @@ fn head(alloc: Global) -> Result<Head, Fail> {
     addresses.push((caller, Sequence::from_slice(alloc, b"1.2")?))?;
     let mut record = Record::new(alloc);
     record.set_epoch(u32::MAX);
-    for (protocol, name) in [(Protocol::Nlm, "a"), (Protocol::Nfs, "")] {
+    let state = Some(Mark::State([0, 0, 0, 3]));
+    for (protocol, name, mark) in [(Protocol::Nlm, "a", state), (Protocol::Nfs, "", None)] {
         let name = Sequence::from_slice(alloc, name.as_bytes())?;
-        record.add(Recorded { protocol, name })?;
+        record.add(Recorded {
+            protocol,
+            name,
+            mark,
+        })?;
     }
     Ok(Head {
         exports: Exports {

@@ -573,15 +573,20 @@ pub fn run<
     // with its lease or its connection; it changes a lease only by a renewal or the client's expiry. A restart leaves nothing.
     // steady: an event finds the core as the one before left it, leaves what is exported, the times and the epoch, and
     // gives out numbers one by one; a restart raises the epoch, and begins with the numbers anew.
-    // recorded: the record is the last that was stored, and no more was stored than the entry tells; a name comes into it by an ask of
-    // a client that is monitored, and goes only if the client expires, or at the end of a grace in which it reclaimed nothing.
-    // admitted: while grace runs a share or a lock is granted only to one who reclaims it and whose client is recorded.
-    // crashed: a crash in the midst of an event leaves the record as the stores left it that were made until then: a name comes into it
-    // only by such an ask in that event, and goes only as its client expires in it, or at the end of a grace in which it reclaimed nothing.
+    // recorded: the record is the last that was stored, and no more was stored than the entry tells. A name comes into it, and a mark
+    // beside it, only by an ask of its client with that mark that is monitored and reclaims nothing; it goes only if the client
+    // expires, or at the end of a grace in which it reclaimed nothing; and while it stays its mark goes only by such an ask with
+    // another. Each such ask that is granted leaves the name recorded, with its mark if it has one.
+    // admitted: while grace runs a share or a lock is granted only to one who reclaims it and whose client is recorded with a mark that
+    // agrees with its own.
+    // crashed: a crash in the midst of an event leaves the record as the stores left it that were made until then: a name or a mark
+    // comes into it only by such an ask in that event, a name goes only as its client expires in it, or at the end of a grace in which
+    // it reclaimed nothing, and a mark with it, or by such an ask with another.
     // truthful: whatever was held before the start, and whatever happens behind the last event, restarts and crashes too: while grace
     // runs, if each reclaim since the server started told the truth, none is turned away by what is held, nor for want of its name in
-    // the record or of a grace that runs. One tells the truth if the record has its client, and what it asks for lies within what the
-    // client held, by names, just before the server stopped; or if grace ran then, before that began.
+    // the record with its mark, or of a grace that runs. One tells the truth if the record has its client, with a mark that agrees, and
+    // what it asks for lies within what the client held, by names, just before the server stopped; or if grace ran then, before that
+    // began.
     // parties: a claim is held for a party that had something of its owner's on the file, asked for it, or waited for it.
     // waiting: those who waited go on to wait in their order, except those whom the event served, cancelled or ended.
     // kept_until_answered: while the break of a cache runs, the cache is held at its full kind, and nothing is granted
@@ -597,9 +602,10 @@ pub fn run<
     // break leaves, and breaks and leases end only once their time has come.
     // wished: a wish gets one of its choices, or the least kind in which one of them and what its party had lie, and nothing if
     // someone waits on the file.
-    // asking: an ask of a request of NLM is on the exported file that it names, a reclaim exactly if it says so, and with the room that
-    // is left for hosts. One of an operation of NFSv4 is for what it says, on the file of its current handle or that it claims there,
-    // and a reclaim exactly if it says so. One of a LOCK or a CREATE of SMB is of the open and on the file that it names.
+    // asking: an ask of a request of NLM is on the exported file that it names, a reclaim exactly if it says so, with the state that it
+    // names as its mark, and with the room that is left for hosts. One of an operation of NFSv4 is for what it says, on the file of its
+    // current handle or that it claims there, a reclaim exactly if it says so, and in the name of a confirmed client, with its verifier
+    // as its mark. One of a LOCK or a CREATE of SMB is of the open and on the file that it names.
     // owed: if a client refuses a lock whose grant it was sent, just that is unlocked.
     // meant: what the reply to a request of NLM, or to a LOCK, CREATE or CLOSE of SMB, says is done is done; and the stateids that a
     // reply of NFSv4 tells name what is there once its operation is done, but for that of a lock owner's first LOCK under an open.

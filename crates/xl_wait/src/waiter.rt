@@ -2,7 +2,7 @@
 ghost use Rattle.std.specs.Prelude.{◌≡◌};
 ghost use Rattle.xl_wait.specs.Waiting.{no_rows};
 
-use xl_base::{Party, Sequence};
+use xl_base::{Mark, Party, Sequence};
 use xl_matrix::{CacheKind, Claim};
 
 /// How much room is left in the tables of the fronts, or how many rows of them something takes.
@@ -49,6 +49,8 @@ pub struct Waiter {
     pub blocking: bool,
     /// Whether its party's name is to be recorded before it is granted.
     pub monitored: bool,
+    /// The mark that it is recorded with, None if it came with none.
+    pub mark: Option<Mark>,
     /// The rows of the fronts' tables that its grant adds.
     pub rows: Rooms,
 }

@@ -6,7 +6,7 @@ ghost use Rattle.xl_matrix.specs.declared.claim.Extent.TheVariants.{Bytes};
 ghost use Rattle.xl_core.specs.Askers.{IsFit, IsFitAct, IsFitWish, IsOrdered, may_ask, may_hold};
 
 use std::alloc::{AllocError, Global};
-use xl_base::Sequence;
+use xl_base::{Mark, Sequence};
 use xl_core::{Act, Ask, Who};
 use xl_matrix::{CacheKind, Extent, Rwd, What};
 use xl_names::Name;
@@ -73,6 +73,9 @@ pub(crate) enum Asked {
     Lock(u32, u8),
     /// A caller of NLM reclaims the lock of ten bytes; it would wait.
     ReclaimedLock(u8),
+    /// A caller of NLM locks ten bytes, or reclaims them, with a state of four such bytes; it is monitored, and waits if something
+    /// stands in its way.
+    StateLock(u8, u8, bool),
     /// An SMB open locks one range, shared or exclusively; it doesn't wait.
     Range(u32, Place, bool),
     /// An SMB open locks the bytes 0 to 9, the bytes 20 to 29, and ten bytes from here on, in one request.
@@ -90,6 +93,8 @@ pub(crate) enum Asked {
     ClientShare(u8),
     /// An NFSv4 client's share, as a reclaim.
     ReclaimedShare(u8, Rwd, Rwd),
+    /// An NFSv4 client's share for reading, or the reclaim of it, with a verifier of eight such bytes.
+    VerifierShare(u8, u8, bool),
     /// An NFSv4 client's share for reading and writing, with a write delegation.
     Delegation(u8),
     /// The same, as a reclaim.
@@ -116,6 +121,7 @@ fn a_test(alloc: Global, caller: Sequence<u8>, same: Sequence<u8>) -> Ask
         awaits: false,
         reclaim: false,
         monitored: false,
+        mark: None,
         rows: NO_ROWS,
     }
 }
@@ -129,7 +135,7 @@ fn test_of(alloc: Global, caller: u8) -> Result<Ask, AllocError>
 }
 
 /// A lock of ten bytes of the file by a caller, whose name is given twice. It waits if something blocks it, and is monitored if
-/// it is a reclaim.
+/// it is a reclaim or has a mark.
 fn lock_by(
     alloc: Global,
     file: u32,
@@ -137,6 +143,7 @@ fn lock_by(
     same: Sequence<u8>,
     ranges: Sequence<(Extent, bool)>,
     reclaim: bool,
+    mark: Option<Mark>,
 ) -> Ask
     requires caller { caller ≡ same }
     requires ranges { ranges ≡ (Bytes 0 9, true) ∷ [] }
@@ -152,19 +159,26 @@ fn lock_by(
         blocking: true,
         awaits: true,
         reclaim,
-        monitored: reclaim,
+        monitored: reclaim || mark.is_some(),
+        mark,
         rows: NO_ROWS,
     }
 }
 
-fn lock_of(alloc: Global, file: u32, caller: u8, reclaim: bool) -> Result<Ask, AllocError>
+fn lock_of(
+    alloc: Global,
+    file: u32,
+    caller: u8,
+    reclaim: bool,
+    mark: Option<Mark>,
+) -> Result<Ask, AllocError>
     ensures { IfOk result (λ ask. IsFit ask) }
 {
     let mut ranges = Sequence::new(alloc);
     ranges.push((Extent::Bytes(0, 9), true))?;
     let name = Sequence::from_slice(alloc, &[caller])?;
     let same = Sequence::from_slice(alloc, &[caller])?;
-    Ok(lock_by(alloc, file, name, same, ranges, reclaim))
+    Ok(lock_by(alloc, file, name, same, ranges, reclaim, mark))
 }
 
 /// A share of an NFSv4 client, whose id string is given twice.
@@ -175,6 +189,7 @@ fn a_share(
     access: Rwd,
     deny: Rwd,
     reclaim: bool,
+    mark: Option<Mark>,
 ) -> Ask
     requires { client ≡ same }
     ensures { IsFit result }
@@ -190,6 +205,7 @@ fn a_share(
         awaits: false,
         reclaim,
         monitored: true,
+        mark,
         rows: NO_ROWS,
     }
 }
@@ -200,12 +216,13 @@ fn client_share(
     access: Rwd,
     deny: Rwd,
     reclaim: bool,
+    mark: Option<Mark>,
 ) -> Result<Ask, AllocError>
     ensures { IfOk result (λ ask. IsFit ask) }
 {
     let name = Sequence::from_slice(alloc, &[client])?;
     let same = Sequence::from_slice(alloc, &[client])?;
-    Ok(a_share(alloc, name, same, access, deny, reclaim))
+    Ok(a_share(alloc, name, same, access, deny, reclaim, mark))
 }
 
 /// A share by an NFSv4 client, whose id string is given twice, with a write delegation.
@@ -232,6 +249,7 @@ fn share_of(
         awaits: false,
         reclaim,
         monitored: true,
+        mark: None,
         rows: NO_ROWS,
     }
 }
@@ -262,6 +280,7 @@ fn share_of_host(alloc: Global, caller: Sequence<u8>, same: Sequence<u8>) -> Ask
         awaits: true,
         reclaim: false,
         monitored: false,
+        mark: None,
         rows: ONE_HOST,
     }
 }
@@ -294,6 +313,7 @@ fn ask_by(alloc: Global, number: u32, act: Act) -> Ask
         awaits: false,
         reclaim: false,
         monitored: false,
+        mark: None,
         rows: NO_ROWS,
     }
 }
@@ -372,6 +392,7 @@ fn plain_share_by(alloc: Global, number: u32, access: Rwd, deny: Rwd) -> Ask
         awaits: false,
         reclaim: false,
         monitored: false,
+        mark: None,
         rows: ONE_OPEN,
     }
 }
@@ -403,6 +424,7 @@ fn share_by(number: u32, deny: Rwd, kinds: Sequence<CacheKind>) -> Ask
         awaits: false,
         reclaim: false,
         monitored: false,
+        mark: None,
         rows: NO_ROWS,
     }
 }
@@ -431,6 +453,7 @@ fn waiting_share_by(number: u32, kinds: Sequence<CacheKind>) -> Ask
         awaits: true,
         reclaim: false,
         monitored: false,
+        mark: None,
         rows: NO_ROWS,
     }
 }
@@ -459,6 +482,7 @@ fn wish_by(number: u32, kinds: Sequence<CacheKind>) -> Ask
         awaits: false,
         reclaim: false,
         monitored: false,
+        mark: None,
         rows: NO_ROWS,
     }
 }
@@ -476,8 +500,11 @@ pub(crate) fn ask_of(alloc: Global, asked: &Asked) -> Result<Ask, AllocError>
 {
     match asked {
         Asked::Test(caller) => test_of(alloc, *caller),
-        Asked::Lock(file, caller) => lock_of(alloc, *file, *caller, false),
-        Asked::ReclaimedLock(caller) => lock_of(alloc, 1, *caller, true),
+        Asked::Lock(file, caller) => lock_of(alloc, *file, *caller, false, None),
+        Asked::ReclaimedLock(caller) => lock_of(alloc, 1, *caller, true, None),
+        Asked::StateLock(caller, state, reclaim) => {
+            lock_of(alloc, 1, *caller, *reclaim, Some(Mark::State([*state; 4])))
+        }
         Asked::Range(number, place, exclusive) => range_at(alloc, *number, *place, *exclusive),
         Asked::Three(number, first) => three_of(alloc, *number, *first),
         Asked::Unlock(number, place) => Ok(unlock_at(alloc, *number, *place)),
@@ -485,9 +512,13 @@ pub(crate) fn ask_of(alloc: Global, asked: &Asked) -> Result<Ask, AllocError>
         Asked::Oplock(number, deny) => oplock_of(alloc, *number, *deny),
         Asked::OplockThatWaits(number) => oplock_that_waits(alloc, *number),
         Asked::Wish(number) => wish_of(alloc, *number),
-        Asked::ClientShare(client) => client_share(alloc, *client, READ, NONE, false),
+        Asked::ClientShare(client) => client_share(alloc, *client, READ, NONE, false, None),
         Asked::ReclaimedShare(client, access, deny) => {
-            client_share(alloc, *client, *access, *deny, true)
+            client_share(alloc, *client, *access, *deny, true, None)
+        }
+        Asked::VerifierShare(client, byte, reclaim) => {
+            let mark = Some(Mark::Verifier([*byte; 8]));
+            client_share(alloc, *client, READ, NONE, *reclaim, mark)
         }
         Asked::Delegation(client) => delegation_of(alloc, *client, false),
         Asked::ReclaimedDelegation(client) => delegation_of(alloc, *client, true),

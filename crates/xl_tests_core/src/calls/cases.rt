@@ -223,6 +223,7 @@ fn calls(rt: HostRuntime) -> Result<(), Fail> {
             moment: *moment,
             clients: b"",
             callers: b"",
+            marked: &[],
             failing: &[],
         };
         let wrong = wrong_from(rt.alloc(), &start, &[steps])?;

@@ -67,6 +67,61 @@ const NEITHER_COMES: &[Step] = &[
     Step::Counts(2, 4, 0),
 ];
 
+/// A mark that agrees with the kept one lets a reclaim in: the same, or any if one is missing. What is let in stores nothing, and
+/// leaves the kept marks.
+const MARKED_RECLAIMS: &[Step] = &[
+    Step::Ask(Asked::StateLock(b'a', b'5', true), Told::NotRecorded, 0),
+    Step::Ask(Asked::StateLock(b'a', b'3', true), Told::Granted, 0),
+    Step::Ask(Asked::ReclaimedLock(b'a'), Told::Granted, 0),
+    Step::Ask(Asked::StateLock(b'b', b'5', true), Told::Conflict, 0),
+    Step::Ask(Asked::VerifierShare(b'c', b'5', true), Told::NotRecorded, 0),
+    Step::Ask(Asked::VerifierShare(b'c', b'3', true), Told::Granted, 0),
+    Step::Ask(Asked::ReclaimedShare(b'c', READ, NONE), Told::Granted, 0),
+    Step::Ask(Asked::VerifierShare(b'd', b'5', true), Told::Granted, 0),
+    Step::Stored(b"dbca", 0, 0),
+    Step::Marks(b"--33"),
+];
+
+/// Out of grace a mark that is missing or another is stored, in its name's place, and once; an ask without a mark, or with the same,
+/// stores nothing. One who waited is recorded with the mark that it came with.
+const MARKS_CHANGE: &[Step] = &[
+    Step::Reads(107, 0),
+    Step::Stored(b"dca", 1, 1),
+    Step::Marks(b"-33"),
+    Step::Ask(Asked::VerifierShare(b'c', b'5', false), Told::Granted, 0),
+    Step::Marks(b"-53"),
+    Step::Ask(Asked::VerifierShare(b'c', b'5', false), Told::Granted, 0),
+    Step::Ask(Asked::ClientShare(b'c'), Told::Granted, 0),
+    Step::Stored(b"dca", 2, 2),
+    Step::Ask(Asked::VerifierShare(b'd', b'7', false), Told::Granted, 0),
+    Step::Ask(Asked::StateLock(b'a', b'3', false), Told::Granted, 0),
+    Step::Stored(b"dca", 3, 3),
+    Step::Ask(Asked::StateLock(b'a', b'4', false), Told::Granted, 0),
+    Step::Marks(b"754"),
+    Step::Ask(Asked::StateLock(b'b', b'6', false), Told::Queued, 0),
+    Step::Stored(b"dca", 4, 4),
+    Step::Leaves(Party::Name(Protocol::Nlm, 1), 0),
+    Step::Turn(1),
+    Step::Stored(b"dcab", 5, 5),
+    Step::Marks(b"7546"),
+];
+
+/// A mark whose store fails isn't kept, and its ask isn't granted.
+const MARK_FAILS: &[Step] = &[
+    Step::Ask(Asked::ClientShare(b'c'), Told::Granted, 0),
+    Step::Ask(
+        Asked::VerifierShare(b'c', b'3', false),
+        Told::StoreFailed,
+        0,
+    ),
+    Step::Stored(b"c", 2, 1),
+    Step::Marks(b"-"),
+    Step::Begins,
+    Step::Ask(Asked::VerifierShare(b'c', b'3', false), Told::Granted, 0),
+    Step::Stored(b"c", 3, 1),
+    Step::Marks(b"3"),
+];
+
 /// Two recorded clients reclaim a share each, and a third that isn't recorded has a lease: all three end at moment 100, as grace
 /// does, in which a fourth that is recorded doesn't come back.
 const THREE_COME: &[Step] = &[
@@ -183,9 +238,10 @@ const EXPIRIES: [(u64, &[Step]); 4] = [
 ];
 
 /// Which call of the keeper fails, and what comes of it.
-const FAILURES: [(u64, &[&[Step]]); 5] = [
+const FAILURES: [(u64, &[&[Step]]); 6] = [
     (1, &[FIRST_FAILS]),
     (2, &[SECOND_FAILS]),
+    (2, &[MARK_FAILS]),
     (3, &[TWO_COME, THIRD_FAILS]),
     (4, &[TWO_COME, FOURTH_FAILS]),
     (5, &[TWO_COME, NONE_FAILS]),
@@ -197,6 +253,7 @@ fn reclaims(rt: HostRuntime) -> Result<(), Fail> {
         moment: 7,
         clients: b"cd",
         callers: b"ab",
+        marked: &[],
         failing: &[],
     };
     for (case, rows) in IN_GRACE.iter().enumerate() {
@@ -207,12 +264,27 @@ fn reclaims(rt: HostRuntime) -> Result<(), Fail> {
 }
 
 #[test]
+fn marks_agree_and_change(rt: HostRuntime) -> Result<(), Fail> {
+    let start = Start {
+        moment: 7,
+        clients: b"d",
+        callers: b"b",
+        marked: &[(Protocol::Nfs, b'c', b'3'), (Protocol::Nlm, b'a', b'3')],
+        failing: &[],
+    };
+    let wrong = wrong_from(rt.alloc(), &start, &[MARKED_RECLAIMS, MARKS_CHANGE])?;
+    assert!(rt; wrong.is_none(), "{wrong:?}");
+    Ok(())
+}
+
+#[test]
 fn expiries_wait_for_their_stores(rt: HostRuntime) -> Result<(), Fail> {
     for (first, steps) in EXPIRIES.iter() {
         let start = Start {
             moment: 0,
             clients: b"acd",
             callers: b"",
+            marked: &[],
             failing: &[*first],
         };
         let wrong = wrong_from(rt.alloc(), &start, &[THREE_COME, steps])?;
@@ -228,6 +300,7 @@ fn keeper_fails(rt: HostRuntime) -> Result<(), Fail> {
             moment: 0,
             clients: b"",
             callers: b"",
+            marked: &[],
             failing: &[*call],
         };
         let wrong = wrong_from(rt.alloc(), &start, rows)?;

@@ -7,7 +7,7 @@ ghost use Rattle.xl_core.specs.Good.{IsGood};
 
 use super::asks::{Asked, ask_of};
 use std::alloc::{AllocError, Global};
-use xl_base::{MemoryKeeper, Moment, Owner, Party, Protocol, Record, Recorded, Sequence};
+use xl_base::{Mark, MemoryKeeper, Moment, Owner, Party, Protocol, Record, Recorded, Sequence};
 use xl_cache::{Wish, find_own_cache, rest_within};
 use xl_core::{Answer, Core, Effect, Times};
 use xl_grace::Grace;
@@ -88,6 +88,8 @@ pub(crate) enum Step {
     /// The record has these names, and the keeper holds it; so many records were given to be stored so far, of which the step
     /// stored so many.
     Stored(&'static [u8], usize, u64),
+    /// The record's names have these marks, each of one byte again and again; a dash for none.
+    Marks(&'static [u8]),
 }
 
 /// How a core starts.
@@ -97,6 +99,8 @@ pub(crate) struct Start<'a> {
     /// The clients of NFSv4 that the record has, and behind them the callers of NLM.
     pub(crate) clients: &'a [u8],
     pub(crate) callers: &'a [u8],
+    /// Behind them, names with the bytes that their marks are made of.
+    pub(crate) marked: &'a [(Protocol, u8, u8)],
     /// These calls of the keeper fail, of which the first is 1.
     pub(crate) failing: &'a [u64],
 }
@@ -353,6 +357,23 @@ fn are_named(names: &[Recorded], bytes: &[u8]) -> bool {
     true
 }
 
+/// Whether these are the names' marks, each of one byte again and again; a dash is none.
+fn are_marked(names: &[Recorded], bytes: &[u8]) -> bool {
+    if names.len() != bytes.len() {
+        return false;
+    }
+    for (recorded, byte) in names.iter().zip(bytes) {
+        let is_its = match &recorded.mark {
+            Some(mark) => mark.is(&mark_of(recorded.protocol, *byte)),
+            None => *byte == b'-',
+        };
+        if !is_its {
+            return false;
+        }
+    }
+    true
+}
+
 fn is_stored(core: &Core, keeper: &MemoryKeeper, names: &[u8], given: usize, made: u64) -> bool {
     are_named(core.stable().names(), names)
         && are_named(keeper.held().names(), names)
@@ -380,6 +401,9 @@ fn is_so(
         Step::Clock(moment) => Ok(core.clock().0 == *moment),
         Step::Counter(number) => Ok(core.counter() == *number),
         Step::Stored(names, given, made) => Ok(is_stored(core, keeper, names, *given, *made)),
+        Step::Marks(bytes) => Ok(
+            are_marked(core.stable().names(), bytes) && are_marked(keeper.held().names(), bytes),
+        ),
         _ => Ok(false),
     }
 }
@@ -431,25 +455,44 @@ fn first_wrong(
     Ok(None)
 }
 
-fn add_names(
+/// The mark of this protocol that is made of the byte.
+fn mark_of(protocol: Protocol, byte: u8) -> Mark {
+    match protocol {
+        Protocol::Nfs => Mark::Verifier([byte; 8]),
+        _ => Mark::State([byte; 4]),
+    }
+}
+
+fn add_name(
     record: &mut Record,
     alloc: Global,
     protocol: Protocol,
-    names: &[u8],
+    name: u8,
+    mark: Option<Mark>,
 ) -> Result<(), AllocError> {
-    'names: for name in names {
-        let name = Sequence::from_slice(alloc, &[*name])?;
-        if record.add(Recorded { protocol, name }).is_err() {
-            return Err(AllocError);
-        }
+    let name = Sequence::from_slice(alloc, &[name])?;
+    match record.add(Recorded {
+        protocol,
+        name,
+        mark,
+    }) {
+        Ok(()) => Ok(()),
+        Err(_) => Err(AllocError),
     }
-    Ok(())
 }
 
 fn record_of(alloc: Global, start: &Start) -> Result<Record, AllocError> {
     let mut record = Record::new(alloc);
-    add_names(&mut record, alloc, Protocol::Nfs, start.clients)?;
-    add_names(&mut record, alloc, Protocol::Nlm, start.callers)?;
+    for name in start.clients {
+        add_name(&mut record, alloc, Protocol::Nfs, *name, None)?;
+    }
+    for name in start.callers {
+        add_name(&mut record, alloc, Protocol::Nlm, *name, None)?;
+    }
+    for (protocol, name, byte) in start.marked {
+        let mark = mark_of(*protocol, *byte);
+        add_name(&mut record, alloc, *protocol, *name, Some(mark))?;
+    }
     Ok(record)
 }
 

@@ -37,6 +37,7 @@ fn recorded(alloc: Global, protocol: Protocol, name: &str) -> Result<Recorded, A
     Ok(Recorded {
         protocol,
         name: Sequence::from_slice(alloc, name.as_bytes())?,
+        mark: None,
     })
 }
 
@@ -44,7 +45,7 @@ fn word(added: Result<(), RecordNameError>) -> &'static str {
     match added {
         Ok(()) => "added",
         Err(RecordNameError::NoMemory) => "no memory",
-        Err(RecordNameError::Smb) => "smb",
+        Err(RecordNameError::Unfit) => "unfit",
         Err(RecordNameError::Twice) => "twice",
     }
 }
@@ -81,7 +82,7 @@ const NAMES: &str = "\
 added nfs c
 added nlm c
 twice nfs c
-smb smb d
+unfit smb d
 added nlm ";
 
 /// Whether the row's name is recorded as it says; all except SMB names are held then.
@@ -91,7 +92,7 @@ fn is_added(alloc: Global, record: &mut Record, row: &str) -> bool {
     let protocol = protocol(next(&mut words));
     let name = next(&mut words);
     word(add(alloc, record, protocol, name)) == answer
-        && is_recorded(alloc, record, protocol, name) == (answer != "smb")
+        && is_recorded(alloc, record, protocol, name) == (answer != "unfit")
 }
 
 fn are_three(record: &Record) -> bool {

@@ -3,17 +3,30 @@
 use super::{next, number};
 use std::alloc::{AllocError, Global};
 use std::str::Split;
-use xl_base::{Moment, Protocol, Record, Recorded, Sequence};
+use xl_base::{Mark, Moment, Protocol, Record, Recorded, Sequence};
 use xl_grace::{Admission, Grace};
 
+/// The mark of this protocol that is made of the word's byte; none for no word.
+fn mark_of(protocol: Protocol, word: &str) -> Option<Mark> {
+    let byte = word.as_bytes().first()?;
+    Some(match protocol {
+        Protocol::Nfs => Mark::Verifier([*byte; 8]),
+        _ => Mark::State([*byte; 4]),
+    })
+}
+
+/// A name by its protocol and itself, with its mark behind a plus if it has one.
 fn name_in(alloc: Global, words: &mut Split<'_, char>) -> Result<Recorded, AllocError> {
     let protocol = match next(words) {
         "nfs" => Protocol::Nfs,
         _ => Protocol::Nlm,
     };
+    let word = next(words);
+    let (name, mark) = word.split_once('+').unwrap_or((word, ""));
     Ok(Recorded {
         protocol,
-        name: Sequence::from_slice(alloc, next(words).as_bytes())?,
+        name: Sequence::from_slice(alloc, name.as_bytes())?,
+        mark: mark_of(protocol, mark),
     })
 }
 
@@ -43,7 +56,13 @@ fn are_kept(alloc: Global, grace: &Grace, stable: &Record, want: &str) -> Result
 /// of it, of Grace its end. What ends: the moment, and whether it does. What is kept: the names of the record to be stored.
 const STEPS: &str = "\
 ask nfs c true enters
+ask nfs c+7 true enters
+ask nlm a true enters
+ask nlm a+3 true enters
+ask nlm a+5 true unrecorded
+ask nlm a+5 false 150
 ask nlm c true unrecorded
+ask nlm c+3 true unrecorded
 ask nfs c false 150
 ask nlm x false 150
 kept 
@@ -55,11 +74,12 @@ back nfs c true
 back nlm a false
 ask nfs c true enters
 kept c
-reclaimed nlm a
+reclaimed nlm a+5
 reclaimed nlm b
 kept cab
 expired nlm a
 ask nlm a true unrecorded
+ask nlm a+3 true unrecorded
 reclaimed nlm a
 back nlm a false
 kept cb
@@ -136,7 +156,7 @@ fn record_of(alloc: Global, names: &str) -> Result<Record, AllocError> {
 }
 
 fn goes_on(alloc: Global) -> Result<bool, AllocError> {
-    let stable = record_of(alloc, "nfs c\nnlm a\nnlm b")?;
+    let stable = record_of(alloc, "nfs c\nnlm a+3\nnlm b")?;
     are_steps(alloc, &stable)
 }
 

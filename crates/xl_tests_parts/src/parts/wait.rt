@@ -26,6 +26,7 @@ fn waiter(alloc: Global, id: u32, conn: Option<u64>, file: u32) -> Result<Waiter
         wish: Sequence::new(alloc),
         blocking: true,
         monitored: true,
+        mark: None,
         rows: Rooms {
             hosts: 1,
             owners: 0,

@@ -10,7 +10,7 @@ pub returns-in_err-add_read : goal.returns-in_err-add_read
 returns-in_err-add_read c =
     let p = err_from_is_err_and c.from_residual-in_err-add_read.result c.from_residual-in_err-add_read.ensures.1 in
     let first : Stable = record { epoch = c.args.epoch; names = [] } in
-    let name : Recorded = record { protocol = c.in_ok-protocol.protocol; name = c.in_ok-name.name } in
-    let reads = c.in_ok-protocol.ensures.read ∙ ap (λ text. Ok (record { protocol = c.in_ok-protocol.protocol; name = text }, c.in_ok-protocol.behind.now)) (sym c.in_ok-name.ensures) in
+    let name : Recorded = record { protocol = c.in_ok-protocol.protocol; name = c.in_ok-name.name; mark = c.in_ok-protocol.mark } in
+    let reads = c.in_ok-protocol.ensures.read ∙ ap (λ text. Ok (record { protocol = c.in_ok-protocol.protocol; name = text; mark = c.in_ok-protocol.mark }, c.in_ok-protocol.behind.now)) (sym c.in_ok-name.ensures) in
     rw (p.1, p.2)
-    (refuses c.args.count c.names.counter c.names.stable c.names.rest.now name c.in_ok-protocol.behind.now c.in_err-add_read.field-0.0 (names_at c.args.count first c.args.bytes.now) c.names-test.true reads c.in_err-add_read.ensures c.names.invariant)
+    (refuses c.args.form c.args.count c.names.counter c.names.stable c.names.rest.now name c.in_ok-protocol.behind.now c.in_err-add_read.field-0.0 (names_at c.args.form c.args.count first c.args.bytes.now) c.names-test.true reads c.in_err-add_read.ensures c.names.invariant)

@@ -1,6 +1,5 @@
 use Rattle.std.proofs.Common.{◌≡◌, true, false, [], List, Option, option_map, ap, sym, subst, ◌∙◌}
 use Rattle.std.specs.Option.{IfSome}
-use Rattle.xl_base.specs.Stable.{Stable, is_recordable, is_recorded}
 use Rattle.std.specs.List.{AllByRecursion}
 use Rattle.xl_matrix.specs.declared.claim.Claim.{Claim}
 use Rattle.xl_table.specs.Held.{has_one_party}
@@ -47,7 +46,6 @@ judge_all-requires-clause-party g c =
 
 pub judge_all-requires-clause-new : goal.judge_all-requires-clause-new
 judge_all-requires-clause-new g c =
-    subst (λ (stable : Stable). IfSome c.in-Some.called.plea.unrecorded (λ name. (is_recordable name ≡ true) × (is_recorded name stable.names ≡ false))) (sym c.make_way.ensures.stable)
     (called_new (state_of c.args.parts.now) [] c.args.parts.now.queue c.in-Some.called (sym c.in_ok-called.ensures.called ∙ ap (λ (r : Option (Called × Passed)). option_map (λ x. x.0) r) c.in-Some.is))
 
 pub returns-clause-turn : goal.returns-clause-turn
