@@ -126,6 +126,22 @@ pages_parted p ((c ∷ cs) ∷ ps) full parted = (
   pages_parted p ps full.1 (parted_second p (c ∷ cs) (paged ps) parted),
 )
 
+-- where the last element of a parted list passes, all do
+last_all : {A : Type 0} (q : A → Bool) (xs : List A) (i : ℕ) (d : A) → IsParted q xs → i + 1 ≡ length xs → q (get_or xs i d) ≡ true → prefix_len q xs ≡ length xs
+last_all q [] i d parted e h = absurd (omega (arith, e))
+last_all q (x ∷ []) zero d parted e h = rw h refl
+last_all q (x ∷ []) (suc i) d parted e h = absurd (omega (arith, e))
+last_all q (x ∷ y ∷ ys) zero d parted e h = absurd (omega (arith, e))
+last_all q (x ∷ y ∷ ys) (suc i) d parted e h =
+    let rest = last_all q (y ∷ ys) i d parted.1 (omega (arith, e)) h in
+    elim (cases_Bool (q x)) [
+      | inl here ↦ rw here (omega (arith, rest))
+      | inr fails ↦ (let none = rw (parted.0 fails).0 at rest in absurd (omega (arith, none)))
+    ]
+
+pub last_whole : (p : Claim → Bool) (ps : List (List Claim)) (i : ℕ) (d : List Claim) (b : Bool) → AreFull ps → IsParted p (paged ps) → i + 1 ≡ length ps → b ≡ ends p (get_or ps i d) → b ≡ true → prefix_len (ends p) ps ≡ length ps
+last_whole p ps i d b full parted e is h = last_all (ends p) ps i d (pages_parted p ps full parted) e (sym is ∙ h)
+
 -- all claims of the pages that pass with their last claim pass
 pub front_passes : (p : Claim → Bool) (ps : List (List Claim)) → AreFull ps → IsParted p (paged ps) → AllByRecursion (λ d. p d ≡ true) (paged (take (prefix_len (ends p) ps) ps))
 front_passes p [] full parted = tt

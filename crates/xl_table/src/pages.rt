@@ -38,6 +38,20 @@ pub(crate) fn count_front(pages: &[Page], at: usize) -> usize
     count_claims(&pages[..at])
 }
 
+/// Whether the last page passes the mark with all its claims, and so all do.
+#[tactic(auto, using(crate::proofs::PageLaws::last_whole))]
+fn last_ends(pages: &[Page], mark: Mark, front: &[u64]) -> bool
+    requires full { AreFull pages.now }
+    requires parted { IsParted (passes mark front.now) (paged pages.now) }
+    ensures { result ≡ true → prefix_len (ends (passes mark front.now)) pages.now ≡ length pages.now }
+{
+    if pages.is_empty() {
+        return false;
+    }
+    let last = pages.len() - 1;
+    pages[last].ends(mark, front)
+}
+
 /// How many pages pass the mark with all their claims.
 pub(crate) fn count_whole(pages: &[Page], mark: Mark, front: &[u64]) -> usize
     requires full { AreFull pages.now }
@@ -45,6 +59,9 @@ pub(crate) fn count_whole(pages: &[Page], mark: Mark, front: &[u64]) -> usize
     ensures count { result ≡ prefix_len (ends (passes mark front.now)) pages.now }
     ensures within { result ≤ length pages.now }
 {
+    if last_ends(pages, mark, front) {
+        return pages.len();
+    }
     pages.partition_point(|page| page.ends(mark, front))
 }
 
