@@ -1,3 +1,5 @@
+pub mod CompoundLaws
 pub mod HeadLaws
 pub mod LeaseLaws
 pub mod MessageLaws
+pub mod RelatedLaws

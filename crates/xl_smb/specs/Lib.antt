@@ -10,5 +10,7 @@ pub mod Creates
 pub mod Calls
 pub mod Replies
 pub mod Messages
+pub mod Compounds
+pub mod Related
 pub mod Faults
 pub mod Lengths

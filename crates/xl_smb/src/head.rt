@@ -126,9 +126,9 @@ pub fn read_head(frame: &[u8]) -> Result<SmbHead, SmbBad>
     Ok(head_at(frame))
 }
 
-/// The header of a frame.
+/// The header at the front of at least 64 bytes, whatever mark they have.
 #[tactic(auto, unfolding(crate::specs::Heads::head_at, crate::specs::Heads::head_fields))]
-fn head_at(frame: &[u8]) -> SmbHead
+pub fn head_at(frame: &[u8]) -> SmbHead
     requires { 64 ≤ length frame.now }
     ensures { result ≡ head_at frame.now }
 {

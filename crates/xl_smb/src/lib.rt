@@ -9,6 +9,7 @@ mod body;
 mod breaks;
 mod call;
 mod command;
+mod compound;
 mod create;
 mod fault;
 mod file;
@@ -16,19 +17,25 @@ mod head;
 mod lease;
 mod lock;
 mod message;
+mod related;
 mod reply;
 mod session;
 
 pub use breaks::{Break, LeaseNotice, Notice};
 pub use call::SmbCall;
 pub use command::Command;
+pub use compound::{Behind, MOST_PARTS, SmbPart, is_over, join, part_at, split};
 pub use create::{CreateCall, CreateReply};
 pub use fault::SmbBad;
 pub use file::{FileId, FileStatus};
-pub use head::{ASYNC_COMMAND, Route, SERVER_TO_REDIR, SmbHead, read_head};
+pub use head::{ASYNC_COMMAND, Route, SERVER_TO_REDIR, SmbHead, head_at, read_head};
 pub use lease::{Contexts, Lease, lease_context};
 pub use lock::{CloseCall, CloseReply, LockCall, LockElement, LockElements};
 pub use message::{SmbMessage, read, write};
+pub use related::{
+    Before, RELATED_OPERATIONS, failure_in, is_nameless, left_by, related_head, resolved,
+    resolved_head, taken_over, with_head,
+};
 pub use reply::SmbReply;
 pub use session::{
     Dialects, NegotiateCall, NegotiateReply, SessionSetupCall, SessionSetupReply, TreeConnectReply,
