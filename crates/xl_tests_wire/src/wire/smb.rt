@@ -3,6 +3,7 @@ use crate::wire::{bytes_of, has_bytes};
 use std::alloc::{AllocError, Global};
 use xl_smb::*;
 
+mod compounds;
 mod meaning;
 
 /// Whole frames; and, for the header of message 5 in tree 7 and session 9, its command, its flags and the body. Each means
