@@ -18,6 +18,7 @@ pub mod Splits
 pub mod FittingLaws
 pub mod LawfulLaws
 pub mod RecordLaws
+pub mod LastingLaws
 pub mod TruthfulLaws
 pub mod RecoveringLaws
 pub mod CrashLaws

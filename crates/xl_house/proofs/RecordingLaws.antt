@@ -614,7 +614,7 @@ over_like s (Expires client) held name same over = sym (like_right (client_name 
 over_like s EndsGrace held name same over = sym (like_back held name s.grace same) ∙ over
 over_like s d held name same over = absurd over
 
-changed_like : (n : ℕ) (s : CoreState) (d : Deed) (held name : Recorded) → same_name held name ≡ true → keeps held.mark name.mark ≡ true → IsChanged held n s d → IsChanged name n s d
+pub changed_like : (n : ℕ) (s : CoreState) (d : Deed) (held name : Recorded) → same_name held name ≡ true → keeps held.mark name.mark ≡ true → IsChanged held n s d → IsChanged name n s d
 changed_like n s d held name same kept (inl over) = inl (over_like s d held name same over)
 changed_like n s d held name same kept (inr anew) =
     inr (anew.0, keeps_apart held.mark name.mark anew.0 kept anew.1, subst (λ (x : Recorded). IsMonitored x n s d) (like_marked held name (Some anew.0) same) anew.2)
@@ -661,7 +661,7 @@ deeds_go n s (d ∷ ds) name good fit there gone =
       | inl later ↦ inr (deeds_go n (done n s d) ds name (deed_good n s d good fit.0) fit.1 later gone)
     ]
 
-any_weaker : (P Q : CoreState → Deed → Type 0) (n : ℕ) (s : CoreState) (ds : List Deed) → ((u : CoreState) (d : Deed) → P u d → Q u d) → AnyAt P n s ds → AnyAt Q n s ds
+pub any_weaker : (P Q : CoreState → Deed → Type 0) (n : ℕ) (s : CoreState) (ds : List Deed) → ((u : CoreState) (d : Deed) → P u d → Q u d) → AnyAt P n s ds → AnyAt Q n s ds
 any_weaker P Q n s [] step any = absurd any
 any_weaker P Q n s (d ∷ ds) step (inl one) = inl (step s d one)
 any_weaker P Q n s (d ∷ ds) step (inr later) = inr (any_weaker P Q n (done n s d) ds step later)

@@ -8,6 +8,7 @@ use Rattle.xl_base.specs.Stable.{Stable, raised, same_name, is_recorded, is_reco
 use Rattle.xl_base.specs.declared.event.Event.{Event}
 use Rattle.xl_base.specs.declared.event.Event.TheVariants.{Tick, Restart}
 use Rattle.xl_base.specs.declared.event.Moment.{Moment}
+use Rattle.xl_base.specs.declared.journal.Entry.{Entry}
 use Rattle.xl_base.specs.declared.stable.Mark.{Mark}
 use Rattle.xl_base.specs.declared.stable.Recorded.{Recorded}
 use Rattle.xl_grace.specs.Grace.{Running, begun, expired, is_back, is_known, reclaimed, shortened}
@@ -180,6 +181,24 @@ abbrev pub IsRecordingBy : ℕ → Whole → Event → Whole → Type 0
 IsRecordingBy n s Restart t = IsRaised s t
 IsRecordingBy n s (Tick now) t = IsRecordedBy n (found s) (deeds n s (Tick now)) t.core × IsForgetting n s now t
 IsRecordingBy n s event t = IsRecordedBy n (found s) (deeds n s event) t.core
+
+-- ---- how long
+
+-- one of these deeds grants a monitored ask of the client of this name with this mark, or without one, that is no reclaim; none behind
+-- it ends it so
+abbrev pub IsToStayBy : (ℕ → CoreState → Deed → Type 0) → Recorded → ℕ → CoreState → List Deed → Type 0
+IsToStayBy ends name n s [] = ⊥
+IsToStayBy ends name n s (d ∷ ds) = (IsMonitored name n s d × (AnyAt (ends n) n (done n s d) ds → ⊥)) ⊎ IsToStayBy ends name n (done n s d) ds
+
+-- no deed of these entries ends it so
+abbrev pub NeverEnds : (ℕ → CoreState → Deed → Type 0) → Whole → List Entry → Type 0
+NeverEnds ends s [] = Unit {0}
+NeverEnds ends s (e ∷ es) = (AnyAt (ends e.stores) e.stores (found s) (deeds e.stores s e.event) → ⊥) × NeverEnds ends (step e.stores s e.event).next es
+
+-- in one of these entries such an ask is granted, and nothing ends it so behind that
+abbrev pub IsToStay : (ℕ → CoreState → Deed → Type 0) → Recorded → Whole → List Entry → Type 0
+IsToStay ends name s [] = ⊥
+IsToStay ends name s (e ∷ es) = (IsToStayBy ends name e.stores (found s) (deeds e.stores s e.event) × NeverEnds ends (step e.stores s e.event).next es) ⊎ IsToStay ends name (step e.stores s e.event).next es
 
 -- ---- stores
 

@@ -57,7 +57,8 @@ ghost use Rattle.xl_front_nlm.specs.declared.call.GrantedCall.{GrantedCall};
 ghost use Rattle.xl_front_nlm.specs.declared.grant.Grant.{Grant};
 ghost use Rattle.xl_smb_laws.specs.OpenRights.{is_held_under};
 ghost use Rattle.xl_house.specs.Owed.{own_deeds, IsOwed, AreGone};
-ghost use Rattle.xl_house.specs.Recording.{IsRecording, IsAdmitting};
+ghost use Rattle.xl_house.specs.Journals.{IsLegal, replay};
+ghost use Rattle.xl_house.specs.Recording.{IsChanged, IsOver, IsRecording, IsAdmitting, IsToStay};
 ghost use Rattle.xl_house.specs.State.{start_of};
 ghost use Rattle.xl_house.specs.Truthful.{Happening, AreLetIn, NeverCollide};
 ghost use Rattle.xl_reclaims.specs.Truthful.{Before, WereHeld, Reclaims, turns_away};
@@ -195,6 +196,15 @@ pub fn machines_that_recover_wrongly_are_refused()
         → IsIn name s.core.stable.names → (IsIn name t.core.stable.names → ⊥) → IsRecording n s (record { event = Message number bytes; stores = stores; outs = outs }) t → ⊥ }
     ensures name_forgotten { (n stores : ℕ) (outs : List Out) (s t : Whole) (name : Recorded) → is_recorded name s.core.stable.names ≡ true → is_recorded name t.core.stable.names ≡ false → IsRecording n s (record { event = Restart; stores = stores; outs = outs }) t → ⊥ }
     ensures turned_away { (n number : ℕ) (bytes : List ℕ) (s : Whole) (left : Rooms) (a : Ask) (answer : Answer) → deeds n s (Message number bytes) ≡ Asks left a ∷ [] → Reclaims (found s) a → (ask n left (found s) a).0 ≡ answer → turns_away answer ≡ true → AreLetIn n s (Message number bytes) → ⊥ }
+{}
+
+/// The record lasts. Where a monitored ask that is no reclaim is granted, its client is recorded from then on, through whatever entries and
+/// restarts, until it expires or a grace ends in which it reclaimed nothing; and the mark that it came with is kept until one of these,
+/// or until such an ask of the same name comes with another.
+#[tactic(auto, using(crate::proofs::LastingLaws::names_last, crate::proofs::LastingLaws::marks_last))]
+pub fn granted_clients_stay_recorded()
+    ensures named { (head : Head) (es : List Entry) (name : Recorded) → IsLegal (start_of head) es → IsToStay (λ n u d. IsOver name u d) name (start_of head) es → is_recorded name (replay (start_of head) es).core.stable.names ≡ true }
+    ensures kept { (head : Head) (es : List Entry) (name : Recorded) → IsLegal (start_of head) es → IsToStay (λ n u d. IsChanged name n u d) name (start_of head) es → is_kept name (replay (start_of head) es).core.stable.names ≡ true }
 {}
 
 /// Truthful reclaims never collide, whatever happens from a start on, restarts and crashes too: while grace runs, if each reclaim since
