@@ -3,7 +3,7 @@
 
     python3 bench/growth.py BINARY [--instructions]
 
-replays captures with a built xlockd and prints five tables. A pair is a LOCK of one byte that nothing stands against and
+replays captures with a built xlockd and prints six tables. A pair is a LOCK of one byte that nothing stands against and
 its UNLOCK; its cost is the processor's time of a capture that prepares what is held and then makes many pairs, without
 that of one that prepares alone, over the number of pairs. The first column has microseconds, the others the ratio to it.
 
@@ -13,13 +13,16 @@ that of one that prepares alone, over the number of pairs. The first column has 
   the table's list;
 - waiters: so many who wait for a range of another file, with 1 claim, and with 10,000 in other files.
 
-The third table has the cost of a host that locks a byte of each of so many files, on each of which another one waits and goes
+The third table has the pair beside so many who wait on the very file for other bytes, all of whom are looked at by the LOCK, and
+behind what it and the UNLOCK change; and what each of them costs, which is to stay within three times.
+
+The fourth has the cost of a host that locks a byte of each of so many files, on each of which another one waits and goes
 on to wait, and whose claims are all freed then; with so many who wait elsewhere.
 
-The fourth has the cost of a reading of the clock with so many caches, as leases of SMB opens, none of which breaks; an SMB
+The fifth has the cost of a reading of the clock with so many caches, as leases of SMB opens, none of which breaks; an SMB
 server has 4,096 opens at most.
 
-The fifth, which is printed with --instructions alone, has the instructions of one message beside so many things that it has to
+The sixth, which is printed with --instructions alone, has the instructions of one message beside so many things that it has to
 do with, and how often they are those at the number before.
 
 With --instructions a cost is a count of instructions, by valgrind: it is the same in each run, whatever else the machine does.
@@ -84,6 +87,11 @@ def waiting(held):
         return calls + waiters(2, count), repeated
 
     return prepare
+
+
+def waiting_there(count):
+    """So many who wait for another byte of the very file."""
+    return waiters(1, count), pair(1, 1, STEP // 2)
 
 
 def freed(files):
@@ -216,8 +224,24 @@ def waiting_behind(count):
     return others + waiting_for(False, HOST, half)
 
 
+def waiting_last(count):
+    """A byte is locked, and so many owners wait for it, of whom the last alone waits for the bytes before it too."""
+    others = [(LOCK, 1, 2 + at, 9, 1, True, True, HOST) for at in range(count - 1)]
+    return [(LOCK, 1, 1, 9, 1, True, False)] + others + [(LOCK, 1, 2 + count, 0, 10, True, True, HOST)]
+
+
+def waiting_in_row(count):
+    """A byte is locked, and so many owners wait, each for two bytes: nothing but the one before it holds up each but the first."""
+    return [(LOCK, 1, 1, 0, 1, True, False)] + [(LOCK, 1, 2 + at, at, 2, True, True, HOST) for at in range(count)]
+
+
 def ranges_of(count):
     return [(LOCK, 1, 2 + at, STEP * at, 1, False, False) for at in range(count)]
+
+
+def waiting_for_all(count):
+    """As many ranges as there are files elsewhere, of as many owners, and so many owners who wait for all of them."""
+    return ranges_of(FILES) + [(LOCK, 1, 2 + FILES + at, 0, STEP * FILES, True, True, HOST) for at in range(count)]
 
 
 DENIES_ALL, LOG_OFF = create("f0", 1, 0), b"\x04\0\0\0"
@@ -233,8 +257,9 @@ def nfs_open(count, at):
 
 
 ASKED, DENIED = "TEST, by n ranges of n owners", "a LOCK that is denied, by these"
+BEHIND_FIRST, BEHIND_LAST = "a LOCK that the first of n who wait denies", "a LOCK that the last of n who wait denies"
 # How often a message is counted that changes nothing: one alone costs less than two runs of a long capture differ by.
-TIMES_COUNTED = {ASKED: 200, DENIED: 200}
+TIMES_COUNTED = {ASKED: 200, DENIED: 200, BEHIND_FIRST: 200, BEHIND_LAST: 200}
 OF_LEASES, OF_WAITERS, OF_RANGES = (100, 1_000, 3_990), (10, 100, 1_000), (1, 1_000, 10_000)
 # A message, the numbers, what is prepared, and the lines whose last is the message.
 MESSAGES = [
@@ -263,6 +288,20 @@ MESSAGES = [
     ),
     (ASKED, OF_RANGES, lambda count: by_rpc(ranges_of(count)), next_of_rpc(TEST, 1, 1, 0, 0)),
     (DENIED, OF_RANGES, lambda count: by_rpc(ranges_of(count)), next_of_rpc(LOCK, 1, 1, 0, 0)),
+    (BEHIND_FIRST, OF_WAITERS, lambda count: by_rpc(waiting_in_row(count)), next_of_rpc(LOCK, 1, 0, 1, 1)),
+    (BEHIND_LAST, OF_WAITERS, lambda count: by_rpc(waiting_last(count)), next_of_rpc(LOCK, 1, 0, 0, 1)),
+    (
+        "a LOCK beside n who wait, each held up by the one before alone",
+        OF_WAITERS,
+        lambda count: by_rpc(waiting_in_row(count)),
+        next_of_rpc(LOCK, 1, 0, 10**9, 1),
+    ),
+    (
+        "a LOCK by one of 1,000 who hold a range, for all of whom n wait",
+        OF_WAITERS,
+        lambda count: by_rpc(waiting_for_all(count)),
+        next_of_rpc(LOCK, 1, 2, 0, 1, False),
+    ),
     ("SMB CREATE for reading that breaks none of n leases R", OF_LEASES, leased_as(READS), next_of_smb(5, READS_OF)),
     ("NFSv4 OPEN for reading that breaks none of these", OF_LEASES, leased_as(READS), nfs_open),
 ]
@@ -307,6 +346,19 @@ def table(title, columns, places, unit, rows):
     print()
 
 
+def table_of_each(columns, places, unit, cost):
+    """What a pair costs beside so many who wait there, and what each of them does, by the costs of the first column."""
+    costs = [cost(column) for column in columns]
+    each = [(spent - costs[0]) / column for column, spent in zip(columns[1:], costs[1:])]
+    ratios = [f"{spent / costs[0]:.2f}" for spent in costs[1:]]
+    print(f"| with so many who wait on the very file | {' | '.join(f'{column:,}' for column in columns)} | within |")
+    print("|---" * (2 + len(columns)) + "|")
+    print(f"| a LOCK and UNLOCK | {costs[0]:,.{places}f}{unit} | {' | '.join(ratios)} | |", flush=True)
+    within = f"{max(each) / min(each):.2f}" if min(each) > 0 else "unknown"
+    print(f"| of each who waits | | {' | '.join(f'{one:,.{places + 1}f}{unit}' for one in each)} | {within} |", flush=True)
+    print()
+
+
 def costs_of(cost, binary, rows):
     """For each row what its repeated calls cost behind what it prepares."""
     return [(name, lambda count, prepare=prepare: cost(binary, prepare, count)) for name, prepare in rows]
@@ -326,6 +378,7 @@ def main():
     frees = [("1 file", freed(1)), ("2 files", freed(2)), ("8 files", freed(8))]
     table("a LOCK and UNLOCK with so many ranges held by", HELD, *unit, costs_of(cost, binary, held))
     table("with so many who wait elsewhere, and", WAITERS, *unit, costs_of(cost, binary, waits))
+    table_of_each(WAITERS, *unit, lambda count: cost(binary, waiting_there, count))
     table("a host's locks freed, while so many wait elsewhere, on", WAITERS, *unit, costs_of(cost, binary, frees))
     table("a reading of the clock with so many caches", CACHES, *unit, [("none due", lambda caches: tick(binary, caches))])
     if given.instructions:
