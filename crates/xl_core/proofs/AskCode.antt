@@ -1,11 +1,12 @@
 -- What the code of an ask and of a turn rests on: calls one after another, of which one may store.
-use Rattle.std.proofs.Common.{◌≡◌, ℕ, ◌<◌, ◌≤◌, Bool, true, false, if◌then◌else◌, List, [], ◌∷◌, length, slice_index_or, Result, Ok, Err, OnOk, refl, sym, ap, subst, ◌∙◌, arith}
+use Rattle.std.proofs.Common.{◌≡◌, ℕ, ◌<◌, ◌≤◌, Bool, true, false, if◌then◌else◌, List, [], ◌∷◌, length, slice_index_or, Result, Ok, Err, OnOk, refl, sym, ap, subst, ◌∙◌, arith, Option, None, inl, inr}
 use Rattle.std.specs.Option.{IfSome}
 use Rattle.xl_base.specs.Stable.{is_recordable}
 use Rattle.xl_names.specs.declared.name.Name.{Name}
 use Rattle.xl_grace.specs.Grace.{reclaimed}
 use Rattle.xl_matrix.specs.declared.claim.Claim.{Claim}
 use Rattle.xl_wait.specs.declared.waiter.Rooms.{Rooms}
+use Rattle.xl_wait.specs.declared.waiter.Waiter.{Waiter}
 use Rattle.xl_core.specs.State.{CoreState, MayBe, GoesOn}
 use Rattle.xl_core.specs.Askers.{both_entered}
 use Rattle.xl_core.specs.Decide.{is_back, named, plea_of, answered, claims_asked, acted, decided}
@@ -22,6 +23,18 @@ use Rattle.xl_core.specs.declared.judge.Ruling.TheVariants.{Gets}
 use Rattle.xl_core.specs.declared.parts.Parts.{Parts}
 use Rattle.xl_core.proofs.TurnCode.{unrecorded_new}
 use Rattle.xl_core.proofs.StoreLaws.{SameStores, goes_on_same, goes_on_then, hands_same, hands_then, may_be_before}
+use Rattle.std.specs.List.{AllByRecursion}
+use Rattle.xl_core.specs.Blockers.{in_front_of, IsInLine, IsKnown}
+use Rattle.xl_core.specs.Judge.{front_by, those_before}
+use Rattle.xl_core.specs.Standings.{stands}
+use Rattle.xl_core.specs.declared.blockers.Front.{Front}
+use Rattle.xl_core.specs.declared.blockers.Front.TheVariants.{Everybody}
+use Rattle.xl_core.specs.declared.blockers.Passage.{Passage}
+use Rattle.xl_core.specs.declared.standings.Standing.{Standing}
+use Rattle.xl_core.specs.declared.standings.Standing.TheVariants.{Timely, Reclaims, Stays, Early, Late, Unrecorded}
+use Rattle.std.proofs.lemmas.Bool.{cases_Bool}
+use Rattle.xl_core.proofs.LineLaws.{all_line, none_line}
+use Rattle.xl_core.proofs.WayCode.{behind_them}
 
 -- ---- what stores nothing
 
@@ -97,3 +110,35 @@ pub only_one : (cs : List Claim) (d : Claim) → 1 ≤ length cs → length cs <
 only_one [] d some few = absurd (omega (arith, some))
 only_one (c ∷ []) d some few = refl
 only_one (c ∷ e ∷ cs) d some few = absurd (omega (arith, few))
+
+-- in front of one who asks stand all who wait, or nobody if it reclaims
+pub front_stands : (p : Plea) (front : Front) (ws : List Waiter) → front ≡ front_by p.standing Everybody → those_before p.standing ws ≡ in_front_of front ws
+front_stands p front ws is = by p.standing ∙ ap (λ (f : Front). in_front_of f ws) (sym is) where
+  by : (standing : Standing) → those_before standing ws ≡ in_front_of (front_by standing Everybody) ws
+  by Timely = refl
+  by Reclaims = refl
+  by Stays = refl
+  by (Early until) = refl
+  by (Late clock) = refl
+  by Unrecorded = refl
+
+pub front_line : (p : Plea) (front : Front) (ws : List Waiter) (cs : List Claim) → front ≡ front_by p.standing Everybody → AllByRecursion (IsInLine front ws) cs
+front_line p front ws cs is = subst (λ (f : Front). AllByRecursion (IsInLine f ws) cs) (sym is) (by p.standing) where
+  by : (standing : Standing) → AllByRecursion (IsInLine (front_by standing Everybody) ws) cs
+  by Timely = all_line ws cs
+  by Reclaims = none_line ws cs
+  by Stays = all_line ws cs
+  by (Early until) = all_line ws cs
+  by (Late clock) = all_line ws cs
+  by Unrecorded = all_line ws cs
+
+pub plea_stands : (left : Rooms) (s : CoreState) (a : Ask) (p : Plea) → p ≡ plea_of left s a → p.standing ≡ stands s a
+unfolding plea_of
+plea_stands left s a p is = ap (λ (q : Plea). q.standing) is
+
+-- so the way that is known is that of the plea: of one who reclaims none is
+pub known_of_plea : (left : Rooms) (s : CoreState) (a : Ask) (p : Plea) (front : Front) (known : Option Passage) (cs : List Claim) → p ≡ plea_of left s a → front ≡ front_by p.standing Everybody → IsKnown s.waiters known s cs → (a.reclaim ≡ true → known ≡ None) → IsKnown (in_front_of front s.waiters) known s cs
+known_of_plea left s a p front known cs pleads is at back = elim (cases_Bool a.reclaim) [
+  | inl reclaims ↦ subst (λ (k : Option Passage). IsKnown (in_front_of front s.waiters) k s cs) (sym (back reclaims)) tt
+  | inr fresh ↦ subst (λ (ws : List Waiter). IsKnown ws known s cs) (sym (behind_them s a fresh) ∙ ap (λ (st : Standing). those_before st s.waiters) (sym (plea_stands left s a p pleads)) ∙ front_stands p front s.waiters is) at
+]

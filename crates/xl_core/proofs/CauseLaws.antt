@@ -25,11 +25,11 @@ use Rattle.xl_wait.specs.declared.waiter.Rooms.{Rooms}
 use Rattle.xl_wait.specs.declared.waiter.Waiter.{Waiter}
 use Rattle.xl_core.specs.State.{CoreState}
 use Rattle.xl_core.specs.Askers.{both_entered, asked_whats, alone, asked_what, asked_claim, asked_claims, known_claim, is_client, is_named, may_hold, may_ask, IsFitAct, IsFit, IsOrdered, AreMore, may_hold_all, range_what, known_owner}
-use Rattle.xl_core.specs.Blockers.{test_blockers, blockers, is_stopped, cache_against}
+use Rattle.xl_core.specs.Blockers.{test_blockers, is_stopped, cache_against, blocker, range_ahead, is_in_line}
 use Rattle.xl_core.specs.Causes.{limits_of_grant, limits_of_wait, may_wait, IsWaiting, IsFree, IsAgainst, wanted, IsClaimDue, stands_against, IsTestDue, HasNoByte, HasByte, left_by_unlock, IsUnlockDue, IsElementDue, IsEachBehind, IsEachDue, last_answer, IsWishBy, IsWishDue}
 use Rattle.xl_core.specs.Decide.{Answered, beside_of, plea_of, answered, claims_asked, test_answered, tested_by, tested, unlocked_claims, unlocked_bytes, unlocked, wish_by, wish_graced, wish_asked, acted, decided, unlocked_one, freed}
 use Rattle.xl_core.specs.Good.{IsGood}
-use Rattle.xl_core.specs.Judge.{Ruled, judged, graced, first_of, least_beside, reclaim_blocker, blocks_beside, blocks_its_cache, held_then, followed, stopped, check_held, kept_off, check_caches, full, check_room, held_with, waits, does_wait, at_once, or_else, first_stop}
+use Rattle.xl_core.specs.Judge.{Ruled, judged, graced, first_of, least_beside, reclaim_blocker, blocks_beside, blocks_its_cache, held_then, followed, stopped, check_held, kept_off, check_caches, full, check_room, held_with, waits, does_wait, at_once, or_else, first_stop, those_before}
 use Rattle.xl_core.specs.Limits.{first_passed, IsRoom, grant_limits, wish_limits}
 use Rattle.xl_core.specs.declared.ask.Act.{Act}
 use Rattle.xl_core.specs.declared.ask.Act.TheVariants.{Share, Ranges, Test, Unlock, Wish}
@@ -38,7 +38,7 @@ use Rattle.xl_core.specs.declared.ask.Answer.TheVariants as answers
 use Rattle.xl_core.specs.declared.ask.Ask.{Ask}
 use Rattle.xl_core.specs.declared.ask.Who.{Who}
 use Rattle.xl_table.proofs.LeastLaws.{least_in, least_none, least_empty, none_passes}
-use Rattle.xl_core.proofs.DecideLaws.{blockers_none, none_blockers, blockers_some, some_stops, some_blocks, stops_some, cache_some, cache_blocked, free_unless, free_moves, free_clear, moves_cache}
+use Rattle.xl_core.proofs.DecideLaws.{blockers_none, none_blockers, blockers_some, some_stops, some_blocks, stops_some, cache_some, cache_blocked, free_unless, free_moves, free_clear, moves_cache, blocked_in_line, free_parts, free_from, none_ahead}
 use Rattle.xl_core.proofs.KnownLaws.{known_posix}
 use Rattle.xl_core.proofs.LimitLaws.{IsFound, grant_found, wait_found, grant_least, wait_least, wish_found, wish_least}
 use Rattle.xl_core.proofs.RowLaws.{ruled_by, reclaimed_by, least_blocker, ended, ended_by, judged_graced, judged_stopped, judged_kept_off, judged_conflicts, judged_is, judged_back, judged_row}
@@ -179,8 +179,17 @@ none_beside a claim cs e = ap (λ (b : Bool). list_any (λ c. blocks_its_cache (
   none [] = refl
   none (c ∷ cs) = none cs
 
-timely_free : (s : CoreState) (a : Ask) (claim : Claim) → stands s a ≡ Timely → is_blocked s.claims claim ≡ false → IsFree s a claim
-timely_free s a claim timely free = (free, none_beside a claim s.claims (timely_asks s (asker_as a) (is_smb a.party) a.reclaim timely))
+timely_free : (s : CoreState) (a : Ask) (claim : Claim) → stands s a ≡ Timely → is_in_line s.waiters s claim ≡ false → IsFree s a claim
+timely_free s a claim timely free =
+    let parts = free_parts s.waiters s claim free in (
+      parts.0,
+      none_beside a claim s.claims (timely_asks s (asker_as a) (is_smb a.party) a.reclaim timely),
+      subst (λ (st : Standing). range_ahead (those_before st s.waiters) s claim ≡ None) (sym timely) parts.1,
+    )
+
+-- who reclaims has nobody in front
+back_free : (s : CoreState) (a : Ask) (claim : Claim) → stands s a ≡ Reclaims → (is_blocked s.claims claim ≡ false) × (list_any (λ c. blocks_its_cache (beside_of a.reclaim a.wish) claim c) s.claims ≡ false) → IsFree s a claim
+back_free s a claim is free = (free.0, free.1, subst (λ (st : Standing). range_ahead (those_before st s.waiters) s claim ≡ None) (sym is) (none_ahead s claim))
 
 -- what blocks a reclaim, and what doesn't
 pub reclaim_some : (beside : Option CacheKind) (claim c : Claim) (s : CoreState) → reclaim_blocker beside claim s ≡ Some c → IsIn c s.claims × ((blocks claim c || blocks_its_cache beside claim c) ≡ true)
@@ -242,16 +251,16 @@ lock_forth n left s a claim = by (stands s a) refl where
   last true in_time free grant may = (refl, in_time, free, grant_found left a.rows held bytes kept None grant, may)
   last false in_time free grant may = (in_time, free, grant_found left a.rows held bytes kept None grant, may)
 
-  may_wait_so : stands s a ≡ Timely → may_wait s.waiters s a claim ≡ true → is_blocked s.claims claim ≡ true → IsWaiting (stands s a) s.waiters s a claim
+  may_wait_so : stands s a ≡ Timely → may_wait s.waiters s a claim ≡ true → is_in_line s.waiters s claim ≡ true → IsWaiting (stands s a) s.waiters s a claim
   may_wait_so timely may blocked = subst (λ (st : Standing). IsWaiting st s.waiters s a claim) (sym timely) (may, blocked)
 
   go : stands s a ≡ Timely → (o k : Option Claim) (l : Option ℕ) (b u : Bool) → least_blocker s.waiters s claim ≡ o → cache_against s.claims claim ≡ k → first_passed (limits_of_grant left s a claim) ≡ l → a.blocking ≡ b → a.awaits ≡ u
       → IsClaimDue n left s a claim (told_by s a claim o k l b u (first_passed (limits_of_wait left s a)) (may_record n s (wanted s a)))
   go timely (Some c) k l true u is cache grant may answers =
       waiting (first_passed (limits_of_wait left s a)) (may_wait_so timely (may_stopped s.waiters s a claim (some_stops s.waiters s claim c is) may) (some_blocks s.waiters s claim c is)) refl
-  go timely (Some c) k l false u is cache grant may answers = let found = blockers_some s.waiters s claim c is in subst (λ (st : Standing). IsAgainst st s a claim c) (sym timely) (may, is, found.0, found.1)
+  go timely (Some c) k l false u is cache grant may answers = let found = blockers_some s.waiters s claim c is in subst (λ (st : Standing). IsAgainst st s a claim c) (sym timely) (may, is, found)
   go timely None (Some c) l b true is cache grant may answers =
-      waiting (first_passed (limits_of_wait left s a)) (may_wait_so timely (may_moves s.waiters s a claim (blockers_none s.waiters s claim is) answers) (cache_blocked s.claims claim c cache)) refl
+      waiting (first_passed (limits_of_wait left s a)) (may_wait_so timely (may_moves s.waiters s a claim (blockers_none s.waiters s claim is) answers) (blocked_in_line s.waiters s claim (cache_blocked s.claims claim c cache))) refl
   go timely None (Some c) l b false is cache grant may answers = let found = cache_some s.claims claim c cache in (timely, answers, blockers_none s.waiters s claim is, cache, found.0, found.1)
   go timely None None (Some limit) b u is cache grant may answers =
       inl (ap enters timely, timely_free s a claim timely (free_unless s.waiters s claim (blockers_none s.waiters s claim is) cache), grant_found left a.rows held bytes kept (Some limit) grant)
@@ -260,8 +269,8 @@ lock_forth n left s a claim = by (stands s a) refl where
 
   back : stands s a ≡ Reclaims → (o : Option Claim) (l : Option ℕ) → reclaim_blocker (beside_of a.reclaim a.wish) claim s ≡ o → first_passed (limits_of_grant left s a claim) ≡ l → IsClaimDue n left s a claim (told_back claim o l (may_record n s (wanted s a)))
   back is (Some c) l e grant = let found = reclaim_some (beside_of a.reclaim a.wish) claim c s e in subst (λ (st : Standing). IsAgainst st s a claim c) (sym is) (e, found.0, found.1)
-  back is None (Some limit) e grant = inl (ap enters is, reclaim_none (beside_of a.reclaim a.wish) claim s e, grant_found left a.rows held bytes kept (Some limit) grant)
-  back is None None e grant = last (may_record n s (wanted s a)) (ap enters is) (reclaim_none (beside_of a.reclaim a.wish) claim s e) grant refl
+  back is None (Some limit) e grant = inl (ap enters is, back_free s a claim is (reclaim_none (beside_of a.reclaim a.wish) claim s e), grant_found left a.rows held bytes kept (Some limit) grant)
+  back is None None e grant = last (may_record n s (wanted s a)) (ap enters is) (back_free s a claim is (reclaim_none (beside_of a.reclaim a.wish) claim s e)) grant refl
 
   by : (standing : Standing) → stands s a ≡ standing → IsClaimDue n left s a claim (told_standing n left s a claim standing)
   by Timely is = go is (least_blocker s.waiters s claim) (cache_against s.claims claim) (first_passed (limits_of_grant left s a claim)) a.blocking a.awaits refl refl refl refl refl
@@ -297,8 +306,11 @@ lock_back n left s a claim answer due = go answer due where
   back : (o : Option Claim) (l : Option ℕ) (m : Bool) → stands s a ≡ Reclaims → reclaim_blocker (beside_of a.reclaim a.wish) claim s ≡ o → first_passed (limits_of_grant left s a claim) ≡ l → may_record n s (wanted s a) ≡ m → told_standing n left s a claim (stands s a) ≡ told_back claim o l m
   back o l m is e f y = so Reclaims is ∙ (λ x. told_back claim (e x) (f x) (y x))
 
-  clear : is_blocked s.claims claim ≡ false → (least_blocker s.waiters s claim ≡ None) × (cache_against s.claims claim ≡ None)
-  clear free = (none_blockers s.waiters s claim (free_moves s.waiters s claim free), free_clear s.claims claim free)
+  clear : stands s a ≡ Timely → IsFree s a claim → (least_blocker s.waiters s claim ≡ None) × (cache_against s.claims claim ≡ None)
+  clear timely free = (
+    none_blockers s.waiters s claim (free_moves s.waiters s claim (free_from s.waiters s claim free.0 (subst (λ (st : Standing). range_ahead (those_before st s.waiters) s claim ≡ None) timely free.2))),
+    free_clear s.claims claim free.0,
+  )
 
   told_last : Option ℕ → Bool → Answer
   told_last None m = last_answer m claim
@@ -307,7 +319,7 @@ lock_back n left s a claim answer due = go answer due where
   -- what nothing blocks
   unblocked : (l : Option ℕ) (m : Bool) → enters (stands s a) ≡ true → IsFree s a claim → first_passed (limits_of_grant left s a claim) ≡ l → may_record n s (wanted s a) ≡ m → told_standing n left s a claim (stands s a) ≡ told_last l m
   unblocked l m in_time free grant may = elim (enters_cases (stands s a) in_time) [
-    | inl timely ↦ let none = clear free.0 in at None None l _ _ _ m timely none.0 none.1 grant refl refl refl may ∙ timely_last l
+    | inl timely ↦ let none = clear timely free in at None None l _ _ _ m timely none.0 none.1 grant refl refl refl may ∙ timely_last l
     | inr is ↦ back None l m is (none_reclaim (beside_of a.reclaim a.wish) claim s free.0 free.1) grant may ∙ back_last l
   ]
     where
@@ -320,7 +332,7 @@ lock_back n left s a claim answer due = go answer due where
       back_last (Some limit) = refl
 
   -- who waits for what is in its way
-  held_up : (limit : Option ℕ) → stands s a ≡ Timely → may_wait s.waiters s a claim ≡ true → is_blocked s.claims claim ≡ true → first_passed (limits_of_wait left s a) ≡ limit → told_standing n left s a claim (stands s a) ≡ told_wait s limit
+  held_up : (limit : Option ℕ) → stands s a ≡ Timely → may_wait s.waiters s a claim ≡ true → is_in_line s.waiters s claim ≡ true → first_passed (limits_of_wait left s a) ≡ limit → told_standing n left s a claim (stands s a) ≡ told_wait s limit
   held_up limit timely may blocked is = by (is_stopped s.waiters s claim) refl where
     by : (b : Bool) → is_stopped s.waiters s claim ≡ b → told_standing n left s a claim (stands s a) ≡ told_wait s limit
     by true stops = let found = stops_some s.waiters s claim stops in at (Some found.0) _ _ true _ limit _ timely found.1 refl refl (stopped_may s.waiters s a claim stops may) refl is refl
@@ -710,7 +722,7 @@ IsJudgedNow earlier p s (c ∷ cs) = does_wait earlier p s c ≡ false
 
 judged_at_once : (earlier : List Waiter) (p : Plea) (s : CoreState) (cs : List Claim) → IsJudgedNow earlier (at_once p) s cs
 judged_at_once earlier p s [] = tt
-judged_at_once earlier p s (c ∷ cs) = by (is_blocked s.claims c) (is_stopped earlier s c) where
+judged_at_once earlier p s (c ∷ cs) = by (is_in_line earlier s c) (is_stopped earlier s c) where
   by : (x y : Bool) → (x && (if y then false else false)) ≡ false
   by true true = refl
   by true false = refl
@@ -722,7 +734,7 @@ all_due earlier left p last [] s answer alone now is = is
 all_due earlier left p last (c ∷ cs) s answer alone now is = (
   λ d e. conflict d e,
   λ d moves e. recall d moves e,
-  λ limit free least. so None None (Some limit) (none_blockers earlier s c (free_moves earlier s c free)) (free_clear s.claims c free) (grant_least left p.rows (length (granted_claims c s.claims)) (bytes_with p.unrecorded s.stable) p.kept (Some limit) least),
+  λ limit free least. so None None (Some limit) (none_blockers earlier s c (free_moves earlier s c free)) (free_clear s.claims c (free_parts earlier s c free).0) (grant_least left p.rows (length (granted_claims c s.claims)) (bytes_with p.unrecorded s.stable) p.kept (Some limit) least),
   λ free room. all_due earlier left (at_once p) last cs (record s { claims = granted_claims c s.claims }) answer refl (judged_at_once earlier p (record s { claims = granted_claims c s.claims }) cs) (rest free room),
 )
   where
@@ -738,11 +750,11 @@ all_due earlier left p last (c ∷ cs) s answer alone now is = (
     stop : Option Claim → Option Claim → Option ℕ → Option Ruling
     stop o k l = or_else (or_else (option_map (stopped p) o) (or_else (option_map (kept_off p) k) (option_map full l))) later
 
-    so : (o k : Option Claim) (l : Option ℕ) → least s.names (blockers earlier s c) ≡ o → cache_against s.claims c ≡ k → first_passed limits ≡ l → tells last (stop o k l) answer
+    so : (o k : Option Claim) (l : Option ℕ) → blocker earlier s c ≡ o → cache_against s.claims c ≡ k → first_passed limits ≡ l → tells last (stop o k l) answer
     so o k l e f g =
         subst (λ (x : Option Claim). tells last (stop x k l) answer) e
-        (subst (λ (y : Option Claim). tells last (stop (least s.names (blockers earlier s c)) y l) answer) f
-        (subst (λ (z : Option ℕ). tells last (stop (least s.names (blockers earlier s c)) (cache_against s.claims c) z) answer) (looked_at ∙ g) is))
+        (subst (λ (y : Option Claim). tells last (stop (blocker earlier s c) y l) answer) f
+        (subst (λ (z : Option ℕ). tells last (stop (blocker earlier s c) (cache_against s.claims c) z) answer) (looked_at ∙ g) is))
 
     hurries_so : (x y z u : Bool) → x ≡ true → y ≡ true → (x && (if y then z else u)) ≡ false → z ≡ false
     hurries_so x y z u e f g = rw (e, f) at g
@@ -750,18 +762,18 @@ all_due earlier left p last (c ∷ cs) s answer alone now is = (
     moves_so : (x y z u : Bool) → x ≡ true → y ≡ false → (x && (if y then z else u)) ≡ false → u ≡ false
     moves_so x y z u e f g = rw (e, f) at g
 
-    conflict : (d : Claim) → least s.names (blockers earlier s c) ≡ Some d → answer ≡ answers.Conflict d
+    conflict : (d : Claim) → blocker earlier s c ≡ Some d → answer ≡ answers.Conflict d
     conflict d e =
-        let hurries : p.blocking ≡ false = hurries_so (is_blocked s.claims c) (is_stopped earlier s c) p.blocking p.awaits (some_blocks earlier s c d e) (some_stops earlier s c d e) now in
+        let hurries : p.blocking ≡ false = hurries_so (is_in_line earlier s c) (is_stopped earlier s c) p.blocking p.awaits (some_blocks earlier s c d e) (some_stops earlier s c d e) now in
         subst (λ (b : Bool). tells last (Some (if b then waits p.crowded else Told (answers.Conflict d))) answer) hurries (so (Some d) (cache_against s.claims c) (first_passed limits) e refl refl)
 
     recall : (d : Claim) → is_stopped earlier s c ≡ false → cache_against s.claims c ≡ Some d → answer ≡ answers.Recall d
     recall d moves e =
-        let hurries : p.awaits ≡ false = moves_so (is_blocked s.claims c) (is_stopped earlier s c) p.blocking p.awaits (cache_blocked s.claims c d e) moves now in
+        let hurries : p.awaits ≡ false = moves_so (is_in_line earlier s c) (is_stopped earlier s c) p.blocking p.awaits (blocked_in_line earlier s c (cache_blocked s.claims c d e)) moves now in
         subst (λ (b : Bool). tells last (Some (if b then waits p.crowded else Told (answers.Recall d))) answer) hurries (so None (Some d) (first_passed limits) (none_blockers earlier s c moves) e refl)
 
-    rest : is_blocked s.claims c ≡ false → IsRoom limits → tells last later answer
-    rest free room = so None None None (none_blockers earlier s c (free_moves earlier s c free)) (free_clear s.claims c free) (grant_least left p.rows (length (granted_claims c s.claims)) (bytes_with p.unrecorded s.stable) p.kept None room)
+    rest : is_in_line earlier s c ≡ false → IsRoom limits → tells last later answer
+    rest free room = so None None None (none_blockers earlier s c (free_moves earlier s c free)) (free_clear s.claims c (free_parts earlier s c free).0) (grant_least left p.rows (length (granted_claims c s.claims)) (bytes_with p.unrecorded s.stable) p.kept None room)
 
 -- each of these is judged beside those before it, where the first isn't waited for
 pub row_due : (earlier : List Waiter) (left : Rooms) (p : Plea) (last : Answer) (cs : List Claim) (s : CoreState) (answer : Answer) (c : Claim) (rest : List Claim) → cs ≡ c ∷ rest → p.beside ≡ None → does_wait earlier p s c ≡ false → tells last (first_stop earlier left p cs s) answer → IsEachBehind earlier left p.rows (bytes_with p.unrecorded s.stable) p.kept last cs s answer
@@ -807,35 +819,39 @@ graced_due n left s a c cs r out is = as_one n left s a c cs r (by p.standing re
   by Unrecorded e = stops (Told answers.NotRecorded) (ap (graced p) e)
 
 -- the first is told so where something blocks it, whatever is asked for behind it
-pub first_due : (n : ℕ) (left : Rooms) (s : CoreState) (a : Ask) (c : Claim) (cs : List Claim) (r : Answered) → is_blocked s.claims c ≡ true → r ≡ claims_asked n left s a (c ∷ cs) → IsClaimDue n left s a c r.0
+pub first_due : (n : ℕ) (left : Rooms) (s : CoreState) (a : Ask) (c : Claim) (cs : List Claim) (r : Answered) → is_in_line (those_before (stands s a) s.waiters) s c ≡ true → r ≡ claims_asked n left s a (c ∷ cs) → IsClaimDue n left s a c r.0
 first_due n left s a c cs r blocked is = elim (cases_Bool (enters (stands s a))) [
   | inr out ↦ graced_due n left s a c cs r out is
-  | inl in_time ↦ as_one n left s a c cs r (elim (enters_cases (stands s a) in_time) [ inl timely ↦ by ((pleads left s a).0 ∙ timely) (is_stopped s.waiters s c) refl | inr back ↦ reclaims ((pleads left s a).0 ∙ back) ]) is
+  | inl in_time ↦ as_one n left s a c cs r (elim (enters_cases (stands s a) in_time) [
+    | inl timely ↦ by ((pleads left s a).0 ∙ timely) (subst (λ (st : Standing). is_in_line (those_before st s.waiters) s c ≡ true) timely blocked) (is_stopped s.waiters s c) refl
+    | inr back ↦ reclaims ((pleads left s a).0 ∙ back) (subst (λ (st : Standing). is_in_line (those_before st s.waiters) s c ≡ true) back blocked)
+  ]) is
 ]
   where
     p : Plea
     p = plea_of left s a
 
-    by : p.standing ≡ Timely → (b : Bool) → is_stopped s.waiters s c ≡ b → judged n s.waiters left p (c ∷ cs) s ≡ judged n s.waiters left p (c ∷ []) s
-    by timely true stops = let found = stops_some s.waiters s c stops in judged_stopped n s.waiters left p c found.0 cs s timely found.1 ∙ sym (judged_stopped n s.waiters left p c found.0 [] s timely found.1)
-    by timely false moves =
-        let found = moves_cache s.waiters s c blocked moves in
+    by : p.standing ≡ Timely → is_in_line s.waiters s c ≡ true → (b : Bool) → is_stopped s.waiters s c ≡ b → judged n s.waiters left p (c ∷ cs) s ≡ judged n s.waiters left p (c ∷ []) s
+    by timely line true stops = let found = stops_some s.waiters s c stops in judged_stopped n s.waiters left p c found.0 cs s timely found.1 ∙ sym (judged_stopped n s.waiters left p c found.0 [] s timely found.1)
+    by timely line false moves =
+        let found = moves_cache s.waiters s c line moves in
         let none = none_blockers s.waiters s c moves in
         judged_kept_off n s.waiters left p c found.0 cs s timely none found.1 ∙ sym (judged_kept_off n s.waiters left p c found.0 [] s timely none found.1)
 
-    reclaims : p.standing ≡ Reclaims → judged n s.waiters left p (c ∷ cs) s ≡ judged n s.waiters left p (c ∷ []) s
-    reclaims back = so (reclaim_blocker p.beside c s) refl where
+    reclaims : p.standing ≡ Reclaims → is_in_line [] s c ≡ true → judged n s.waiters left p (c ∷ cs) s ≡ judged n s.waiters left p (c ∷ []) s
+    reclaims back line = so (reclaim_blocker p.beside c s) refl where
       so : (o : Option Claim) → reclaim_blocker p.beside c s ≡ o → judged n s.waiters left p (c ∷ cs) s ≡ judged n s.waiters left p (c ∷ []) s
-      so None e = absurd (both_ways (is_blocked s.claims c) (reclaim_none p.beside c s e).0 blocked)
+      so None e = absurd (both_ways (is_in_line [] s c) (free_from [] s c (reclaim_none p.beside c s e).0 (none_ahead s c)) line)
       so (Some d) e = judged_conflicts n s.waiters left p c d cs s back e ∙ sym (judged_conflicts n s.waiters left p c d [] s back e)
 
 -- each of several is judged beside those before it, where nothing blocks the first
-pub each_due : (n : ℕ) (left : Rooms) (s : CoreState) (a : Ask) (c d : Claim) (cs : List Claim) (r : Answered) → stands s a ≡ Timely → is_blocked s.claims c ≡ false → r ≡ claims_asked n left s a (c ∷ d ∷ cs) → IsEachDue left s a c (c ∷ d ∷ cs) r.0
+pub each_due : (n : ℕ) (left : Rooms) (s : CoreState) (a : Ask) (c d : Claim) (cs : List Claim) (r : Answered) → stands s a ≡ Timely → is_in_line s.waiters s c ≡ false → r ≡ claims_asked n left s a (c ∷ d ∷ cs) → IsEachDue left s a c (c ∷ d ∷ cs) r.0
 unfolding claims_asked plea_of
 each_due n left s a c d cs r timely free is =
-    row_due s.waiters left p (answers.Granted c) (c ∷ d ∷ cs) s r.0 c (d ∷ cs) refl (ap (λ (b : Bool). beside_of b a.wish) (timely_asks s (asker_as a) (is_smb a.party) a.reclaim timely))
+    subst (λ (st : Standing). IsEachBehind (those_before st s.waiters) left a.rows (bytes_with (wanted s a) s.stable) (length (both_entered a s.names)) (answers.Granted c) (c ∷ d ∷ cs) s r.0) (sym timely)
+    (row_due s.waiters left p (answers.Granted c) (c ∷ d ∷ cs) s r.0 c (d ∷ cs) refl (ap (λ (b : Bool). beside_of b a.wish) (timely_asks s (asker_as a) (is_smb a.party) a.reclaim timely))
     (ap (λ (b : Bool). b && (if is_stopped s.waiters s c then a.blocking else a.awaits)) free)
-    (subst (λ (x : Answer). tells (answers.Granted c) (first_stop s.waiters left p (c ∷ d ∷ cs) s) x) (sym (ap first_is is ∙ ap (λ (x : Ruled). (answered a (c ∷ d ∷ cs) c x.0 x.1 x.2).0) (judged_row n s.waiters left p (c ∷ d ∷ cs) s timely))) (by (first_stop s.waiters left p (c ∷ d ∷ cs) s)))
+    (subst (λ (x : Answer). tells (answers.Granted c) (first_stop s.waiters left p (c ∷ d ∷ cs) s) x) (sym (ap first_is is ∙ ap (λ (x : Ruled). (answered a (c ∷ d ∷ cs) c x.0 x.1 x.2).0) (judged_row n s.waiters left p (c ∷ d ∷ cs) s timely))) (by (first_stop s.waiters left p (c ∷ d ∷ cs) s))))
   where
     p : Plea
     p = plea_of left s a

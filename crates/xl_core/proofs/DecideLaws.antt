@@ -1,7 +1,7 @@
 -- What blocks an ask: for good, or a cache that a break may move.
-use Rattle.std.proofs.Common.{◌≡◌, Bool, true, false, not, ◌&&◌, List, [], ◌∷◌, Option, Some, None, inl, inr, refl, subst, map, IfSome, IsSome, sym, is_some}
+use Rattle.std.proofs.Common.{◌≡◌, Bool, true, false, not, ◌&&◌, if◌then◌else◌, List, [], ◌∷◌, ◌++◌, Option, Some, None, inl, inr, refl, subst, map, IfSome, IsSome, sym, ap, is_some, ◌∙◌}
 use Rattle.std.specs.List.{filter, list_any}
-use Rattle.std.proofs.lemmas.Bool.{cases_Bool, both_ways, and_parts, and_from, or_cases, or_left, not-true}
+use Rattle.std.proofs.lemmas.Bool.{cases_Bool, both_ways, and_parts, and_from, or_cases, or_left, or_right, or_parts, not-true}
 use Rattle.xl_base.specs.Lists.{IsIn}
 use Rattle.xl_base.proofs.Members.{in_filter_from}
 use Rattle.xl_base.proofs.Searches.{any_found, any_none, none_passes as none_pass}
@@ -12,46 +12,164 @@ use Rattle.xl_matrix.specs.Equal.{same_parties}
 use Rattle.xl_matrix.specs.declared.claim.CacheKind.{CacheKind}
 use Rattle.xl_matrix.specs.declared.claim.Claim.{Claim}
 use Rattle.xl_table.specs.Flat.{blocks, is_blocked}
-use Rattle.xl_table.specs.Held.{is_share, is_cache}
+use Rattle.xl_table.specs.Held.{is_share, is_range, is_cache}
 use Rattle.xl_table.specs.Least.{least}
 use Rattle.xl_table.proofs.LeastLaws.{least_in, least_none, least_empty, none_passes, none_stays, one_passes}
+use Rattle.xl_wait.specs.Waiting.{first_file, is_file, waiting_on}
 use Rattle.xl_wait.specs.declared.waiter.Waiter.{Waiter}
 use Rattle.xl_core.specs.State.{CoreState}
-use Rattle.xl_core.specs.Blockers.{blockers, is_stopped, first_broken, cache_by, all_run, cache_against}
+use Rattle.xl_core.specs.Blockers.{held_blockers, is_barred, is_against, waits_for_asker, ranges_of, ranges_of_all, ranges_ahead, first_claim, range_ahead, is_stopped, first_of, blocker, is_in_line, first_broken, cache_by, all_run, cache_against}
+use Rattle.xl_core.specs.Causes.{IsBarring}
 
--- ---- for good
+no_range : (o : Option Claim) → is_some o ≡ false → o ≡ None
+no_range None e = refl
+no_range (Some c) e = absurd (both_ways true e refl)
 
-pub blockers_none : (earlier : List Waiter) (s : CoreState) (ask : Claim) → least s.names (blockers earlier s ask) ≡ None → is_stopped earlier s ask ≡ false
-unfolding blockers
-blockers_none earlier s ask e = none_passes (is_final ask s.claims) s.claims (least_none s.names (filter (is_final ask s.claims) s.claims) e)
+-- ---- what is held
 
-pub none_blockers : (earlier : List Waiter) (s : CoreState) (ask : Claim) → is_stopped earlier s ask ≡ false → least s.names (blockers earlier s ask) ≡ None
-unfolding blockers
-none_blockers earlier s ask free = least_empty s.names (filter (is_final ask s.claims) s.claims) (none_stays (is_final ask s.claims) s.claims free)
+pub held_none : (s : CoreState) (ask : Claim) → least s.names (held_blockers s ask) ≡ None → is_barred s ask ≡ false
+unfolding held_blockers
+held_none s ask e = none_passes (is_final ask s.claims) s.claims (least_none s.names (filter (is_final ask s.claims) s.claims) e)
 
-pub final_in : (earlier : List Waiter) (s : CoreState) (ask c : Claim) → least s.names (blockers earlier s ask) ≡ Some c → IsIn c s.claims × (is_final ask s.claims c ≡ true)
-unfolding blockers
-final_in earlier s ask c e = in_filter_from (is_final ask s.claims) c s.claims (least_in s.names (filter (is_final ask s.claims) s.claims) c e)
+pub none_held : (s : CoreState) (ask : Claim) → is_barred s ask ≡ false → least s.names (held_blockers s ask) ≡ None
+unfolding held_blockers
+none_held s ask free = least_empty s.names (filter (is_final ask s.claims) s.claims) (none_stays (is_final ask s.claims) s.claims free)
 
-pub blockers_some : (earlier : List Waiter) (s : CoreState) (ask c : Claim) → least s.names (blockers earlier s ask) ≡ Some c → IsIn c s.claims × (blocks ask c ≡ true)
-blockers_some earlier s ask c e = let found = final_in earlier s ask c e in (found.0, (and_parts (blocks ask c) _ found.1).0)
+pub final_in : (s : CoreState) (ask c : Claim) → least s.names (held_blockers s ask) ≡ Some c → IsIn c s.claims × (is_final ask s.claims c ≡ true)
+unfolding held_blockers
+final_in s ask c e = in_filter_from (is_final ask s.claims) c s.claims (least_in s.names (filter (is_final ask s.claims) s.claims) c e)
 
-pub some_stops : (earlier : List Waiter) (s : CoreState) (ask c : Claim) → least s.names (blockers earlier s ask) ≡ Some c → is_stopped earlier s ask ≡ true
-some_stops earlier s ask c e = let found = final_in earlier s ask c e in one_passes (is_final ask s.claims) s.claims c found.0 found.1
+pub held_some : (s : CoreState) (ask c : Claim) → least s.names (held_blockers s ask) ≡ Some c → IsIn c s.claims × (blocks ask c ≡ true)
+held_some s ask c e = let found = final_in s ask c e in (found.0, (and_parts (blocks ask c) _ found.1).0)
 
-pub some_blocks : (earlier : List Waiter) (s : CoreState) (ask c : Claim) → least s.names (blockers earlier s ask) ≡ Some c → is_blocked s.claims ask ≡ true
-some_blocks earlier s ask c e = let found = blockers_some earlier s ask c e in one_passes (λ d. blocks ask d) s.claims c found.0 found.1
+pub held_bars : (s : CoreState) (ask c : Claim) → least s.names (held_blockers s ask) ≡ Some c → is_barred s ask ≡ true
+held_bars s ask c e = let found = final_in s ask c e in one_passes (is_final ask s.claims) s.claims c found.0 found.1
 
-pub stops_some : (earlier : List Waiter) (s : CoreState) (ask : Claim) → is_stopped earlier s ask ≡ true → (c : Claim) × (least s.names (blockers earlier s ask) ≡ Some c)
-stops_some earlier s ask stopped = go (least s.names (blockers earlier s ask)) refl where
-  go : (o : Option Claim) → least s.names (blockers earlier s ask) ≡ o → (c : Claim) × (least s.names (blockers earlier s ask) ≡ Some c)
+pub barred_blocked : (s : CoreState) (ask : Claim) → is_barred s ask ≡ true → is_blocked s.claims ask ≡ true
+barred_blocked s ask h =
+    let found = any_found (is_final ask s.claims) s.claims h in
+    one_passes (λ d. blocks ask d) s.claims found.0 found.1 (and_parts (blocks ask found.0) _ found.2).0
+
+-- ---- for good, behind some who wait
+
+-- what is named is held, or nothing held blocks for good and a range that is waited for is
+pub blocker_by : (earlier : List Waiter) (s : CoreState) (ask : Claim) (o : Option Claim) → least s.names (held_blockers s ask) ≡ o → blocker earlier s ask ≡ first_of o (range_ahead earlier s ask)
+unfolding blocker
+blocker_by earlier s ask o e = ap (λ (x : Option Claim). first_of x (range_ahead earlier s ask)) e
+
+pub blockers_none : (earlier : List Waiter) (s : CoreState) (ask : Claim) → blocker earlier s ask ≡ None → is_stopped earlier s ask ≡ false
+blockers_none earlier s ask e = by (least s.names (held_blockers s ask)) refl where
+  by : (o : Option Claim) → least s.names (held_blockers s ask) ≡ o → is_stopped earlier s ask ≡ false
+  by (Some d) is = let two : Some d ≡ None = sym (blocker_by earlier s ask (Some d) is) ∙ e in absurd cc
+  by None is = rw (held_none s ask is) (ap is_some (sym (blocker_by earlier s ask None is) ∙ e))
+
+pub none_blockers : (earlier : List Waiter) (s : CoreState) (ask : Claim) → is_stopped earlier s ask ≡ false → blocker earlier s ask ≡ None
+none_blockers earlier s ask free =
+    let parts = or_parts (is_barred s ask) (is_some (range_ahead earlier s ask)) free in
+    blocker_by earlier s ask None (none_held s ask parts.0) ∙ no_range (range_ahead earlier s ask) parts.1
+
+pub some_stops : (earlier : List Waiter) (s : CoreState) (ask c : Claim) → blocker earlier s ask ≡ Some c → is_stopped earlier s ask ≡ true
+some_stops earlier s ask c e = by (least s.names (held_blockers s ask)) refl where
+  by : (o : Option Claim) → least s.names (held_blockers s ask) ≡ o → is_stopped earlier s ask ≡ true
+  by (Some d) is = or_left (is_barred s ask) (is_some (range_ahead earlier s ask)) (held_bars s ask d is)
+  by None is = or_right (is_barred s ask) (is_some (range_ahead earlier s ask)) (ap is_some (sym (blocker_by earlier s ask None is) ∙ e))
+
+pub stopped_in_line : (earlier : List Waiter) (s : CoreState) (ask : Claim) → is_stopped earlier s ask ≡ true → is_in_line earlier s ask ≡ true
+stopped_in_line earlier s ask h =
+    elim (or_cases (is_barred s ask) (is_some (range_ahead earlier s ask)) h) [
+      | inl barred ↦ or_left (is_blocked s.claims ask) (is_some (range_ahead earlier s ask)) (barred_blocked s ask barred)
+      | inr behind ↦ or_right (is_blocked s.claims ask) (is_some (range_ahead earlier s ask)) behind
+    ]
+
+pub some_blocks : (earlier : List Waiter) (s : CoreState) (ask c : Claim) → blocker earlier s ask ≡ Some c → is_in_line earlier s ask ≡ true
+some_blocks earlier s ask c e = stopped_in_line earlier s ask (some_stops earlier s ask c e)
+
+pub blocked_in_line : (earlier : List Waiter) (s : CoreState) (ask : Claim) → is_blocked s.claims ask ≡ true → is_in_line earlier s ask ≡ true
+blocked_in_line earlier s ask blocked = or_left (is_blocked s.claims ask) (is_some (range_ahead earlier s ask)) blocked
+
+pub stops_some : (earlier : List Waiter) (s : CoreState) (ask : Claim) → is_stopped earlier s ask ≡ true → (c : Claim) × (blocker earlier s ask ≡ Some c)
+stops_some earlier s ask stopped = go (blocker earlier s ask) refl where
+  go : (o : Option Claim) → blocker earlier s ask ≡ o → (c : Claim) × (blocker earlier s ask ≡ Some c)
   go None e = absurd (both_ways (is_stopped earlier s ask) (blockers_none earlier s ask e) stopped)
   go (Some c) e = (c, e)
 
--- something does where there is a least
-pub stopped_is : (earlier : List Waiter) (s : CoreState) (ask : Claim) (o : Option Claim) → ((before : List Waiter) → o ≡ least s.names (blockers before s ask)) → is_some o ≡ is_stopped earlier s ask
-stopped_is earlier s ask None e = sym (blockers_none earlier s ask (sym (e earlier)))
-stopped_is earlier s ask (Some c) e = sym (some_stops earlier s ask c (sym (e earlier)))
+-- something does where one is named
+pub stopped_is : (earlier : List Waiter) (s : CoreState) (ask : Claim) (o : Option Claim) → o ≡ blocker earlier s ask → is_some o ≡ is_stopped earlier s ask
+stopped_is earlier s ask None e = sym (blockers_none earlier s ask (sym e))
+stopped_is earlier s ask (Some c) e = sym (some_stops earlier s ask c (sym e))
+
+-- ---- the range that is named
+
+found_against : (ask c : Claim) (asked : List Claim) → first_claim (filter (is_against ask) asked) ≡ Some c → IsIn c asked × (is_against ask c ≡ true)
+found_against ask c asked e = by asked e where
+  same : (x y : Claim) → Some x ≡ Some y → x ≡ y
+  same x y k = cc
+
+  by : (cs : List Claim) → first_claim (filter (is_against ask) cs) ≡ Some c → IsIn c cs × (is_against ask c ≡ true)
+  by [] k = absurd cc
+  by (d ∷ ds) k =
+      elim (cases_Bool (is_against ask d)) [
+        | inl here ↦ let is : d ≡ c = same d c (sym (rw here refl) ∙ k) in (inl is, subst (λ (x : Claim). is_against ask x ≡ true) is here)
+        | inr off ↦ let behind = by ds (sym (rw off refl) ∙ k) in (inr behind.0, behind.1)
+      ]
+
+first_append : (xs ys : List Claim) → first_claim (xs ++ ys) ≡ first_of (first_claim xs) (first_claim ys)
+first_append [] ys = refl
+first_append (x ∷ xs) ys = refl
+
+-- one of these who wait asks for it, and doesn't wait for the asker
+pub record IsAskedAhead (held : List Claim) (ask c : Claim) (ws : List Waiter) : Type 0 where
+  pub waiter : Waiter
+  pub waits : IsIn waiter ws
+  pub asks : IsIn c waiter.asked
+  pub against : is_against ask c ≡ true
+  pub stays : waits_for_asker held ask waiter ≡ false
+
+asked_ahead : (held : List Claim) (ask c : Claim) (ws : List Waiter) → first_claim (ranges_of_all held ask ws) ≡ Some c → IsAskedAhead held ask c ws
+asked_ahead held ask c [] e = absurd cc
+asked_ahead held ask c (w ∷ ws) e = by (first_claim (ranges_of held ask w)) refl (sym (first_append (ranges_of held ask w) (ranges_of_all held ask ws)) ∙ e) (λ k. asked_ahead held ask c ws k) where
+  same : (x y : Claim) → Some x ≡ Some y → x ≡ y
+  same x y k = cc
+
+  here : first_claim (ranges_of held ask w) ≡ Some c → IsAskedAhead held ask c (w ∷ ws)
+  here k = elim (cases_Bool (waits_for_asker held ask w)) [
+    | inl waits ↦ let none : None ≡ Some c = sym (rw waits refl) ∙ k in absurd cc
+    | inr stays ↦
+        let found = found_against ask c w.asked (sym (rw stays refl) ∙ k) in
+        record { waiter = w; waits = inl refl; asks = found.0; against = found.1; stays = stays }
+  ]
+
+  by : (o : Option Claim) → first_claim (ranges_of held ask w) ≡ o → first_of o (first_claim (ranges_of_all held ask ws)) ≡ Some c → (first_claim (ranges_of_all held ask ws) ≡ Some c → IsAskedAhead held ask c ws) → IsAskedAhead held ask c (w ∷ ws)
+  by (Some d) is k rest = here (is ∙ k)
+  by None is k rest = let behind = rest k in record { waiter = behind.waiter; waits = inr behind.waits; asks = behind.asks; against = behind.against; stays = behind.stays }
+
+-- what is named as a range that is waited for is one
+pub range_is : (earlier : List Waiter) (s : CoreState) (ask c : Claim) → range_ahead earlier s ask ≡ Some c → IsAskedAhead s.claims ask c earlier × (is_range ask.what ≡ true)
+unfolding range_ahead ranges_ahead
+range_is earlier s ask c e = elim (cases_Bool (is_range ask.what)) [
+  | inr off ↦ let none : None ≡ Some c = sym (rw off refl) ∙ e in absurd cc
+  | inl on ↦
+      let found = asked_ahead s.claims ask c (waiting_on ask.file earlier) (sym (rw on refl) ∙ e) in (
+        record { waiter = found.waiter; waits = (in_filter_from (λ w. is_file ask.file (first_file w.asked)) found.waiter earlier found.waits).0; asks = found.asks; against = found.against; stays = found.stays },
+        on,
+      )
+]
+
+-- where no range stands in front what is named is the least that is held
+pub named_is_held : (earlier : List Waiter) (s : CoreState) (ask c : Claim) → range_ahead earlier s ask ≡ None → blocker earlier s ask ≡ Some c → least s.names (held_blockers s ask) ≡ Some c
+named_is_held earlier s ask c none e = by (least s.names (held_blockers s ask)) refl where
+  by : (o : Option Claim) → least s.names (held_blockers s ask) ≡ o → least s.names (held_blockers s ask) ≡ Some c
+  by (Some d) is = is ∙ sym (blocker_by earlier s ask (Some d) is) ∙ e
+  by None is = let two : None ≡ Some c = sym none ∙ sym (blocker_by earlier s ask None is) ∙ e in absurd cc
+
+-- so what is named is held and blocks the ask, or is such a range
+pub blockers_some : (earlier : List Waiter) (s : CoreState) (ask c : Claim) → blocker earlier s ask ≡ Some c → IsBarring earlier s ask c
+blockers_some earlier s ask c e = by (least s.names (held_blockers s ask)) refl where
+  by : (o : Option Claim) → least s.names (held_blockers s ask) ≡ o → IsBarring earlier s ask c
+  by (Some d) is = inl (held_some s ask c (is ∙ sym (blocker_by earlier s ask (Some d) is) ∙ e))
+  by None is =
+      let range = range_is earlier s ask c (sym (blocker_by earlier s ask None is) ∙ e) in
+      inr (record { waiter = range.0.waiter; waits = range.0.waits; asks = range.0.asks; range = range.1; against = range.0.against; stays = range.0.stays; unbarred = held_none s ask is })
 
 -- ---- caches
 
@@ -131,29 +249,44 @@ cache_none held ask c e there way =
 
 -- ---- both
 
-pub stopped_blocked : (earlier : List Waiter) (s : CoreState) (ask : Claim) → is_stopped earlier s ask ≡ true → is_blocked s.claims ask ≡ true
-stopped_blocked earlier s ask h =
-    let found = any_found (is_final ask s.claims) s.claims h in
-    one_passes (λ d. blocks ask d) s.claims found.0 found.1 (and_parts (blocks ask found.0) _ found.2).0
-
 pub cache_blocked : (held : List Claim) (ask c : Claim) → cache_against held ask ≡ Some c → is_blocked held ask ≡ true
 cache_blocked held ask c e = let found = cache_some held ask c e in obstacle_blocks ask held c found.0 found.1
 
 -- what neither blocks for good nor by a cache is free
-pub free_unless : (earlier : List Waiter) (s : CoreState) (ask : Claim) → is_stopped earlier s ask ≡ false → cache_against s.claims ask ≡ None → is_blocked s.claims ask ≡ false
-free_unless earlier s ask moves clear =
+pub unbarred_free : (s : CoreState) (ask : Claim) → is_barred s ask ≡ false → cache_against s.claims ask ≡ None → is_blocked s.claims ask ≡ false
+unbarred_free s ask moves clear =
     any_none (blocks ask) s.claims (λ c there.
     elim (cases_Bool (blocks ask c)) [
       | inr e ↦ e
       | inl b ↦ let way = blocks_so ask s.claims c there b (none_pass (is_final ask s.claims) c s.claims moves there) in absurd (cache_none s.claims ask way.0 clear way.1 way.2)
     ])
 
-pub free_moves : (earlier : List Waiter) (s : CoreState) (ask : Claim) → is_blocked s.claims ask ≡ false → is_stopped earlier s ask ≡ false
+pub free_unless : (earlier : List Waiter) (s : CoreState) (ask : Claim) → is_stopped earlier s ask ≡ false → cache_against s.claims ask ≡ None → is_in_line earlier s ask ≡ false
+free_unless earlier s ask moves clear =
+    let parts = or_parts (is_barred s ask) (is_some (range_ahead earlier s ask)) moves in
+    rw (unbarred_free s ask parts.0 clear) parts.1
+
+pub free_moves : (earlier : List Waiter) (s : CoreState) (ask : Claim) → is_in_line earlier s ask ≡ false → is_stopped earlier s ask ≡ false
 free_moves earlier s ask free =
     elim (cases_Bool (is_stopped earlier s ask)) [
       | inr e ↦ e
-      | inl stopped ↦ absurd (both_ways (is_blocked s.claims ask) free (stopped_blocked earlier s ask stopped))
+      | inl stopped ↦ absurd (both_ways (is_in_line earlier s ask) free (stopped_in_line earlier s ask stopped))
     ]
+
+-- of what waits in front and of what is held
+pub free_parts : (earlier : List Waiter) (s : CoreState) (ask : Claim) → is_in_line earlier s ask ≡ false → (is_blocked s.claims ask ≡ false) × (range_ahead earlier s ask ≡ None)
+free_parts earlier s ask free = let parts = or_parts (is_blocked s.claims ask) (is_some (range_ahead earlier s ask)) free in (parts.0, no_range (range_ahead earlier s ask) parts.1)
+
+pub free_from : (earlier : List Waiter) (s : CoreState) (ask : Claim) → is_blocked s.claims ask ≡ false → range_ahead earlier s ask ≡ None → is_in_line earlier s ask ≡ false
+free_from earlier s ask free none = rw free (ap is_some none)
+
+-- nobody waits in front of nobody
+pub none_ahead : (s : CoreState) (ask : Claim) → range_ahead [] s ask ≡ None
+unfolding range_ahead ranges_ahead
+none_ahead s ask = by (is_range ask.what) where
+  by : (b : Bool) → first_claim (if b then [] else []) ≡ None
+  by true = refl
+  by false = refl
 
 pub free_clear : (held : List Claim) (ask : Claim) → is_blocked held ask ≡ false → cache_against held ask ≡ None
 free_clear held ask free = by (cache_against held ask) refl where
@@ -162,8 +295,15 @@ free_clear held ask free = by (cache_against held ask) refl where
   by (Some c) e = absurd (both_ways (is_blocked held ask) free (cache_blocked held ask c e))
 
 -- what blocks, and not for good, is a cache's doing
-pub moves_cache : (earlier : List Waiter) (s : CoreState) (ask : Claim) → is_blocked s.claims ask ≡ true → is_stopped earlier s ask ≡ false → (c : Claim) × (cache_against s.claims ask ≡ Some c)
-moves_cache earlier s ask blocked moves = by (cache_against s.claims ask) refl where
+pub moves_blocked : (earlier : List Waiter) (s : CoreState) (ask : Claim) → is_in_line earlier s ask ≡ true → is_stopped earlier s ask ≡ false → is_blocked s.claims ask ≡ true
+moves_blocked earlier s ask line moves =
+    elim (or_cases (is_blocked s.claims ask) (is_some (range_ahead earlier s ask)) line) [
+      | inl blocked ↦ blocked
+      | inr behind ↦ absurd (both_ways (is_some (range_ahead earlier s ask)) (or_parts (is_barred s ask) (is_some (range_ahead earlier s ask)) moves).1 behind)
+    ]
+
+pub moves_cache : (earlier : List Waiter) (s : CoreState) (ask : Claim) → is_in_line earlier s ask ≡ true → is_stopped earlier s ask ≡ false → (c : Claim) × (cache_against s.claims ask ≡ Some c)
+moves_cache earlier s ask line moves = by (cache_against s.claims ask) refl where
   by : (o : Option Claim) → cache_against s.claims ask ≡ o → (c : Claim) × (cache_against s.claims ask ≡ Some c)
-  by None e = absurd (both_ways (is_blocked s.claims ask) (free_unless earlier s ask moves e) blocked)
+  by None e = absurd (both_ways (is_in_line earlier s ask) (free_unless earlier s ask moves e) line)
   by (Some c) e = (c, e)

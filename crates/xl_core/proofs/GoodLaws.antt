@@ -39,7 +39,7 @@ use Rattle.xl_spans.specs.declared.span.Span.{Span}
 use Rattle.xl_table.specs.Leaving.{goes}
 use Rattle.xl_table.specs.declared.leaver.Leaver.{Leaver}
 use Rattle.xl_table.specs.declared.leaver.Leaver.TheVariants as leavers
-use Rattle.xl_table.specs.Flat.{removed, is_blocked}
+use Rattle.xl_table.specs.Flat.{removed}
 use Rattle.xl_table.specs.Held.{is_share, is_of, spans_of, has_one_party}
 use Rattle.xl_table.specs.Relock.{most_claims, holds_byte, granted_claims}
 use Rattle.xl_table.proofs.FlatLaws.{all_removed, pairwise_removed}
@@ -61,7 +61,7 @@ use Rattle.xl_core.specs.Askers.{both_entered, asked_whats, asked_claim, asked_c
 use Rattle.xl_core.specs.Causes.{limits_of_wait, may_wait, left_by_unlock, IsEachBehind, held_once, IsWaiting, wanted, name_waiting, last_answer}
 use Rattle.xl_core.specs.Decide.{Answered, plea_of, waiter_of, waiting, named, answered, claims_asked, unlocked_claims, unlocked_bytes, unlocked, wish_by, wish_asked, acted, decided, way, before_wish, does_wish, ask, freed, unlocked_one, is_back, wish_graced}
 use Rattle.xl_core.specs.Good.{are_kept, IsKnown, IsHeld, is_single, are_apart, IsPled, IsWished, IsWaiter, IsGood, AllBehind, is_held_up, holds_up, IsUp, of_first}
-use Rattle.xl_core.specs.Blockers.{is_stopped, all_run}
+use Rattle.xl_core.specs.Blockers.{is_in_line, is_stopped, all_run}
 use Rattle.xl_core.specs.Ways.{made_way}
 use Rattle.xl_core.specs.Wishes.{wish_for, has_room, wished_kind}
 use Rattle.xl_core.specs.declared.ask.Who.{Who}
@@ -200,7 +200,7 @@ ask_case n left s a c cs = by r.0 r.1 r.2 (judged_ruled n s.waiters left (plea_o
   waits_for why =
       elim why [
         | inl stays ↦ subst (λ (st : Standing). IsWaiting st s.waiters s a c) (sym stays) tt
-        | inr timely ↦ subst (λ (st : Standing). IsWaiting st s.waiters s a c) (sym timely.0) (waits_so (is_blocked s.claims c) (is_stopped s.waiters s c) a.blocking a.awaits timely.1)
+        | inr timely ↦ subst (λ (st : Standing). IsWaiting st s.waiters s a c) (sym timely.0) (waits_so (is_in_line s.waiters s c) (is_stopped s.waiters s c) a.blocking a.awaits timely.1)
       ]
 
   by : (ruling : Ruling) (told : List Effect) (t : CoreState) → IsRuled n s.waiters left (plea_of left s a) (c ∷ cs) s ruling told t → AskCase n left s a (c ∷ cs) c (answered a (c ∷ cs) c ruling told t)
@@ -591,16 +591,16 @@ waits_up earlier s w c cs calm asked free waits = by (is_stopped earlier s c) re
 
   by : (b : Bool) → is_stopped earlier s c ≡ b → is_held_up earlier t w c ≡ true
   by true stops =
-      let now : (is_blocked s.claims c && (if is_stopped earlier s c then w.blocking else true)) ≡ true = subst (λ (x : CoreState). (is_blocked x.claims c && (if is_stopped earlier x c then w.blocking else true)) ≡ true) (same stops) waits in
-      absurd (both_ways (is_held_up earlier s w c) free (firm (is_blocked s.claims c) (is_stopped earlier s c) w.blocking (all_run s.claims c) stops now))
+      let now : (is_in_line earlier s c && (if is_stopped earlier s c then w.blocking else true)) ≡ true = subst (λ (x : CoreState). (is_in_line earlier x c && (if is_stopped earlier x c then w.blocking else true)) ≡ true) (same stops) waits in
+      absurd (both_ways (is_held_up earlier s w c) free (firm (is_in_line earlier s c) (is_stopped earlier s c) w.blocking (all_run s.claims c) stops now))
   by false moves =
-      up (is_blocked t.claims c) (is_stopped earlier t c) w.blocking (all_run t.claims c) waits
+      up (is_in_line earlier t c) (is_stopped earlier t c) w.blocking (all_run t.claims c) waits
       (λ clear. ap (λ (ds : List Claim). all_run (made_way earlier (plea_again s w) ds s).1.claims c) asked ∙ way_runs earlier (plea_again s w) c cs s (ap (λ (b : Bool). if b then Stays else Timely) calm) refl moves)
 
 -- and where it isn't waited for, it isn't held up
 not_up : (earlier : List Waiter) (s t : CoreState) (w : Waiter) (c : Claim) → does_wait earlier (plea_again s w) t c ≡ false → is_held_up earlier t w c ≡ false
 unfolding plea_again
-not_up earlier s t w c clear = by (is_blocked t.claims c) (is_stopped earlier t c) w.blocking (all_run t.claims c) clear where
+not_up earlier s t w c clear = by (is_in_line earlier t c) (is_stopped earlier t c) w.blocking (all_run t.claims c) clear where
   by : (x y z r : Bool) → (x && (if y then z else true)) ≡ false → (x && (if y then z else r)) ≡ false
   by true true z r e = e
   by true false z r e = absurd (both_ways true e refl)

@@ -27,6 +27,7 @@ use Rattle.xl_core.specs.declared.ask.Answer.{Answer}
 use Rattle.xl_core.specs.declared.ask.Answer.TheVariants as answers
 use Rattle.xl_core.specs.declared.ask.Ask.{Ask}
 use Rattle.xl_core.specs.declared.lease.Times.{Times}
+use Rattle.xl_core.proofs.DecideLaws.{none_ahead}
 use Rattle.xl_core.proofs.WayDeeds.{then_else}
 use Rattle.xl_core.proofs.WayAsks.{ask_free, ask_test, ask_way_free}
 
@@ -45,7 +46,7 @@ has_room epoch clock times = no_limit (limits_of_grant all_room (started (unname
 
 first_granted : (n : ℕ) (epoch : ℕ) (clock : Moment) (times : Times) → (ask n all_room (started (unnamed epoch) clock times) smallest_lock).0 ≡ answers.Granted first_claim
 unfolding standing
-first_granted n epoch clock times = ask_free n all_room (started (unnamed epoch) clock times) smallest_lock (Range (Bytes 0 0) true) refl refl (refl, refl) (has_room epoch clock times) refl
+first_granted n epoch clock times = ask_free n all_room (started (unnamed epoch) clock times) smallest_lock (Range (Bytes 0 0) true) refl refl (refl, refl, none_ahead (started (unnamed epoch) clock times) first_claim) (has_room epoch clock times) refl
 
 abbrev first_place : Place
 first_place = ByteOf 1 (asker smallest_lock []) 0

@@ -21,6 +21,7 @@ pub mod DueLaws
 pub mod DeadlineLaws
 pub mod AskBreaksLaws
 pub mod BreaksThenLaws
+pub mod LineLaws
 pub mod PassageLaws
 pub mod PassedLaws
 pub mod CachePlaces

@@ -1,5 +1,5 @@
 -- Who stands in front of a turn that frees nobody there is held up behind it too.
-use Rattle.std.proofs.Common.{◌≡◌, ℕ, zero, suc, ◌+◌, ◌<◌, Bool, true, false, not, ◌&&◌, ◌||◌, ◌==◌, if◌then◌else◌, inl, inr, List, [], ◌∷◌, ◌++◌, map, take, drop, length, append-nil, Option, Some, None, IfSome, is_some, slice_get, refl, sym, ap, subst, ◌∙◌, arith}
+use Rattle.std.proofs.Common.{◌≡◌, ℕ, zero, suc, ◌+◌, ◌<◌, ◌≤◌, Bool, true, false, not, ◌&&◌, ◌||◌, ◌==◌, if◌then◌else◌, inl, inr, List, [], ◌∷◌, ◌++◌, map, take, drop, length, append-nil, Option, Some, None, IfSome, is_some, slice_get, refl, sym, ap, subst, ◌∙◌, arith}
 use Rattle.std.specs.List.{AllByRecursion, filter, find, list_all, list_any}
 use Rattle.std.proofs.lemmas.Bool.{cases_Bool, both_ways, and_parts, or_left, or_right, or_cases, eqb-true}
 use Rattle.std.proofs.lemmas.List.{append_assoc}
@@ -24,12 +24,12 @@ use Rattle.xl_wait.specs.Waiting.{cancelled, first_file, is_file, waiting_on}
 use Rattle.xl_wait.specs.declared.waiter.Rooms.{Rooms}
 use Rattle.xl_wait.specs.declared.waiter.Waiter.{Waiter}
 use Rattle.xl_core.specs.State.{CoreState, drawn, MayBe}
-use Rattle.xl_core.specs.Blockers.{is_stopped, all_run}
+use Rattle.xl_core.specs.Blockers.{is_barred, range_ahead, before_number, all_run}
 use Rattle.xl_core.specs.Causes.{IsServed, Answered, WaitsOn, IsTurn, held_once, once_told}
 use Rattle.xl_core.specs.Good.{AllBehind, IsGood, IsUp, are_apart, is_held_up, holds_up, of_first}
 use Rattle.xl_core.specs.Judge.{all_granted}
 use Rattle.xl_core.specs.Passed.{is_shut_out, ArePassed, has_cache, is_element, replaces_none_by, replaces_none, replace_none, FreesNobody, StandBefore}
-use Rattle.xl_core.specs.Settle.{called_of, first_called, plea_again, settle, way_again}
+use Rattle.xl_core.specs.Settle.{called_of, first_called, first_free, is_up, plea_again, settle, way_again}
 use Rattle.xl_core.specs.Ways.{made_way}
 use Rattle.xl_core.specs.Wishes.{wish_for}
 use Rattle.xl_core.specs.declared.ask.Answer.{Answer}
@@ -39,10 +39,10 @@ use Rattle.xl_core.specs.declared.passed.Passed.{Passed}
 use Rattle.xl_core.specs.declared.settling.Called.{Called}
 use Rattle.xl_core.proofs.SettleLaws.{turn_is}
 use Rattle.xl_core.proofs.StoreLaws.{may_be_made}
-use Rattle.xl_core.proofs.WayCode.{stopped_uncached}
+use Rattle.xl_core.proofs.WayCode.{barred_uncached}
 use Rattle.xl_core.proofs.WayLaws.{way_quiet}
 use Rattle.xl_core.proofs.WishLaws.{no_wish}
-use Rattle.xl_core.proofs.UnsettledLaws.{on_past}
+use Rattle.xl_core.proofs.UnsettledLaws.{called_onward, called_front}
 
 -- ---- of nobody it is known
 
@@ -52,12 +52,15 @@ nobody_passed p s none = subst (λ (n : ℕ). AllByRecursion (λ w. is_shut_out 
 
 pub nobody_before : (called : Called) (p : Passed) (s : CoreState) → p.count ≡ 0 → StandBefore called p s
 nobody_before called p s none = record {
-  up = subst (λ (n : ℕ). AllByRecursion (λ w. holds_up [] s w w.asked ≡ true) (take n (waiting_on p.file s.waiters))) (sym none) tt;
+  shut = subst (λ (n : ℕ). AllByRecursion (λ w. is_shut_out s w ≡ true) (take n (waiting_on p.file s.waiters))) (sym none) tt;
   others = subst (λ (n : ℕ). AllByRecursion (λ w. (w.id == called.id) ≡ false) (take n (waiting_on p.file s.waiters))) (sym none) tt;
 }
 
-pub none_up : (s : CoreState) (n : ℕ) (ws : List Waiter) → n ≡ 0 → AllByRecursion (λ w. holds_up [] s w w.asked ≡ true) (take n ws)
-none_up s n ws none = subst (λ (k : ℕ). AllByRecursion (λ w. holds_up [] s w w.asked ≡ true) (take k ws)) (sym none) tt
+pub none_up : (s : CoreState) (n : ℕ) (ws : List Waiter) → n ≡ 0 → AllByRecursion (λ w. is_up s w ≡ true) (take n ws)
+none_up s n ws none = subst (λ (k : ℕ). AllByRecursion (λ w. is_up s w ≡ true) (take k ws)) (sym none) tt
+
+pub none_shut : (s : CoreState) (n : ℕ) (ws : List Waiter) → n ≡ 0 → AllByRecursion (λ w. is_shut_out s w ≡ true) (take n ws)
+none_shut s n ws none = subst (λ (k : ℕ). AllByRecursion (λ w. is_shut_out s w ≡ true) (take k ws)) (sym none) tt
 
 pub drawn_passed : (p : Passed) (s : CoreState) → ArePassed p s → ArePassed p (drawn s)
 unfolding ArePassed drawn
@@ -69,36 +72,24 @@ drawn_passed p s all = all
 on_it : (file : ℕ) (w : Waiter) → is_file file (first_file w.asked) ≡ true → Type 0
 on_it file w on = of_first (λ c. c.file == file) w.asked ≡ true
 
-held_if : (x y z r : Bool) → y ≡ x → (z && x) ≡ true → (x && (if y then z else r)) ≡ true
-held_if true true true r e h = refl
-held_if true true false r e h = absurd (both_ways false refl h)
-held_if true false z r e h = absurd (both_ways false refl e)
-held_if false y true r e h = absurd (both_ways false refl h)
-held_if false y false r e h = absurd (both_ways false refl h)
-
-shut_if : (x y z r : Bool) → y ≡ x → (x && (if y then z else r)) ≡ true → (z && x) ≡ true
-shut_if true true true r e h = refl
-shut_if true true false r e h = absurd (both_ways false refl h)
-shut_if true false z r e h = absurd (both_ways false refl e)
-shut_if false y z r e h = absurd (both_ways false refl h)
+held_if : (x y z r o : Bool) → y ≡ x → (z && x) ≡ true → ((x || o) && (if y || o then z else r)) ≡ true
+held_if true true true r o e h = refl
+held_if true true false r o e h = absurd (both_ways false refl h)
+held_if true false z r o e h = absurd (both_ways false refl e)
+held_if false y true r o e h = absurd (both_ways false refl h)
+held_if false y false r o e h = absurd (both_ways false refl h)
 
 same_file : (file : ℕ) (c : Claim) (s : CoreState) → (c.file == file) ≡ true → has_cache file s.claims ≡ false → has_cache c.file s.claims ≡ false
 same_file file c s on none = subst (λ (f : ℕ). has_cache f s.claims ≡ false) (sym (eqb-true c.file file on)) none
 
-shut_is_up : (file : ℕ) (s : CoreState) (w : Waiter) → has_cache file s.claims ≡ false → is_file file (first_file w.asked) ≡ true → is_shut_out s w ≡ true → holds_up [] s w w.asked ≡ true
-shut_is_up file s w none on shut = or_right (is_some s.grace) (of_first (λ c. is_held_up [] s w c) w.asked) (by w.asked on shut) where
-  by : (asked : List Claim) → is_file file (first_file asked) ≡ true → (w.blocking && of_first (λ c. is_blocked s.claims c) asked) ≡ true → of_first (λ c. is_held_up [] s w c) asked ≡ true
+shut_is_up : (file : ℕ) (s : CoreState) (w : Waiter) → has_cache file s.claims ≡ false → is_file file (first_file w.asked) ≡ true → is_shut_out s w ≡ true → is_up s w ≡ true
+shut_is_up file s w none on shut = or_right (is_some s.grace) (of_first (λ c. is_held_up earlier s w c) w.asked) (by w.asked on shut) where
+  earlier : List Waiter
+  earlier = before_number w.id s.waiters
+
+  by : (asked : List Claim) → is_file file (first_file asked) ≡ true → (w.blocking && of_first (λ c. is_blocked s.claims c) asked) ≡ true → of_first (λ c. is_held_up earlier s w c) asked ≡ true
   by [] on shut = absurd (both_ways false refl on)
-  by (c ∷ cs) on shut = held_if (is_blocked s.claims c) (is_stopped [] s c) w.blocking (all_run s.claims c) (stopped_uncached [] s c (same_file file c s on none)) shut
-
-up_is_shut : (file : ℕ) (s : CoreState) (w : Waiter) → is_some s.grace ≡ false → has_cache file s.claims ≡ false → is_file file (first_file w.asked) ≡ true → holds_up [] s w w.asked ≡ true → is_shut_out s w ≡ true
-up_is_shut file s w calm none on up = by w.asked on (first up) where
-  first : (is_some s.grace || of_first (λ c. is_held_up [] s w c) w.asked) ≡ true → of_first (λ c. is_held_up [] s w c) w.asked ≡ true
-  first h = elim (or_cases (is_some s.grace) (of_first (λ c. is_held_up [] s w c) w.asked) h) [ inl runs ↦ absurd (both_ways (is_some s.grace) calm runs) | inr e ↦ e ]
-
-  by : (asked : List Claim) → is_file file (first_file asked) ≡ true → of_first (λ c. is_held_up [] s w c) asked ≡ true → (w.blocking && of_first (λ c. is_blocked s.claims c) asked) ≡ true
-  by [] on h = absurd (both_ways false refl on)
-  by (c ∷ cs) on h = shut_if (is_blocked s.claims c) (is_stopped [] s c) w.blocking (all_run s.claims c) (stopped_uncached [] s c (same_file file c s on none)) h
+  by (c ∷ cs) on shut = held_if (is_blocked s.claims c) (is_barred s c) w.blocking (all_run s.claims c) (is_some (range_ahead earlier s c)) (barred_uncached s c (same_file file c s on none)) shut
 
 -- of those who wait on a file each does
 taken_on : (file n : ℕ) (ws : List Waiter) → AllByRecursion (λ w. is_file file (first_file w.asked) ≡ true) (take n (waiting_on file ws))
@@ -116,24 +107,23 @@ all_of_both : (P Q R : Waiter → Type 0) → ((w : Waiter) → P w → Q w → 
 all_of_both P Q R f [] p q = tt
 all_of_both P Q R f (w ∷ ws) p q = (f w p.0 q.0, all_of_both P Q R f ws p.1 q.1)
 
-pub passed_up : (p : Passed) (s : CoreState) (file : ℕ) → p.file ≡ file → has_cache file s.claims ≡ false → ArePassed p s → AllByRecursion (λ w. holds_up [] s w w.asked ≡ true) (take p.count (waiting_on file s.waiters))
+pub passed_up : (p : Passed) (s : CoreState) (file : ℕ) → p.file ≡ file → has_cache file s.claims ≡ false → ArePassed p s → AllByRecursion (λ w. is_up s w ≡ true) (take p.count (waiting_on file s.waiters))
 unfolding ArePassed
 passed_up p s file is none all =
-    all_of_both (λ w. is_file file (first_file w.asked) ≡ true) (λ w. is_shut_out s w ≡ true) (λ w. holds_up [] s w w.asked ≡ true) (λ w on shut. shut_is_up file s w none on shut) (take p.count (waiting_on file s.waiters)) (taken_on file p.count s.waiters)
+    all_of_both (λ w. is_file file (first_file w.asked) ≡ true) (λ w. is_shut_out s w ≡ true) (λ w. is_up s w ≡ true) (λ w on shut. shut_is_up file s w none on shut) (take p.count (waiting_on file s.waiters)) (taken_on file p.count s.waiters)
     (subst (λ (f : ℕ). AllByRecursion (λ w. is_shut_out s w ≡ true) (take p.count (waiting_on f s.waiters))) is all)
+
+pub passed_shut : (p : Passed) (s : CoreState) (file : ℕ) → p.file ≡ file → ArePassed p s → AllByRecursion (λ w. is_shut_out s w ≡ true) (take p.count (waiting_on file s.waiters))
+unfolding ArePassed
+passed_shut p s file is all = subst (λ (f : ℕ). AllByRecursion (λ w. is_shut_out s w ≡ true) (take p.count (waiting_on f s.waiters))) is all
 
 -- ---- the search
 
 -- those who are held up are passed by
-skip_up : (s : CoreState) (n : ℕ) (ws : List Waiter) → AllByRecursion (λ w. holds_up [] s w w.asked ≡ true) (take n ws) → first_called s [] (drop n ws) ≡ first_called s [] ws
-skip_up s zero ws all = refl
-skip_up s (suc n) [] all = refl
-skip_up s (suc n) (w ∷ ws) all = skip_up s n ws all.1 ∙ sym (ap (λ (rest : Option Called). rest) (onward s w ws all.0)) where
-  onward : (s : CoreState) (w : Waiter) (ws : List Waiter) → holds_up [] s w w.asked ≡ true → first_called s [] (w ∷ ws) ≡ first_called s [] ws
-  onward s w ws up = sym (on_past s (w ∷ ws) 0 w refl up refl)
-
-pub known_first : (s : CoreState) (n : ℕ) (ws : List Waiter) → AllByRecursion (λ w. holds_up [] s w w.asked ≡ true) (take n ws) → first_called s [] (drop n ws) ≡ first_called s [] ws
-known_first s n ws all = skip_up s n ws all
+pub known_first : (s : CoreState) (n : ℕ) (ws : List Waiter) → AllByRecursion (λ w. is_up s w ≡ true) (take n ws) → first_free s (drop n ws) ≡ first_free s ws
+known_first s zero ws all = refl
+known_first s (suc n) [] all = refl
+known_first s (suc n) (w ∷ ws) all = known_first s n ws all.1 ∙ sym (called_onward s w ws all.0)
 
 pub one_more : (P : Waiter → Type 0) (ws : List Waiter) (i : ℕ) (w : Waiter) → slice_get ws i ≡ Some w → P w → AllByRecursion P (take i ws) → AllByRecursion P (take (i + 1) ws)
 one_more P ws i w is one all = let next : suc i ≡ i + 1 = omega arith in subst (λ (k : ℕ). AllByRecursion P (take k ws)) next (by ws i is all) where
@@ -144,6 +134,26 @@ one_more P ws i w is one all = let next : suc i ≡ i + 1 = omega arith in subst
   by [] k e all = absurd cc
   by (v ∷ vs) zero e all = (subst P (sym (same v w e)) one, tt)
   by (v ∷ vs) (suc k) e all = (all.0, by vs k e all.1)
+
+-- who is shut out in front, once the next is looked at
+pub shut_more : (s : CoreState) (ws : List Waiter) (shut i : ℕ) (w : Waiter) → slice_get ws i ≡ Some w → AllByRecursion (λ v. is_shut_out s v ≡ true) (take shut ws) → AllByRecursion (λ v. is_shut_out s v ≡ true) (take (if (shut == i) && is_shut_out s w then shut + 1 else shut) ws)
+shut_more s ws shut i w is all = elim (cases_Bool ((shut == i) && is_shut_out s w)) [
+  | inr stops ↦ rw stops all
+  | inl more ↦
+      let parts = and_parts (shut == i) (is_shut_out s w) more in
+      let here : slice_get ws shut ≡ Some w = ap (slice_get ws) (eqb-true shut i parts.0) ∙ is in
+      rw more (one_more (λ v. is_shut_out s v ≡ true) ws shut w here parts.1 all)
+]
+
+pub shut_within : (shut i : ℕ) (b : Bool) → shut ≤ i → (if (shut == i) && b then shut + 1 else shut) ≤ i + 1
+shut_within shut i b le = elim (cases_Bool ((shut == i) && b)) [ inl more ↦ rw more (omega (arith, le)) | inr stops ↦ rw stops (omega (arith, le)) ]
+
+-- of fewer it is known too
+pub fewer_apart : (id n m : ℕ) (ws : List Waiter) → n ≤ m → AllByRecursion (λ v. (v.id == id) ≡ false) (take m ws) → AllByRecursion (λ v. (v.id == id) ≡ false) (take n ws)
+fewer_apart id zero m ws le all = tt
+fewer_apart id (suc n) m [] le all = tt
+fewer_apart id (suc n) zero (w ∷ ws) le all = absurd (omega (arith, le))
+fewer_apart id (suc n) (suc m) (w ∷ ws) le all = (all.0, fewer_apart id n m ws (omega (arith, le)) all.1)
 
 -- those who stand before one in a list of waiters apart have other numbers
 pub others_before : (ws : List Waiter) (i : ℕ) (w : Waiter) → Pairwise are_apart ws → slice_get ws i ≡ Some w → AllByRecursion (λ v. (v.id == w.id) ≡ false) (take i ws)
@@ -172,8 +182,8 @@ apart_on file (w ∷ ws) apart = elim (cases_Bool (is_file file (first_file w.as
   kept [] all = tt
   kept (v ∷ vs) all = elim (cases_Bool (is_file file (first_file v.asked))) [ inl on ↦ rw on (all.0, kept vs all.1) | inr off ↦ rw off (kept vs all.1) ]
 
-pub stand_before : (s : CoreState) (file i : ℕ) (w : Waiter) → IsGood s → slice_get (waiting_on file s.waiters) i ≡ Some w → AllByRecursion (λ v. holds_up [] s v v.asked ≡ true) (take i (waiting_on file s.waiters)) → StandBefore (called_of s w) (record { file = file; count = i }) s
-stand_before s file i w good is up = record { up = up; others = others_before (waiting_on file s.waiters) i w (apart_on file s.waiters good.apart) is }
+pub stand_before : (s : CoreState) (file shut i : ℕ) (w : Waiter) → IsGood s → slice_get (waiting_on file s.waiters) i ≡ Some w → shut ≤ i → AllByRecursion (λ v. is_shut_out s v ≡ true) (take shut (waiting_on file s.waiters)) → StandBefore (called_of s w) (record { file = file; count = shut }) s
+stand_before s file shut i w good is le all = record { shut = all; others = fewer_apart w.id shut i (waiting_on file s.waiters) le (others_before (waiting_on file s.waiters) i w (apart_on file s.waiters good.apart) is) }
 
 -- ---- what a grant adds
 
@@ -328,7 +338,7 @@ unwished kinds _ s none = refl
 
 -- where a turn frees nobody in front of it
 module _ (n : ℕ) (left : Rooms) (s t : CoreState) (effects : List Effect) (called : Called) (p : Passed) (good : IsGood s) (turn : IsTurn n left s effects t) (is_called : first_called s [] s.waiters ≡ Some called)
-    (frees : FreesNobody called p.file s) (stand : StandBefore called p s) (quiet : (earlier : List Waiter) → (made_way earlier called.plea called.asked s).0 ≡ []) where
+    (frees : FreesNobody called p.file s) (stand : StandBefore called p s) (quiet : (made_way (before_number called.id s.waiters) called.plea called.asked s).0 ≡ []) where
   abbrev w : Waiter
   w = turn.waiter
 
@@ -345,13 +355,13 @@ module _ (n : ℕ) (left : Rooms) (s t : CoreState) (effects : List Effect) (cal
   is = same_called (called_of s w) called (sym (called_there s [] turn.before w turn.behind turn.blocked free) ∙ ap (first_called s []) (sym turn.stood) ∙ is_called)
 
   way : way_again turn.before s w ≡ ([], s)
-  way = way_quiet turn.before (plea_again s w) w.asked s (ap (λ (x : Called). (made_way turn.before x.plea x.asked s).0) is ∙ quiet turn.before)
+  way = way_quiet turn.before (plea_again s w) w.asked s (ap (λ (x : Called). (made_way turn.before x.plea x.asked s).0) is ∙ ap (λ (vs : List Waiter). (made_way vs called.plea called.asked s).0) (sym (called_front s called good turn.before turn.behind w turn.stood (ap (λ (x : Called). x.id) is))) ∙ quiet)
 
   adds : (test : Claim → Bool) → list_any test s.claims ≡ true → list_any test (all_granted w.asked s.claims) ≡ true
   adds = subst (λ (x : Called). (test : Claim → Bool) → list_any test s.claims ≡ true → list_any test (all_granted x.asked s.claims) ≡ true) (sym is) frees.adds
 
   front : AllByRecursion (λ v. is_shut_out s v ≡ true) (take p.count (waiting_on p.file s.waiters))
-  front = all_of_both (λ v. is_file p.file (first_file v.asked) ≡ true) (λ v. holds_up [] s v v.asked ≡ true) (λ v. is_shut_out s v ≡ true) (λ v on up. up_is_shut p.file s v calm frees.uncached on up) (take p.count (waiting_on p.file s.waiters)) (taken_on p.file p.count s.waiters) stand.up
+  front = stand.shut
 
   others : AllByRecursion (λ v. (v.id == w.id) ≡ false) (take p.count (waiting_on p.file s.waiters))
   others = subst (λ (x : Called). AllByRecursion (λ v. (v.id == x.id) ≡ false) (take p.count (waiting_on p.file s.waiters))) (sym is) stand.others
@@ -373,7 +383,7 @@ module _ (n : ℕ) (left : Rooms) (s t : CoreState) (effects : List Effect) (cal
 
 -- who is passed behind a turn, if it frees nobody there
 pub turn_passed : (left : Rooms) (s t : CoreState) (effects : List Effect) (p : Passed) → ((n : ℕ) → MayBe n t → settle n left s ≡ Some (effects, t)) → IsGood s
-    → (0 < p.count → IfSome (first_called s [] s.waiters) (λ called. FreesNobody called p.file s × StandBefore called p s × ((earlier : List Waiter) → (made_way earlier called.plea called.asked s).0 ≡ []))) → ArePassed p t
+    → (0 < p.count → IfSome (first_called s [] s.waiters) (λ called. FreesNobody called p.file s × StandBefore called p s × ((made_way (before_number called.id s.waiters) called.plea called.asked s).0 ≡ []))) → ArePassed p t
 turn_passed left s t effects p e good before = by p.count refl where
   turn : IsTurn t.made left s effects t
   turn = subst (λ (o : Option (List Effect × CoreState)). IfSome o (λ x. IsTurn t.made left s x.0 x.1)) (e t.made (may_be_made t)) (turn_is t.made left s good)
@@ -387,5 +397,5 @@ turn_passed left s t effects p e good before = by p.count refl where
   by : (count : ℕ) → p.count ≡ count → ArePassed p t
   by zero none = nobody_passed p t none
   by (suc count) some =
-      let all = subst (λ (o : Option Called). IfSome o (λ called. FreesNobody called p.file s × StandBefore called p s × ((earlier : List Waiter) → (made_way earlier called.plea called.asked s).0 ≡ []))) found (before (subst (λ (k : ℕ). 0 < k) (sym some) (omega arith))) in
+      let all = subst (λ (o : Option Called). IfSome o (λ called. FreesNobody called p.file s × StandBefore called p s × ((made_way (before_number called.id s.waiters) called.plea called.asked s).0 ≡ []))) found (before (subst (λ (k : ℕ). 0 < k) (sym some) (omega arith))) in
       still_passed t.made left s t effects (called_of s turn.waiter) p good turn found all.0 all.1 all.2

@@ -9,8 +9,8 @@ use Rattle.xl_matrix.specs.declared.claim.Claim.{Claim}
 use Rattle.xl_wait.specs.declared.waiter.Rooms.{Rooms}
 use Rattle.xl_wait.specs.declared.waiter.Waiter.{Waiter}
 use Rattle.xl_core.specs.State.{CoreState}
-use Rattle.xl_core.specs.Blockers.{blockers, is_stopped, cache_against}
-use Rattle.xl_core.specs.Judge.{Ruled, followed, after, held_with, held_then, waits, stopped, check_held, kept_off, check_caches, full, check_room, graced, conflicts, first_of, least_beside, reclaim_blocker, reclaim_by, reclaim_stop, check_grace, check_reclaim, check_row, to_record, recorded_or, record_name, enter_all, does_wait, at_once, judged, or_else, first_stop, IsFew, stop_of, recorded_by}
+use Rattle.xl_core.specs.Blockers.{held_blockers, blocker, is_in_line, is_stopped, cache_against}
+use Rattle.xl_core.specs.Judge.{Ruled, followed, after, held_with, held_then, waits, stopped, check_held, kept_off, check_caches, full, check_room, graced, conflicts, those_before, first_of, least_beside, reclaim_blocker, reclaim_by, reclaim_stop, check_grace, check_reclaim, check_row, to_record, recorded_or, record_name, enter_all, does_wait, at_once, judged, or_else, first_stop, IsFew, stop_of, recorded_by}
 use Rattle.xl_core.specs.Limits.{grant_limits, first_passed}
 use Rattle.xl_table.specs.Flat.{blocks, is_blocked}
 use Rattle.xl_table.specs.Held.{is_cache}
@@ -34,7 +34,7 @@ use Rattle.xl_core.specs.declared.judge.Ruling.{Ruling}
 use Rattle.xl_core.specs.declared.judge.Ruling.TheVariants.{Gets, Waits, Told}
 use Rattle.xl_core.proofs.BreaksInOrderLaws.{all_final}
 use Rattle.xl_core.proofs.LimitLaws.{grant_room}
-use Rattle.xl_core.proofs.DecideLaws.{blockers_none, none_blockers, some_stops, stopped_blocked, cache_blocked, free_unless, free_moves, free_clear}
+use Rattle.xl_core.proofs.DecideLaws.{blocker_by, blockers_none, none_blockers, some_stops, stopped_in_line, blocked_in_line, cache_blocked, free_unless, free_parts, free_moves, free_from, none_ahead, free_clear}
 
 -- ---- why a ruling is, and what it leaves
 
@@ -118,23 +118,23 @@ has_room left p c s e =
 -- none of those behind the first waits
 waits_not : (earlier : List Waiter) (p : Plea) (s : CoreState) (cs : List Claim) → first_waits earlier (at_once p) s cs → ⊥
 waits_not earlier p s [] h = h
-waits_not earlier p s (c ∷ cs) h = by (is_blocked s.claims c) (is_stopped earlier s c) h where
+waits_not earlier p s (c ∷ cs) h = by (is_in_line earlier s c) (is_stopped earlier s c) h where
   by : (x y : Bool) → (x && (if y then false else false)) ≡ true → ⊥
   by true true e = both_ways false refl e
   by true false e = both_ways false refl e
   by false y e = both_ways false refl e
 
-waits_stopped : (earlier : List Waiter) (p : Plea) (s : CoreState) (c : Claim) → is_blocked s.claims c ≡ true → is_stopped earlier s c ≡ true → p.blocking ≡ true → does_wait earlier p s c ≡ true
+waits_stopped : (earlier : List Waiter) (p : Plea) (s : CoreState) (c : Claim) → is_in_line earlier s c ≡ true → is_stopped earlier s c ≡ true → p.blocking ≡ true → does_wait earlier p s c ≡ true
 waits_stopped earlier p s c blocked stopped waits = rw (blocked, stopped) waits
 
-waits_kept_off : (earlier : List Waiter) (p : Plea) (s : CoreState) (c : Claim) → is_blocked s.claims c ≡ true → is_stopped earlier s c ≡ false → p.awaits ≡ true → does_wait earlier p s c ≡ true
+waits_kept_off : (earlier : List Waiter) (p : Plea) (s : CoreState) (c : Claim) → is_in_line earlier s c ≡ true → is_stopped earlier s c ≡ false → p.awaits ≡ true → does_wait earlier p s c ≡ true
 waits_kept_off earlier p s c blocked moves waits = rw (blocked, moves) waits
 
 -- what stops the first that is stopped has its cause
 row_stops : (earlier : List Waiter) (left : Rooms) (p : Plea) (asked : List Claim) (s : CoreState) → IsStop earlier left p asked s (first_stop earlier left p asked s)
 unfolding check_held check_caches check_room held_with
 row_stops earlier left p [] s = tt
-row_stops earlier left p (c ∷ cs) s = by (least s.names (blockers earlier s c)) (cache_against s.claims c) (first_passed limits) refl refl refl (row_stops earlier left (at_once p) cs there) where
+row_stops earlier left p (c ∷ cs) s = by (blocker earlier s c) (cache_against s.claims c) (first_passed limits) refl refl refl (row_stops earlier left (at_once p) cs there) where
   limits : List (ℕ × Bool)
   limits = grant_limits left p.rows (held_then p.beside c s.claims) (bytes_with p.unrecorded s.stable) p.kept
 
@@ -155,25 +155,25 @@ row_stops earlier left p (c ∷ cs) s = by (least s.names (blockers earlier s c)
   behind free room (Some Waits) is = absurd (waits_not earlier p there cs is.1)
   behind free room (Some (Told answer)) is = is
 
-  by : (o k : Option Claim) (l : Option ℕ) → least s.names (blockers earlier s c) ≡ o → cache_against s.claims c ≡ k → first_passed limits ≡ l → IsStop earlier left (at_once p) cs there later
+  by : (o k : Option Claim) (l : Option ℕ) → blocker earlier s c ≡ o → cache_against s.claims c ≡ k → first_passed limits ≡ l → IsStop earlier left (at_once p) cs there later
       → IsStop earlier left p (c ∷ cs) s (or_else (or_else (option_map (stopped p) o) (or_else (option_map (kept_off p) k) (option_map full l))) later)
-  by (Some d) k l e f g passes = let is = some_stops earlier s c d e in stops (Conflict d) refl p.blocking p.crowded (λ waits. waits_stopped earlier p s c (stopped_blocked earlier s c is) is waits) refl
-  by None (Some d) l e f g passes = stops (Recall d) refl p.awaits p.crowded (λ waits. waits_kept_off earlier p s c (cache_blocked s.claims c d f) (blockers_none earlier s c e) waits) refl
+  by (Some d) k l e f g passes = let is = some_stops earlier s c d e in stops (Conflict d) refl p.blocking p.crowded (λ waits. waits_stopped earlier p s c (stopped_in_line earlier s c is) is waits) refl
+  by None (Some d) l e f g passes = stops (Recall d) refl p.awaits p.crowded (λ waits. waits_kept_off earlier p s c (blocked_in_line earlier s c (cache_blocked s.claims c d f)) (blockers_none earlier s c e) waits) refl
   by None None (Some limit) e f g passes = refl
-  by None None None e f g passes = behind (free_unless earlier s c (blockers_none earlier s c e) f) g later passes
+  by None None None e f g passes = behind (free_parts earlier s c (free_unless earlier s c (blockers_none earlier s c e) f)).0 g later passes
 
 -- what stops one of them is no grant
-pub row_gets : (left : Rooms) (p : Plea) (asked : List Claim) (s : CoreState) → first_stop [] left p asked s ≡ Some Gets → ⊥
-row_gets left p asked s e = subst (IsStop [] left p asked s) e (row_stops [] left p asked s)
+pub row_gets : (earlier : List Waiter) (left : Rooms) (p : Plea) (asked : List Claim) (s : CoreState) → first_stop earlier left p asked s ≡ Some Gets → ⊥
+row_gets earlier left p asked s e = subst (IsStop earlier left p asked s) e (row_stops earlier left p asked s)
 
 -- who is left to wait passes no limit by that
-pub row_waits : (left : Rooms) (p : Plea) (asked : List Claim) (s : CoreState) → first_stop [] left p asked s ≡ Some Waits → p.crowded ≡ None
-row_waits left p asked s e = (subst (IsStop [] left p asked s) e (row_stops [] left p asked s)).0
+pub row_waits : (earlier : List Waiter) (left : Rooms) (p : Plea) (asked : List Claim) (s : CoreState) → first_stop earlier left p asked s ≡ Some Waits → p.crowded ≡ None
+row_waits earlier left p asked s e = (subst (IsStop earlier left p asked s) e (row_stops earlier left p asked s)).0
 
 -- where all pass there is room for the names that are kept
-pub row_few : (left : Rooms) (p : Plea) (asked : List Claim) (s : CoreState) → first_stop [] left p asked s ≡ None → IsFew p asked
-row_few left p [] s e = tt
-row_few left p (c ∷ cs) s e = (subst (IsStop [] left p (c ∷ cs) s) e (row_stops [] left p (c ∷ cs) s)).1.2
+pub row_few : (earlier : List Waiter) (left : Rooms) (p : Plea) (asked : List Claim) (s : CoreState) → first_stop earlier left p asked s ≡ None → IsFew p asked
+row_few earlier left p [] s e = tt
+row_few earlier left p (c ∷ cs) s e = (subst (IsStop earlier left p (c ∷ cs) s) e (row_stops earlier left p (c ∷ cs) s)).1.2
 
 -- it waits for the end of grace, or for what is in the way of the first
 abbrev pub Waiting : List Waiter → Plea → CoreState → List Claim → Type 0
@@ -194,9 +194,9 @@ reclaims_free earlier p c s e = none_passes (λ d. blocks c d) s.claims (least_n
   first_none None l e = refl
   first_none (Some d) l e = absurd cc
 
-rest_free : (earlier : List Waiter) (p : Plea) (s : CoreState) (asked : List Claim) → reclaim_stop Reclaims p.beside asked s ≡ None → first_waits earlier p s asked → ⊥
-rest_free earlier p s [] none waits = waits
-rest_free earlier p s (c ∷ cs) none waits = both_ways (does_wait earlier p s c) (ap (λ (b : Bool). b && (if is_stopped earlier s c then p.blocking else p.awaits)) (reclaims_free earlier p c s none)) waits
+rest_free : (p : Plea) (s : CoreState) (asked : List Claim) → reclaim_stop Reclaims p.beside asked s ≡ None → first_waits [] p s asked → ⊥
+rest_free p s [] none waits = waits
+rest_free p s (c ∷ cs) none waits = both_ways (does_wait [] p s c) (ap (λ (b : Bool). b && (if is_stopped [] s c then p.blocking else p.awaits)) (free_from [] s c (reclaims_free [] p c s none) (none_ahead s c))) waits
 
 -- the rest of the row, behind grace
 abbrev behind_grace : ℕ → List Waiter → Rooms → Plea → List Claim → CoreState → Option Ruling → Ruled
@@ -204,7 +204,7 @@ behind_grace n earlier left p asked s o = followed o [] s (after (check_row earl
 
 -- the row as a function of how it stands to grace
 abbrev by_standing : ℕ → List Waiter → Rooms → Plea → List Claim → CoreState → Standing → Ruled
-by_standing n earlier left p asked s standing = followed (graced p standing) [] s (λ t. behind_grace n earlier left p asked t (reclaim_stop standing p.beside asked t))
+by_standing n earlier left p asked s standing = followed (graced p standing) [] s (λ t. behind_grace n (those_before standing earlier) left p asked t (reclaim_stop standing p.beside asked t))
 
 pub judged_by : (n : ℕ) (earlier : List Waiter) (left : Rooms) (p : Plea) (asked : List Claim) (s : CoreState) → judged n earlier left p asked s ≡ by_standing n earlier left p asked s p.standing
 unfolding judged check_grace check_reclaim
@@ -232,29 +232,30 @@ judged_ruled n earlier left p asked s = subst (λ (r : Ruled). IsRuled n earlier
   waited None room stays = (refl, refl, room, inl stays)
   waited (Some limit) room stays = (refl, refl, refl)
 
-  goes : (o : Option Ruling) → IsStop earlier left p asked s o → enters p.standing ≡ true → (first_waits earlier p s asked → p.standing ≡ Timely) → (let r = followed o [] s (after (record_name n p asked) (enter_all asked)) in IsRuled n earlier left p asked s r.0 r.1 r.2)
-  goes None is in_time timely = ends n earlier left p asked s in_time is
-  goes (Some Gets) is in_time timely = absurd is
-  goes (Some Waits) is in_time timely = (refl, refl, is.0, inr (timely is.1, is.1))
-  goes (Some (Told answer)) is in_time timely = (refl, still_left name answer s is, still_refuses answer is)
+  goes : (front : List Waiter) → (o : Option Ruling) → IsStop front left p asked s o → enters p.standing ≡ true → (first_waits front p s asked → Waiting earlier p s asked) → (let r = followed o [] s (after (record_name n p asked) (enter_all asked)) in IsRuled n earlier left p asked s r.0 r.1 r.2)
+  goes front None is in_time timely = ends n earlier left p asked s in_time is
+  goes front (Some Gets) is in_time timely = absurd is
+  goes front (Some Waits) is in_time timely = (refl, refl, is.0, timely is.1)
+  goes front (Some (Told answer)) is in_time timely = (refl, still_left name answer s is, still_refuses answer is)
 
-  row : enters p.standing ≡ true → (first_waits earlier p s asked → p.standing ≡ Timely) → (let r = behind_grace n earlier left p asked s None in IsRuled n earlier left p asked s r.0 r.1 r.2)
-  row in_time timely = goes (first_stop earlier left p asked s) (row_stops earlier left p asked s) in_time timely
+  row : (front : List Waiter) → enters p.standing ≡ true → (first_waits front p s asked → Waiting earlier p s asked) → (let r = behind_grace n front left p asked s None in IsRuled n earlier left p asked s r.0 r.1 r.2)
+  row front in_time timely = goes front (first_stop front left p asked s) (row_stops front left p asked s) in_time timely
 
-  reclaims : (asks : List Claim) (o : Option Claim) → p.standing ≡ Reclaims → (o ≡ None → first_waits earlier p s asked → ⊥) → (let r = behind_grace n earlier left p asked s (option_map conflicts o) in IsRuled n earlier left p asked s r.0 r.1 r.2)
-  reclaims asks None is never = row (ap enters is) (λ waits. absurd (never refl waits))
-  reclaims asks (Some d) is never = (refl, refl, refl)
+  reclaims : (o : Option Claim) → p.standing ≡ Reclaims → (o ≡ None → first_waits [] p s asked → ⊥) → (let r = behind_grace n [] left p asked s (option_map conflicts o) in IsRuled n earlier left p asked s r.0 r.1 r.2)
+  reclaims None is never = row [] (ap enters is) (λ waits. absurd (never refl waits))
+  reclaims (Some d) is never = (refl, refl, refl)
 
-  by_claim : (asks : List Claim) → asked ≡ asks → p.standing ≡ Reclaims → (let r = behind_grace n earlier left p asked s (reclaim_stop Reclaims p.beside asks s) in IsRuled n earlier left p asked s r.0 r.1 r.2)
-  by_claim [] e is = row (ap enters is) (λ waits. absurd (subst (λ (cs : List Claim). first_waits earlier p s cs) e waits))
+  by_claim : (asks : List Claim) → asked ≡ asks → p.standing ≡ Reclaims → (let r = behind_grace n [] left p asked s (reclaim_stop Reclaims p.beside asks s) in IsRuled n earlier left p asked s r.0 r.1 r.2)
+  by_claim [] e is = row [] (ap enters is) (λ waits. absurd (subst (λ (cs : List Claim). first_waits [] p s cs) e waits))
   by_claim (c ∷ cs) e is =
-      reclaims asked (reclaim_blocker p.beside c s) is (λ none waits. rest_free earlier p s (c ∷ cs) (ap (option_map conflicts) none) (subst (λ (ds : List Claim). first_waits earlier p s ds) e waits))
+      reclaims (reclaim_blocker p.beside c s) is (λ none waits. rest_free p s (c ∷ cs) (ap (option_map conflicts) none) (subst (λ (ds : List Claim). first_waits [] p s ds) e waits))
+
+  timely_row : (asks : List Claim) → p.standing ≡ Timely → (let r = behind_grace n earlier left p asked s (reclaim_stop Timely p.beside asks s) in IsRuled n earlier left p asked s r.0 r.1 r.2)
+  timely_row [] is = row earlier (ap enters is) (λ waits. inr (is, waits))
+  timely_row (c ∷ cs) is = row earlier (ap enters is) (λ waits. inr (is, waits))
 
   by : (standing : Standing) → p.standing ≡ standing → (let r = by_standing n earlier left p asked s standing in IsRuled n earlier left p asked s r.0 r.1 r.2)
-  by Timely is = row_timely asked is where
-    row_timely : (asks : List Claim) → p.standing ≡ Timely → (let r = behind_grace n earlier left p asked s (reclaim_stop Timely p.beside asks s) in IsRuled n earlier left p asked s r.0 r.1 r.2)
-    row_timely [] is = row (ap enters is) (λ waits. is)
-    row_timely (c ∷ cs) is = row (ap enters is) (λ waits. is)
+  by Timely is = timely_row asked is
   by Reclaims is = by_claim asked refl is
   by Stays is = waited p.crowded refl is
   by (Early until) is = (refl, refl, refl)
@@ -264,7 +265,7 @@ judged_ruled n earlier left p asked s = subst (λ (r : Ruled). IsRuled n earlier
 -- ---- the first claim: where something blocks it the ruling is a function of what is looked at
 
 abbrev pub least_blocker : List Waiter → CoreState → Claim → Option Claim
-least_blocker earlier s c = least s.names (blockers earlier s c)
+least_blocker earlier s c = blocker earlier s c
 
 abbrev pub passed_by : Rooms → Plea → CoreState → Claim → Option ℕ
 passed_by left p s c = first_passed (grant_limits left p.rows (held_then p.beside c s.claims) (bytes_with p.unrecorded s.stable) p.kept)
@@ -272,7 +273,7 @@ passed_by left p s c = first_passed (grant_limits left p.rows (held_then p.besid
 -- one whom grace stops
 pub judged_graced : (n : ℕ) (earlier : List Waiter) (left : Rooms) (p : Plea) (asked : List Claim) (s : CoreState) (r : Ruling) → graced p p.standing ≡ Some r → judged n earlier left p asked s ≡ (r, [], s)
 judged_graced n earlier left p asked s r e =
-    judged_by n earlier left p asked s ∙ ap (λ (o : Option Ruling). followed o [] s (λ t. behind_grace n earlier left p asked t (reclaim_stop p.standing p.beside asked t))) e
+    judged_by n earlier left p asked s ∙ ap (λ (o : Option Ruling). followed o [] s (λ t. behind_grace n (those_before p.standing earlier) left p asked t (reclaim_stop p.standing p.beside asked t))) e
 
 -- one whom grace doesn't concern
 pub judged_timely : (n : ℕ) (earlier : List Waiter) (left : Rooms) (p : Plea) (asked : List Claim) (s : CoreState) → p.standing ≡ Timely → judged n earlier left p asked s ≡ behind_grace n earlier left p asked s None
@@ -282,11 +283,11 @@ judged_timely n earlier left p asked s e = judged_by n earlier left p asked s �
   timely_goes (c ∷ cs) = refl
 
 -- one who reclaims
-pub judged_reclaims : (n : ℕ) (earlier : List Waiter) (left : Rooms) (p : Plea) (c : Claim) (cs : List Claim) (s : CoreState) → p.standing ≡ Reclaims → judged n earlier left p (c ∷ cs) s ≡ behind_grace n earlier left p (c ∷ cs) s (option_map conflicts (reclaim_blocker p.beside c s))
+pub judged_reclaims : (n : ℕ) (earlier : List Waiter) (left : Rooms) (p : Plea) (c : Claim) (cs : List Claim) (s : CoreState) → p.standing ≡ Reclaims → judged n earlier left p (c ∷ cs) s ≡ behind_grace n [] left p (c ∷ cs) s (option_map conflicts (reclaim_blocker p.beside c s))
 judged_reclaims n earlier left p c cs s e = judged_by n earlier left p (c ∷ cs) s ∙ ap (by_standing n earlier left p (c ∷ cs) s) e
 
 pub judged_conflicts : (n : ℕ) (earlier : List Waiter) (left : Rooms) (p : Plea) (c d : Claim) (cs : List Claim) (s : CoreState) → p.standing ≡ Reclaims → reclaim_blocker p.beside c s ≡ Some d → judged n earlier left p (c ∷ cs) s ≡ (Told (Conflict d), [], s)
-judged_conflicts n earlier left p c d cs s is e = judged_reclaims n earlier left p c cs s is ∙ ap (λ (o : Option Claim). behind_grace n earlier left p (c ∷ cs) s (option_map conflicts o)) e
+judged_conflicts n earlier left p c d cs s is e = judged_reclaims n earlier left p c cs s is ∙ ap (λ (o : Option Claim). behind_grace n [] left p (c ∷ cs) s (option_map conflicts o)) e
 
 -- one that something blocks for good
 stopped_row : (n : ℕ) (earlier : List Waiter) (left : Rooms) (p : Plea) (c d : Claim) (cs : List Claim) (s : CoreState) → least_blocker earlier s c ≡ Some d → behind_grace n earlier left p (c ∷ cs) s None ≡ (stopped p d, [], s)
@@ -326,17 +327,10 @@ judged_row n earlier left p asked s timely = judged_timely n earlier left p aske
 
 -- ---- what most claims meet
 
--- where nothing that is held blocks a claim neither step on what is held ends the row
-pub nothing_held : (earlier : List Waiter) (p : Plea) (c : Claim) (s : CoreState) (later : Option Ruling) → least s.names (filter (λ held. blocks c held) s.claims) ≡ None → or_else (check_held earlier p c s) (or_else (check_caches p c s) later) ≡ later
-unfolding check_held check_caches
-nothing_held earlier p c s later e =
-    let free : is_blocked s.claims c ≡ false = none_passes (λ d. blocks c d) s.claims (least_none s.names (filter (λ held. blocks c held) s.claims) e) in
-    rw (none_blockers earlier s c (free_moves earlier s c free), free_clear s.claims c free) refl
-
 -- where no cache stands on its file the least of what blocks it is what does so for good
 pub held_for_good : (earlier : List Waiter) (p : Plea) (c d : Claim) (s : CoreState) (later : Option Ruling) → least s.names (filter (λ held. blocks c held) s.claims) ≡ Some d → list_any (λ h. (h.file == c.file) && is_cache h.what) s.claims ≡ false → or_else (check_held earlier p c s) (or_else (check_caches p c s) later) ≡ Some (stopped p d)
-unfolding check_held blockers
-held_for_good earlier p c d s later e none = rw (ap (least s.names) (all_final c s.claims none) ∙ e) refl
+unfolding check_held held_blockers
+held_for_good earlier p c d s later e none = rw (blocker_by earlier s c (Some d) (ap (least s.names) (all_final c s.claims none) ∙ e)) refl
 
 -- ---- one claim
 
@@ -370,11 +364,11 @@ judged_back n earlier left p c s is = judged_reclaims n earlier left p c [] s is
   last None = refl
   last (Some limit) = refl
 
-  go : (o : Option Claim) → reclaim_blocker p.beside c s ≡ o → behind_grace n earlier left p (c ∷ []) s (option_map conflicts o) ≡ reclaimed_by n p s c o (passed_by left p s c)
+  go : (o : Option Claim) → reclaim_blocker p.beside c s ≡ o → behind_grace n [] left p (c ∷ []) s (option_map conflicts o) ≡ reclaimed_by n p s c o (passed_by left p s c)
   go (Some d) e = refl
   go None e =
-      let free = reclaims_free earlier p c s (ap (option_map conflicts) e) in
-      row_is n earlier left p c s ∙ ap (λ (o : Option Claim). ruled_by n p s c o (cache_against s.claims c) (passed_by left p s c)) (none_blockers earlier s c (free_moves earlier s c free))
+      let free = reclaims_free [] p c s (ap (option_map conflicts) e) in
+      row_is n [] left p c s ∙ ap (λ (o : Option Claim). ruled_by n p s c o (cache_against s.claims c) (passed_by left p s c)) (none_blockers [] s c (free_moves [] s c (free_from [] s c free (none_ahead s c))))
       ∙ ap (λ (o : Option Claim). ruled_by n p s c None o (passed_by left p s c)) (free_clear s.claims c free) ∙ last (passed_by left p s c)
 
 -- ---- one claim alone, as it is judged
@@ -407,28 +401,29 @@ recorded_some n s t name longer ok is may e = ap (λ (b : Bool). recorded_or b (
   by true e = (λ i. (None, [], (ap (λ (x : Stable). stored x s) (sym is) ∙ sym e) i))
   by false e = (λ i. (Some (Told StoreFailed), [], (ap (λ (x : Stable). store_failed x s) (sym is) ∙ sym e) i))
 
-pub judged_alone : (n : ℕ) (earlier : List Waiter) (left : Rooms) (p : Plea) (asked : List Claim) (c : Claim) (s : CoreState) (graced_so back : Option Ruling) → asked ≡ c ∷ [] → check_grace p s ≡ (graced_so, [], s) → graced_so ≡ None → check_reclaim p asked s ≡ (back, [], s) → back ≡ None
-    → judged n earlier left p asked s ≡ alone_row n earlier left p c s
+pub judged_alone : (n : ℕ) (earlier front : List Waiter) (left : Rooms) (p : Plea) (asked : List Claim) (c : Claim) (s : CoreState) (graced_so back : Option Ruling) → those_before p.standing earlier ≡ front → asked ≡ c ∷ [] → check_grace p s ≡ (graced_so, [], s) → graced_so ≡ None → check_reclaim p asked s ≡ (back, [], s) → back ≡ None
+    → judged n earlier left p asked s ≡ alone_row n front left p c s
 unfolding judged
-judged_alone n earlier left p asked c s graced_so back is on none off free =
-    ap (λ (x : Option Ruling × List Effect × CoreState). followed x.0 x.1 x.2 (after (check_reclaim p asked) (after (check_row earlier left p asked) (after (record_name n p asked) (enter_all asked))))) (on ∙ (λ i. (none i, [], s)))
-    ∙ ap (λ (x : Option Ruling × List Effect × CoreState). followed x.0 x.1 x.2 (after (check_row earlier left p asked) (after (record_name n p asked) (enter_all asked)))) (off ∙ (λ i. (free i, [], s)))
-    ∙ ap (λ (cs : List Claim). after (check_row earlier left p cs) (after (record_name n p cs) (enter_all cs)) s) is
+judged_alone n earlier front left p asked c s graced_so back at is on none off free =
+    ap (λ (ws : List Waiter). after (check_grace p) (after (check_reclaim p asked) (after (check_row ws left p asked) (after (record_name n p asked) (enter_all asked)))) s) at
+    ∙ ap (λ (x : Option Ruling × List Effect × CoreState). followed x.0 x.1 x.2 (after (check_reclaim p asked) (after (check_row front left p asked) (after (record_name n p asked) (enter_all asked))))) (on ∙ (λ i. (none i, [], s)))
+    ∙ ap (λ (x : Option Ruling × List Effect × CoreState). followed x.0 x.1 x.2 (after (check_row front left p asked) (after (record_name n p asked) (enter_all asked)))) (off ∙ (λ i. (free i, [], s)))
+    ∙ ap (λ (cs : List Claim). after (check_row front left p cs) (after (record_name n p cs) (enter_all cs)) s) is
 
 -- ---- what the code finds
 
 -- what stops one claim, once what is held against it is known
-pub stop_one : (left : Rooms) (p : Plea) (c : Claim) (s : CoreState) (found o : Option Ruling) → ((earlier : List Waiter) (later : Option Ruling) → or_else (check_held earlier p c s) (or_else (check_caches p c s) later) ≡ or_else found later) → found ≡ o → first_stop [] left p (c ∷ []) s ≡ or_else o (check_room left p c s)
-stop_one left p c s found o fact is = alone (stop_of [] left p c s) ∙ fact [] (check_room left p c s) ∙ ap (λ (x : Option Ruling). or_else x (check_room left p c s)) is where
+pub stop_one : (earlier : List Waiter) (left : Rooms) (p : Plea) (c : Claim) (s : CoreState) (found o : Option Ruling) → ((later : Option Ruling) → or_else (check_held earlier p c s) (or_else (check_caches p c s) later) ≡ or_else found later) → found ≡ o → first_stop earlier left p (c ∷ []) s ≡ or_else o (check_room left p c s)
+stop_one earlier left p c s found o fact is = alone (stop_of earlier left p c s) ∙ fact (check_room left p c s) ∙ ap (λ (x : Option Ruling). or_else x (check_room left p c s)) is where
   alone : (x : Option Ruling) → or_else x None ≡ x
   alone None = refl
   alone (Some r) = refl
 
 -- what is ruled of several, by what stopped one of them
-pub gets_few : (left : Rooms) (p : Plea) (asked : List Claim) (s : CoreState) (o : Option Ruling) → first_stop [] left p asked s ≡ o → unwrap_or o Gets ≡ Gets → IsFew p asked
-gets_few left p asked s None e is = row_few left p asked s e
-gets_few left p asked s (Some r) e is = absurd (row_gets left p asked s (e ∙ ap Some is))
+pub gets_few : (earlier : List Waiter) (left : Rooms) (p : Plea) (asked : List Claim) (s : CoreState) (o : Option Ruling) → first_stop earlier left p asked s ≡ o → unwrap_or o Gets ≡ Gets → IsFew p asked
+gets_few earlier left p asked s None e is = row_few earlier left p asked s e
+gets_few earlier left p asked s (Some r) e is = absurd (row_gets earlier left p asked s (e ∙ ap Some is))
 
-pub waits_room : (left : Rooms) (p : Plea) (asked : List Claim) (s : CoreState) (o : Option Ruling) → first_stop [] left p asked s ≡ o → unwrap_or o Gets ≡ Waits → p.crowded ≡ None
-waits_room left p asked s None e is = absurd cc
-waits_room left p asked s (Some r) e is = row_waits left p asked s (e ∙ ap Some is)
+pub waits_room : (earlier : List Waiter) (left : Rooms) (p : Plea) (asked : List Claim) (s : CoreState) (o : Option Ruling) → first_stop earlier left p asked s ≡ o → unwrap_or o Gets ≡ Waits → p.crowded ≡ None
+waits_room earlier left p asked s None e is = absurd cc
+waits_room earlier left p asked s (Some r) e is = row_waits earlier left p asked s (e ∙ ap Some is)

@@ -1,18 +1,18 @@
 -- A turn is the first waiter's that nothing held blocks, nobody else's, and comes while there is one. Who leaves.
-use Rattle.std.proofs.Common.{◌≡◌, ℕ, ◌+◌, Bool, true, false, not, cond, ◌==◌, inl, inr, List, [], ◌∷◌, ◌++◌, map, length, append-nil, Some, None, IfSome, refl, sym, ap, subst, ◌∙◌, ◌↔◌, ◌⊎◌, ◌≤◌, suc, arith, Option}
+use Rattle.std.proofs.Common.{◌≡◌, ℕ, ◌+◌, Bool, true, false, not, ◌||◌, cond, ◌==◌, inl, inr, List, [], ◌∷◌, ◌++◌, map, length, append-nil, Some, None, is_some, IfSome, refl, sym, ap, subst, ◌∙◌, ◌↔◌, ◌⊎◌, ◌≤◌, suc, arith, Option}
 use Rattle.xl_core.proofs.StandingLaws.{no_grace}
 use Rattle.xl_core.proofs.AsideLaws.{left_aside}
 use Rattle.xl_core.specs.Stores.{bytes_with}
 use Rattle.std.specs.List.{AllByRecursion, filter}
-use Rattle.std.proofs.lemmas.Bool.{cases_Bool, both_ways, eq-eqb, not-true, not_from_false}
-use Rattle.std.proofs.lemmas.List.{length-append}
+use Rattle.std.proofs.lemmas.Bool.{cases_Bool, both_ways, and_parts, or_cases, or_parts, eq-eqb, not-true, not_from_false}
+use Rattle.std.proofs.lemmas.List.{append_assoc, length-append}
 use Rattle.xl_base.specs.Lists.{IsIn, Pairwise}
 use Rattle.xl_base.proofs.Members.{all_in, in_filter, in_filter_from, in_append_right}
 use Rattle.xl_base.specs.declared.name.Party.{Party}
 use Rattle.xl_matrix.specs.Equal.{same_parties}
 use Rattle.xl_matrix.specs.declared.claim.Claim.{Claim}
 use Rattle.xl_names.specs.declared.name.Name.{Name}
-use Rattle.xl_table.specs.Flat.{removed}
+use Rattle.xl_table.specs.Flat.{is_blocked, removed}
 use Rattle.xl_cache.specs.BreakPlans.{is_running}
 use Rattle.xl_base.specs.declared.name.Owner.{Owner}
 use Rattle.xl_table.specs.Held.{spans_of, is_cache, is_share}
@@ -24,7 +24,7 @@ use Rattle.xl_core.specs.declared.ask.Effect.{Effect}
 use Rattle.xl_core.specs.State.{CoreState}
 use Rattle.xl_core.specs.BreaksBegun.{idle_caches, breaks_begun}
 use Rattle.xl_core.specs.Causes.{IsEachBehind, held_once, IsServed, Answered, WaitsOn, IsTurn, name_waiting, once_told}
-use Rattle.xl_core.specs.Good.{are_apart, caches_of, caches_beside, caches_but, IsKnown, IsPled, IsGood, IsWaiter, is_held_up, IsUp, AllBehind, IsSettled}
+use Rattle.xl_core.specs.Good.{are_apart, caches_of, caches_beside, caches_but, IsKnown, IsPled, IsGood, IsWaiter, is_held_up, holds_up, IsUp, AllBehind, IsSettled}
 use Rattle.xl_core.specs.Judge.{Ruled, all_granted, to_record}
 use Rattle.xl_table.specs.Leaving.{goes}
 use Rattle.xl_table.specs.declared.leaver.Leaver.{Leaver}
@@ -43,6 +43,10 @@ use Rattle.xl_core.proofs.AskWishLaws.{wish_keeps, wish_claims, empty_wish, wish
 use Rattle.xl_core.proofs.GoodLaws.{once_answered, Turned, IsMoved, Answers, Rests, IsFirst, each_turn, told_last}
 use Rattle.xl_core.proofs.WayLaws.{way_keeps, begun_names, begun_waiters, way_idle}
 use Rattle.xl_core.proofs.TurnLaws.{up_rests, rests_held, move_first}
+use Rattle.xl_wait.specs.Waiting.{first_file, is_file, waiting_on, waits_on}
+use Rattle.xl_core.specs.Blockers.{is_in_line, range_ahead}
+use Rattle.xl_core.proofs.DecideLaws.{none_ahead}
+use Rattle.xl_core.proofs.LineLaws.{range_alike}
 
 -- ---- there is no turn exactly where each waiter rests
 
@@ -350,3 +354,27 @@ open_claims s number party c = departed_claims s (leavers.Open number party) c
 pub open_waiters : (s : CoreState) (number : ℕ) (party : Option Party) (w : Waiter) → IsIn w (close_open s number party).1.waiters ↔ (IsIn w s.waiters × (waits_as number w ≡ false))
 unfolding close_open
 open_waiters s number party w = departed_waiters s (leavers.Open number party) w
+
+-- ---- the first who waits on a file
+
+nobody_there : (file : ℕ) (ws : List Waiter) → waits_on file ws ≡ false → waiting_on file ws ≡ []
+nobody_there file [] e = refl
+nobody_there file (w ∷ ws) e = let parts = or_parts (is_file file (first_file w.asked)) (waits_on file ws) e in rw parts.0 (nobody_there file ws parts.1)
+
+none_in_front : (s : CoreState) (c : Claim) (before : List Waiter) → waiting_on c.file before ≡ [] → range_ahead before s c ≡ None
+none_in_front s c before none = range_alike before [] s c none ∙ none_ahead s c
+
+up_behind : (s : CoreState) (before : List Waiter) (w : Waiter) (behind earlier : List Waiter) → AllBehind (IsUp s) earlier (before ++ w ∷ behind) → IsUp s (earlier ++ before) w
+up_behind s [] w behind earlier all = subst (λ (ws : List Waiter). IsUp s ws w) (sym (append-nil earlier)) all.0
+up_behind s (v ∷ vs) w behind earlier all = subst (λ (ws : List Waiter). IsUp s ws w) (append_assoc earlier (v ∷ []) vs) (up_behind s vs w behind (earlier ++ v ∷ []) all.1)
+
+-- something held blocks it, unless grace runs
+pub first_blocked : (s : CoreState) (before behind : List Waiter) (w : Waiter) (c : Claim) (cs : List Claim) → IsSettled s → s.grace ≡ None → s.waiters ≡ before ++ w ∷ behind → w.asked ≡ c ∷ cs → waits_on c.file before ≡ false → is_blocked s.claims c ≡ true
+first_blocked s before behind w c cs settled calm stood asked first =
+    let up : IsUp s before w = up_behind s before w behind [] (subst (λ (ws : List Waiter). AllBehind (IsUp s) [] ws) stood settled) in
+    let held : (is_some s.grace || is_held_up before s w c) ≡ true = ap (λ (ds : List Claim). holds_up before s w ds) (sym asked) ∙ up in
+    let line : is_in_line before s c ≡ true = (and_parts (is_in_line before s c) _ (sym (ap (λ (b : Bool). b || is_held_up before s w c) (ap is_some calm)) ∙ held)).0 in
+    elim (or_cases (is_blocked s.claims c) (is_some (range_ahead before s c)) line) [
+      | inl blocked ↦ blocked
+      | inr behind ↦ absurd (both_ways (is_some (range_ahead before s c)) (ap is_some (none_in_front s c before (nobody_there c.file before first))) behind)
+    ]

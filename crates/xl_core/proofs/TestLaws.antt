@@ -4,9 +4,9 @@ use Rattle.xl_core.proofs.StandingLaws.{enters_cases, reclaims_asks, timely, tim
 use Rattle.xl_core.specs.declared.standings.Standing.TheVariants.{Timely, Reclaims, Stays, Early, Late, Unrecorded}
 use Rattle.xl_core.specs.declared.standings.Standing.{Standing}
 use Rattle.xl_core.specs.Standings.{asker_as, is_smb, standing, stands, stands_alone, enters}
-use Rattle.std.proofs.Common.{◌≡◌, ℕ, ◌<◌, ◌≤◌, Bool, true, false, not, ◌&&◌, ◌||◌, ◌==◌, eqb, List, [], ◌∷◌, length, Option, Some, None, inl, inr, refl, sym, ap, ◌∙◌, ◌↔◌, arith, slice_get, subst}
+use Rattle.std.proofs.Common.{◌≡◌, ℕ, ◌<◌, ◌≤◌, Bool, true, false, not, ◌&&◌, ◌||◌, ◌==◌, eqb, List, [], ◌∷◌, length, Option, Some, None, inl, inr, refl, sym, ap, ◌∙◌, arith, slice_get, subst, is_some}
 use Rattle.std.specs.List.{list_any}
-use Rattle.std.proofs.lemmas.Bool.{both_ways, and_parts, and_right, ne_eqb, cases_lt, not-true}
+use Rattle.std.proofs.lemmas.Bool.{both_ways, and_parts, and_right, ne_eqb, cases_lt, not-true, or_left}
 use Rattle.xl_base.specs.Lists.{IsIn}
 use Rattle.xl_base.proofs.Members.{all_in}
 use Rattle.xl_base.specs.Stable.{same_protocol}
@@ -33,7 +33,7 @@ use Rattle.xl_table.proofs.LeastLaws.{one_passes}
 use Rattle.xl_wait.specs.declared.waiter.Rooms.{Rooms}
 use Rattle.xl_core.specs.State.{CoreState}
 use Rattle.xl_core.specs.Askers.{asked_claim, asked_what, known_claim, known_owner, number_or, no_number, is_client, is_named, owner_in}
-use Rattle.xl_core.specs.Blockers.{test_blockers, is_stopped}
+use Rattle.xl_core.specs.Blockers.{test_blockers, is_barred, range_ahead, is_stopped}
 use Rattle.xl_core.specs.Causes.{stands_against, IsSameAsker, IsConflict, IsAgainst}
 use Rattle.xl_core.specs.Decide.{decided}
 use Rattle.xl_core.specs.Good.{are_kept, IsHeldBy, IsHeld, IsGood}
@@ -44,7 +44,7 @@ use Rattle.xl_core.specs.declared.ask.Who.{Who}
 use Rattle.xl_core.specs.declared.ask.Who.TheVariants.{Named}
 use Rattle.xl_core.proofs.CacheLaws.{range_no_cache}
 use Rattle.xl_core.proofs.CauseLaws.{lock_due, test_due, test_none, test_some, option_cases}
-use Rattle.xl_core.proofs.DecideLaws.{blockers_some, stops_some, final_in}
+use Rattle.xl_core.proofs.DecideLaws.{blockers_some, stops_some, final_in, named_is_held}
 use Rattle.xl_core.proofs.KnownLaws.{kept_named, is_client_is, client_posix, get_none}
 
 -- ---- only ranges block a range, and by their owners alone
@@ -135,7 +135,7 @@ goes_too s a b stays other fresh is = ap (standing s (asker_as b) other) fresh �
 
 pub test_foretells : (n : ℕ) (left : Rooms) (s : CoreState) (test lock : Ask) (first last : ℕ) (exclusive : Bool) → IsGood s → is_client lock.owner lock.party ≡ true → is_named lock.owner ≡ true → IsSameAsker test lock
     → test.act ≡ Test (Bytes first last) exclusive → lock.act ≡ Ranges ((Bytes first last, exclusive) ∷ []) → lock.blocking ≡ false → lock.reclaim ≡ false
-    → IsConflict (decided n left s lock).0 ↔ IsConflict (decided n left s test).0
+    → (range_ahead s.waiters s (asked_claim lock (Range (Bytes first last) exclusive) s.names) ≡ None → IsConflict (decided n left s lock).0 → IsConflict (decided n left s test).0) × (IsConflict (decided n left s test).0 → IsConflict (decided n left s lock).0)
 test_foretells n left s test lock first last exclusive good client has same tests locks hurries fresh = (back, forth) where
   what : What
   what = Range (Bytes first last) exclusive
@@ -153,7 +153,7 @@ test_foretells n left s test lock first last exclusive good client has same test
   refused timely stops =
       let found = stops_some s.waiters s asked stops in
       let held = blockers_some s.waiters s asked found.0 found.1 in
-      (found.0, (lock_due n left s lock what (Conflict found.0) (ap asked_what locks)).1 (subst (λ (st : Standing). IsAgainst st s lock asked found.0) (sym timely) (hurries, found.1, held.0, held.1)))
+      (found.0, (lock_due n left s lock what (Conflict found.0) (ap asked_what locks)).1 (subst (λ (st : Standing). IsAgainst st s lock asked found.0) (sym timely) (hurries, found.1, held)))
 
   -- the test goes on where no grace runs
   goes : enters (stands_alone s test) ≡ true → stands_alone s test ≡ Timely
@@ -166,7 +166,7 @@ test_foretells n left s test lock first last exclusive good client has same test
   forth told =
       let due = (test_due n left s test (Bytes first last) exclusive (Conflict told.0) tests).0 told.1 in
       let range = (and_parts (is_range told.0.what) (blocks known told.0) due.3).0 in
-      refused (goes_too s test lock false (is_smb lock.party) fresh (goes due.0)) (one_passes (is_final asked s.claims) s.claims told.0 due.2 (range_stops asked told.0 s.claims range (sym (alike told.0 due.2 (range_no_cache told.0.what range)) ∙ due.3)))
+      refused (goes_too s test lock false (is_smb lock.party) fresh (goes due.0)) (or_left (is_barred s asked) (is_some (range_ahead s.waiters s asked)) (one_passes (is_final asked s.claims) s.claims told.0 due.2 (range_stops asked told.0 s.claims range (sym (alike told.0 due.2 (range_no_cache told.0.what range)) ∙ due.3))))
 
   denied : stands_alone s test ≡ Timely → (c : Claim) → IsIn c s.claims → stands_against known c ≡ true → IsConflict (decided n left s test).0
   denied timely c there against =
@@ -177,12 +177,14 @@ test_foretells n left s test lock first last exclusive good client has same test
             (found.0, (test_due n left s test (Bytes first last) exclusive (Conflict found.0) tests).1 (ap enters timely, found.1, held.0, held.1))
       ]
 
-  back : IsConflict (decided n left s lock).0 → IsConflict (decided n left s test).0
-  back told =
+  -- nobody waits in front, so what is named is held
+  back : range_ahead s.waiters s asked ≡ None → IsConflict (decided n left s lock).0 → IsConflict (decided n left s test).0
+  back none told =
       let why = against_timely s lock asked told.0 fresh ((lock_due n left s lock what (Conflict told.0) (ap asked_what locks)).0 told.1) in
       let due = why.1 in
-      let final = (final_in s.waiters s asked told.0 due.1).1 in
-      let hard = (and_parts (not (is_cache told.0.what)) (not (is_covered asked s.claims told.0)) (and_parts (blocks asked told.0) (not (is_cache told.0.what) && not (is_covered asked s.claims told.0)) final).1).0 in
-      denied (goes_too s lock test (is_smb lock.party) false (same.reclaim ∙ fresh) why.0) told.0 due.2 (alike told.0 due.2 (not-true (is_cache told.0.what) hard) ∙ due.3)
+      let found = final_in s asked told.0 (named_is_held s.waiters s asked told.0 none due.1) in
+      let parts = and_parts (blocks asked told.0) (not (is_cache told.0.what) && not (is_covered asked s.claims told.0)) found.1 in
+      let hard = (and_parts (not (is_cache told.0.what)) (not (is_covered asked s.claims told.0)) parts.1).0 in
+      denied (goes_too s lock test (is_smb lock.party) false (same.reclaim ∙ fresh) why.0) told.0 found.0 (alike told.0 found.0 (not-true (is_cache told.0.what) hard) ∙ parts.0)
 
 -- ---- what is granted leaves the record, the clock and the counter

@@ -7,11 +7,11 @@ use Rattle.std.proofs.lemmas.Bool.{cases_Bool, both_ways, and_parts, or_left, or
 use Rattle.xl_base.specs.Lists.{IsIn}
 use Rattle.xl_base.proofs.Members.{all_in}
 use Rattle.xl_matrix.specs.declared.claim.Claim.{Claim}
-use Rattle.xl_table.specs.Flat.{is_blocked}
 use Rattle.xl_wait.specs.declared.waiter.Rooms.{Rooms}
 use Rattle.xl_wait.specs.declared.waiter.Waiter.{Waiter}
 use Rattle.xl_core.specs.State.{CoreState}
-use Rattle.xl_core.specs.Blockers.{is_stopped, all_run}
+use Rattle.std.proofs.lemmas.List.{append_assoc}
+use Rattle.xl_core.specs.Blockers.{is_in_line, is_stopped, all_run}
 use Rattle.xl_core.specs.BreaksBegun.{breaks_begun}
 use Rattle.xl_core.specs.Ways.{made_way}
 use Rattle.xl_cache.specs.BreakPlans.{planned, recalled_by}
@@ -60,7 +60,7 @@ kept_waits p d waits room = rw (waits, room) refl
 pub way_up : (earlier : List Waiter) (s : CoreState) (w : Waiter) (c : Claim) (cs : List Claim) → w.asked ≡ c ∷ cs → is_held_up earlier s w c ≡ true → way_again earlier s w ≡ ([], s)
 way_up earlier s w c cs asked up = ap (λ (ds : List Claim). made_way earlier (plea_again s w) ds s) asked ∙ by (is_stopped earlier s c) refl where
   run : is_stopped earlier s c ≡ false → all_run s.claims c ≡ true
-  run moves = sym (ap (λ (b : Bool). if b then w.blocking else all_run s.claims c) moves) ∙ (and_parts (is_blocked s.claims c) (if is_stopped earlier s c then w.blocking else all_run s.claims c) up).1
+  run moves = sym (ap (λ (b : Bool). if b then w.blocking else all_run s.claims c) moves) ∙ (and_parts (is_in_line earlier s c) (if is_stopped earlier s c then w.blocking else all_run s.claims c) up).1
 
   by : (b : Bool) → is_stopped earlier s c ≡ b → made_way earlier (plea_again s w) (c ∷ cs) s ≡ ([], s)
   by true stops = way_stopped earlier (plea_again s w) c cs s stops
@@ -72,8 +72,8 @@ waits_now n left s t earlier w c cs calm waits = by (is_stopped earlier t c) ref
   p : Plea
   p = plea_again s w
 
-  parts : (is_blocked t.claims c ≡ true) × ((if is_stopped earlier t c then p.blocking else p.awaits) ≡ true)
-  parts = and_parts (is_blocked t.claims c) (if is_stopped earlier t c then p.blocking else p.awaits) waits
+  parts : (is_in_line earlier t c ≡ true) × ((if is_stopped earlier t c then p.blocking else p.awaits) ≡ true)
+  parts = and_parts (is_in_line earlier t c) (if is_stopped earlier t c then p.blocking else p.awaits) waits
 
   by : (b : Bool) → is_stopped earlier t c ≡ b → judged n earlier left p (c ∷ cs) t ≡ (Waits, [], t)
   by true stops =
@@ -87,7 +87,7 @@ waits_now n left s t earlier w c cs calm waits = by (is_stopped earlier t c) ref
 -- so does one that is held up
 pub up_waits : (earlier : List Waiter) (s t : CoreState) (w : Waiter) (c : Claim) → is_held_up earlier t w c ≡ true → does_wait earlier (plea_again s w) t c ≡ true
 unfolding plea_again
-up_waits earlier s t w c up = by (is_blocked t.claims c) (is_stopped earlier t c) w.blocking (all_run t.claims c) up where
+up_waits earlier s t w c up = by (is_in_line earlier t c) (is_stopped earlier t c) w.blocking (all_run t.claims c) up where
   by : (x y z r : Bool) → (x && (if y then z else r)) ≡ true → (x && (if y then z else true)) ≡ true
   by true true z r e = e
   by true false z r e = refl
@@ -146,7 +146,7 @@ first_held : (earlier : List Waiter) (s : CoreState) (w : Waiter) (asked : List 
 unfolding plea_again
 first_held earlier s w [] calm quiet h = absurd h
 first_held earlier s w (c ∷ cs) calm quiet h =
-    or_right (is_some s.grace) (is_held_up earlier s w c) (by (is_blocked s.claims c) (is_stopped earlier s c) w.blocking (all_run s.claims c) h (λ moves. quiet_runs earlier s w c cs calm quiet moves))
+    or_right (is_some s.grace) (is_held_up earlier s w c) (by (is_in_line earlier s c) (is_stopped earlier s c) w.blocking (all_run s.claims c) h (λ moves. quiet_runs earlier s w c cs calm quiet moves))
   where
     by : (x y z r : Bool) → (x && (if y then z else true)) ≡ true → (y ≡ false → r ≡ true) → (x && (if y then z else r)) ≡ true
     by true true z r e run = e
@@ -211,26 +211,37 @@ called_here : (s : CoreState) (earlier : List Waiter) (w : Waiter) (ws : List Wa
 called_here s earlier w ws e = rw e refl
 
 -- its turn is the first
-pub turn_is_found : (left : Rooms) (s r t u : CoreState) (earlier ws : List Waiter) (called : Called) (begun : List Effect) (ruling : Ruling) (effects : List Effect) → first_called s earlier ws ≡ Some called
-    → ((before : List Waiter) → made_way before called.plea called.asked s ≡ (begun, r))
-    → (n : ℕ) → ((before : List Waiter) → judged n before left called.plea called.asked r ≡ (ruling, [], t)) → ((w : Waiter) → w.id ≡ called.id → w.party ≡ called.party → w.asked ≡ called.asked → w.wish ≡ called.wish → turned w ruling begun t ≡ (effects, u))
+pub turn_is_found : (left : Rooms) (s r t u : CoreState) (front earlier ws : List Waiter) (called : Called) (begun : List Effect) (ruling : Ruling) (effects : List Effect) → first_called s earlier ws ≡ Some called
+    → ((before behind : List Waiter) (w : Waiter) → earlier ++ ws ≡ before ++ w ∷ behind → w.id ≡ called.id → front ≡ before)
+    → made_way front called.plea called.asked s ≡ (begun, r)
+    → (n : ℕ) → judged n front left called.plea called.asked r ≡ (ruling, [], t) → ((w : Waiter) → w.id ≡ called.id → w.party ≡ called.party → w.asked ≡ called.asked → w.wish ≡ called.wish → turned w ruling begun t ≡ (effects, u))
     → first_turn n left s earlier ws ≡ Some (effects, u)
-turn_is_found left s r t u earlier [] called begun ruling effects e way n judges turns = absurd cc
-turn_is_found left s r t u earlier (w ∷ ws) called begun ruling effects e way n judges turns =
+turn_is_found left s r t u front earlier [] called begun ruling effects e at way n judges turns = absurd cc
+turn_is_found left s r t u front earlier (w ∷ ws) called begun ruling effects e at way n judges turns =
     elim (cases_Bool (holds_up earlier s w w.asked)) [
       | inl up ↦
           rest_first n left s earlier w _ (up_rests n left s earlier w up)
-          ∙ turn_is_found left s r t u (earlier ++ w ∷ []) ws called begun ruling effects (sym (called_later s earlier w ws up) ∙ e) way n judges turns
+          ∙ turn_is_found left s r t u front (earlier ++ w ∷ []) ws called begun ruling effects (sym (called_later s earlier w ws up) ∙ e) (λ before behind v is. at before behind v (sym (append_assoc earlier (w ∷ []) ws) ∙ is)) way n judges turns
       | inr free ↦
           let same : called_of s w ≡ called = same_called (called_of s w) called (sym (called_here s earlier w ws free) ∙ e) in
-          let made : way_again earlier s w ≡ (begun, r) = ap (λ (x : Called). made_way earlier x.plea x.asked s) same ∙ way earlier in
+          let stands : front ≡ earlier = at earlier ws w refl (ap (λ (x : Called). x.id) same) in
+          let made : way_again earlier s w ≡ (begun, r) = ap (λ (x : Called). made_way earlier x.plea x.asked s) same ∙ ap (λ (vs : List Waiter). made_way vs called.plea called.asked s) (sym stands) ∙ way in
           let ruled : again n left s earlier w ≡ (ruling, begun, t) =
           again_is n left s earlier w begun r made
-          ∙ ap (ruled_behind begun) (ap (λ (x : Called). judged n earlier left x.plea x.asked r) same ∙ judges earlier)
+          ∙ ap (ruled_behind begun) (ap (λ (x : Called). judged n earlier left x.plea x.asked r) same ∙ ap (λ (vs : List Waiter). judged n vs left called.plea called.asked r) (sym stands) ∙ judges)
           ∙ (λ i. (ruling, append-nil begun i, t)) in
           move_first w (again n left s earlier w) _ (free_moves n left s earlier w free)
           ∙ ap (λ (x : Ruled). Some (turned w x.0 x.1 x.2)) ruled
           ∙ ap (λ (x : List Effect × CoreState). Some x) (turns w (ap (λ (x : Called). x.id) same) (ap (λ (x : Called). x.party) same) (ap (λ (x : Called). x.asked) same) (ap (λ (x : Called). x.wish) same))
+    ]
+
+-- who is called is one of these
+pub called_in : (s : CoreState) (earlier ws : List Waiter) (called : Called) → first_called s earlier ws ≡ Some called → (w : Waiter) × IsIn w ws × (called_of s w ≡ called)
+called_in s earlier [] called e = absurd cc
+called_in s earlier (w ∷ ws) called e =
+    elim (cases_Bool (holds_up earlier s w w.asked)) [
+      | inl up ↦ let found = called_in s (earlier ++ w ∷ []) ws called (sym (called_later s earlier w ws up) ∙ e) in (found.0, inr found.1, found.2)
+      | inr free ↦ (w, inl refl, same_called (called_of s w) called (sym (called_here s earlier w ws free) ∙ e))
     ]
 
 pub none_is_found : (left : Rooms) (s : CoreState) (earlier ws : List Waiter) → first_called s earlier ws ≡ None → (n : ℕ) → first_turn n left s earlier ws ≡ None

@@ -1,10 +1,10 @@
 -- The files that are noted as unsettled, and who is called by them.
-use Rattle.std.proofs.Common.{◌≡◌, ℕ, zero, suc, ◌+◌, ◌<◌, ◌≤◌, Bool, true, false, not, ◌&&◌, ◌||◌, ◌==◌, nat_lt, inl, inr, List, [], ◌∷◌, ◌++◌, Option, Some, None, ◌⊎◌, slice_get, get_or, drop, length, IfSome, is_some, if◌then◌else◌, refl, sym, ap, subst, ◌∙◌, arith}
+use Rattle.std.proofs.Common.{map, ◌≡◌, ℕ, zero, suc, ◌+◌, ◌<◌, ◌≤◌, Bool, true, false, not, ◌&&◌, ◌||◌, ◌==◌, nat_lt, inl, inr, List, [], ◌∷◌, ◌++◌, Option, Some, None, ◌⊎◌, slice_get, get_or, drop, length, IfSome, is_some, if◌then◌else◌, refl, sym, ap, subst, ◌∙◌, arith}
 use Rattle.std.specs.List.{AllByRecursion, filter, list_any}
 use Rattle.std.proofs.lemmas.Bool.{cases_Bool, both_ways, or_parts, eqb-true, eq-eqb}
 use Rattle.std.proofs.lemmas.Bool.Decides.{nat_tests}
 use Rattle.std.proofs.lemmas.List.{append_assoc, drop_all, drop_more}
-use Rattle.xl_base.specs.Lists.{IsIn}
+use Rattle.xl_base.specs.Lists.{IsIn, Pairwise}
 use Rattle.xl_base.specs.declared.event.Moment.{Moment}
 use Rattle.xl_base.proofs.Members.{all_in, all_from, in_filter_from}
 use Rattle.xl_matrix.proofs.EqualLaws.{eqb-sym}
@@ -18,18 +18,22 @@ use Rattle.xl_wait.specs.Waiting.{first_file, is_file, waits_on, waiting_on}
 use Rattle.xl_wait.specs.declared.waiter.Waiter.{Waiter}
 use Rattle.xl_core.specs.State.{CoreState, Aside}
 use Rattle.xl_core.proofs.AsideLaws.{with_aside}
-use Rattle.xl_core.specs.Good.{IsGood, IsWaiter, IsPled, is_held_up, of_first, holds_up}
+use Rattle.xl_core.specs.Blockers.{before_number, IsInLine}
+use Rattle.xl_core.specs.declared.blockers.Front.TheVariants.{Before}
+use Rattle.xl_core.proofs.TurnLaws.{called_in}
+use Rattle.xl_core.specs.Good.{IsGood, IsWaiter, IsPled, are_apart, is_held_up, of_first, holds_up}
+use Rattle.xl_core.proofs.LineLaws.{before_is, apart_before, in_its_line}
 use Rattle.xl_core.specs.BreakAnswers.{ack}
 use Rattle.xl_core.specs.Ticks.{advanced, behind_told, in_turn}
-use Rattle.xl_core.specs.Settle.{called_of, first_called, waits_with, give_back, weaken, departed}
-use Rattle.xl_core.specs.Unsettled.{is_among, only_file, with_file, may_change, left_by_ask, IsWider, Notes, NotesLeft, IsHeldUp, AreHeldUp}
+use Rattle.xl_core.specs.Settle.{called_of, first_called, first_free, is_up, gone, told_with, waits_with, give_back, weaken, departed}
+use Rattle.xl_core.specs.Unsettled.{is_among, only_file, with_file, may_change, left_by_ask, IsWider, IsNoted, Notes, NotesLeft, NotesGone, IsHeldUp, AreUp, AreHeldUp}
 use Rattle.xl_core.specs.declared.ask.Answer.{Answer}
 use Rattle.xl_core.specs.declared.ask.Ask.{Ask}
 use Rattle.xl_core.specs.declared.ask.Effect.{Effect}
 use Rattle.xl_core.specs.declared.settling.Called.{Called}
 use Rattle.xl_core.specs.declared.unsettled.Unsettled.{Unsettled}
 use Rattle.xl_core.specs.declared.unsettled.Unsettled.TheVariants.{Files, All}
-use Rattle.xl_core.proofs.HeldUpLaws.{on_file, AreUp, each_up, up_each, held_up_still, all_still_up, give_back_up, weaken_up, ack_up}
+use Rattle.xl_core.proofs.HeldUpLaws.{on_file, held_up_still, kept_apart, noted_off, left_out, one_number, all_still_up, give_back_up, weaken_up, ack_up}
 
 -- ---- which files they are
 
@@ -84,13 +88,13 @@ waits_among w c cs (v ∷ vs) there asked =
 
 -- who is held up but for one file is held up but for those that were noted with it
 narrowed : (u v : Unsettled) (file : ℕ) (s : CoreState) (ws : List Waiter) → Notes u v file ws → AreUp (with_file file u) s ws → AreUp v s ws
-narrowed u v file s ws notes all = all_from (λ (w : Waiter). IsHeldUp v [] s w w.asked) ws (λ w there. one w w.asked refl there (all_in (λ (x : Waiter). IsHeldUp (with_file file u) [] s x x.asked) w ws all there))
+narrowed u v file s ws notes all = all_from (λ (w : Waiter). IsHeldUp v (before_number w.id s.waiters) s w w.asked) ws (λ w there. one w w.asked refl there (all_in (λ (x : Waiter). IsHeldUp (with_file file u) (before_number x.id s.waiters) s x x.asked) w ws all there))
   where
     off : (c : Claim) (x : Unsettled) → is_among x c.file ≡ false → (c.file == file) ≡ false → is_among (with_file file x) c.file ≡ false
     off c (Files files) e apart = rw (apart, e) refl
     off c All e apart = e
 
-    one : (w : Waiter) (asked : List Claim) → w.asked ≡ asked → IsIn w ws → IsHeldUp (with_file file u) [] s w asked → IsHeldUp v [] s w asked
+    one : (w : Waiter) (asked : List Claim) → w.asked ≡ asked → IsIn w ws → IsHeldUp (with_file file u) (before_number w.id s.waiters) s w asked → IsHeldUp v (before_number w.id s.waiters) s w asked
     one w [] is there up = tt
     one w (c ∷ cs) is there up = λ e.
         elim (cases_Bool (c.file == file)) [
@@ -102,7 +106,7 @@ narrowed u v file s ws notes all = all_from (λ (w : Waiter). IsHeldUp v [] s w 
 
 pub noted_up : (u v : Unsettled) (file : ℕ) (s : CoreState) → Notes u v file s.waiters → AreHeldUp (with_file file u) s → AreHeldUp v s
 unfolding AreHeldUp
-noted_up u v file s notes all = λ calm. up_each v s [] s.waiters (narrowed u v file s s.waiters notes (each_up (with_file file u) s [] s.waiters (all calm)))
+noted_up u v file s notes all = λ calm. narrowed u v file s s.waiters notes (all calm)
 
 pub asked_noted : (u v : Unsettled) (a : Ask) (answer : Answer) (told : List Effect) (t : CoreState) → AreHeldUp (left_by_ask a answer told u) t → (may_change a answer told ≡ true → Notes u v a.file t.waiters) → (may_change a answer told ≡ false → v ≡ u) → AreHeldUp v t
 asked_noted u v a answer told t all notes same =
@@ -131,8 +135,8 @@ removed_noted u v s claim held notes is all =
 
 -- the clock, and who has a lease, hold up nobody
 pub advanced_up : (u : Unsettled) (s : CoreState) (now : Moment) → AreHeldUp u s → AreHeldUp u (advanced s now)
-unfolding advanced AreHeldUp
-advanced_up u s now all = all
+unfolding advanced
+advanced_up u s now all = all_still_up u u s (advanced s now) refl refl (λ file n. (n, refl)) all
 
 -- nor does anything but claims, waiters and grace
 pub kept_up : (u : Unsettled) (s t : CoreState) → t.claims ≡ s.claims → t.waiters ≡ s.waiters → t.grace ≡ s.grace → AreHeldUp u s → AreHeldUp u t
@@ -218,71 +222,101 @@ kept_there file keep (c ∷ cs) stay =
       ]
     ]
 
-pub left_up : (u v : Unsettled) (s : CoreState) (leaver : Leaver) → NotesLeft u v leaver s.claims s.waiters → AreHeldUp u s → AreHeldUp v (departed s leaver).1
+-- where nothing is told nobody goes whose file was to be noted
+pub none_gone : (u : Unsettled) (leaver : Leaver) (ws : List Waiter) (told : List Effect) → told ≡ told_with leaver ws → length told < 1 → NotesGone u u leaver ws
+unfolding told_with
+none_gone u leaver ws told is few = record { wider = λ f n. n; gone = by ws (sym is ∙ empty told few) } where
+  empty : (effects : List Effect) → length effects < 1 → effects ≡ []
+  empty [] none = refl
+  empty (effect ∷ effects) none = absurd (omega (arith, none))
+
+  by : (vs : List Waiter) → map gone (filter (waits_with leaver) vs) ≡ [] → AllByRecursion (λ w. waits_with leaver w ≡ true → IsNoted u w) vs
+  by [] e = tt
+  by (v ∷ vs) e = elim (cases_Bool (waits_with leaver v)) [
+    | inl goes_too ↦ (let two : gone v ∷ map gone (filter (waits_with leaver) vs) ≡ [] = rw goes_too at e in absurd cc)
+    | inr stays ↦ (λ goes_too. absurd (both_ways (waits_with leaver v) stays goes_too), by vs (rw stays at e))
+  ]
+
+pub left_up : (u v x : Unsettled) (s : CoreState) (leaver : Leaver) → IsGood s → NotesLeft u v leaver s.claims s.waiters → NotesGone v x leaver s.waiters → AreHeldUp u s → AreHeldUp x (departed s leaver).1
 unfolding AreHeldUp
-left_up u v s leaver notes all = λ calm.
-    up_each v after [] after.waiters
-    (all_from (λ (w : Waiter). IsHeldUp v [] after w w.asked) after.waiters
-    (λ w there. let stood = (in_filter_from (λ (x : Waiter). not (waits_with leaver x)) w s.waiters there).0 in one w w.asked refl stood (all_in (λ (x : Waiter). IsHeldUp u [] s x x.asked) w s.waiters (each_up u s [] s.waiters (all calm)) stood)))
+left_up u v x s leaver good notes gone all = λ calm.
+    all_from (λ (w : Waiter). IsHeldUp x (before_number w.id after.waiters) after w w.asked) after.waiters
+    (λ w there. let kept = in_filter_from (λ (y : Waiter). not (waits_with leaver y)) w s.waiters there in one w w.asked refl kept.0 kept.1 (all_in (λ (y : Waiter). IsHeldUp u (before_number y.id s.waiters) s y y.asked) w s.waiters (all calm) kept.0))
   where
     after : CoreState
     after = (departed s leaver).1
 
-    one : (w : Waiter) (asked : List Claim) → w.asked ≡ asked → IsIn w s.waiters → IsHeldUp u [] s w asked → IsHeldUp v [] after w asked
-    one w [] is there up = tt
-    one w (c ∷ cs) is there up = λ e. held_up_still [] s after w c (kept_there c.file (λ d. not (goes leaver d)) s.claims (stays e)) ∙ up (notes.wider c.file e)
+    one : (w : Waiter) (asked : List Claim) → w.asked ≡ asked → IsIn w s.waiters → not (waits_with leaver w) ≡ true → IsHeldUp u (before_number w.id s.waiters) s w asked → IsHeldUp x (before_number w.id after.waiters) after w asked
+    one w [] is there stays up = tt
+    one w (c ∷ cs) is there stays up = λ e.
+        held_up_still (before_number w.id s.waiters) (before_number w.id after.waiters) s after w c (line e) (kept_there c.file (λ d. not (goes leaver d)) s.claims (rest (gone.wider c.file e))) ∙ up (notes.wider c.file (gone.wider c.file e))
       where
-        stays : is_among v c.file ≡ false → (d : Claim) → IsIn d s.claims → (d.file == c.file) ≡ true → not (goes leaver d) ≡ true
-        stays e d held on =
+        line : is_among x c.file ≡ false → waiting_on c.file (before_number w.id after.waiters) ≡ waiting_on c.file (before_number w.id s.waiters)
+        line e = kept_apart (λ y. not (waits_with leaver y)) w.id c.file s.waiters
+            (all_from (λ (y : Waiter). not (waits_with leaver y) ≡ false → ((y.id == w.id) ≡ false) × (is_file c.file (first_file y.asked) ≡ false)) s.waiters
+            (λ y held out. (other y held out, noted_off x y c.file (all_in (λ z. waits_with leaver z ≡ true → IsNoted x z) y s.waiters gone.gone held (left_out (waits_with leaver y) out)) e)))
+          where
+            other : (y : Waiter) → IsIn y s.waiters → not (waits_with leaver y) ≡ false → (y.id == w.id) ≡ false
+            other y held out = elim (cases_Bool (y.id == w.id)) [
+              | inr apart ↦ apart
+              | inl same ↦ absurd (both_ways (not (waits_with leaver w)) (subst (λ (z : Waiter). not (waits_with leaver z) ≡ false) (one_number w y s.waiters good.apart there held same) out) stays)
+            ]
+
+        rest : is_among v c.file ≡ false → (d : Claim) → IsIn d s.claims → (d.file == c.file) ≡ true → not (goes leaver d) ≡ true
+        rest e d held on =
             elim (cases_Bool (goes leaver d)) [
               | inr out ↦ rw out refl
               | inl out ↦
                   let same : d.file ≡ c.file = eqb-true d.file c.file on in
                   let waits : waits_on d.file s.waiters ≡ true = subst (λ (f : ℕ). waits_on f s.waiters ≡ true) (sym same) (waits_among w c cs s.waiters there is) in
-                  absurd (both_ways (is_among v c.file) e (subst (λ (f : ℕ). is_among v f ≡ true) same (all_in (λ x. goes leaver x ≡ true → waits_on x.file s.waiters ≡ true → is_among v x.file ≡ true) d s.claims notes.own held out waits)))
+                  absurd (both_ways (is_among v c.file) e (subst (λ (f : ℕ). is_among v f ≡ true) same (all_in (λ y. goes leaver y ≡ true → waits_on y.file s.waiters ≡ true → is_among v y.file ≡ true) d s.claims notes.own held out waits)))
             ]
+
+-- ---- the files of those who wait no more
+
+pub same_wider : (u : Unsettled) → IsWider u u
+same_wider u file n = n
 
 -- ---- who is called
 
--- who waits before them has no part in who is called of these
-called_alike : (s : CoreState) (earlier before ws : List Waiter) → first_called s earlier ws ≡ first_called s before ws
-called_alike s earlier before [] = refl
-called_alike s earlier before (w ∷ ws) = ap (λ (o : Option Called). if holds_up [] s w w.asked then o else Some (called_of s w)) (called_alike s (earlier ++ w ∷ []) (before ++ w ∷ []) ws)
-
-pub called_onward : (s : CoreState) (w : Waiter) (ws : List Waiter) → holds_up [] s w w.asked ≡ true → first_called s [] (w ∷ ws) ≡ first_called s [] ws
-called_onward s w ws up = rw up (called_alike s (w ∷ []) [] ws)
+pub called_onward : (s : CoreState) (w : Waiter) (ws : List Waiter) → is_up s w ≡ true → first_free s (w ∷ ws) ≡ first_free s ws
+called_onward s w ws up = rw up refl
 
 -- behind the next of these, who is held up, it is the first of the rest
-pub called_on_from : (u : Unsettled) (s : CoreState) (ws : List Waiter) (i : ℕ) (w : Waiter) → i < length ws → w ≡ get_or ws i w → holds_up [] s w w.asked ≡ true
-    → (first_called s [] (drop i ws) ≡ first_called s [] ws) × AreUp u s (drop i ws) → (first_called s [] (drop (i + 1) ws) ≡ first_called s [] ws) × AreUp u s (drop (i + 1) ws)
-called_on_from u s ws i w lt is up so_far =
+pub called_on_from : (P : Waiter → Type 0) (u : Unsettled) (s : CoreState) (ws : List Waiter) (i : ℕ) (w : Waiter) → i < length ws → w ≡ get_or ws i w → is_up s w ≡ true
+    → (first_free s (drop i ws) ≡ first_free s ws) × AreUp u s (drop i ws) × AllByRecursion P (drop i ws) → (first_free s (drop (i + 1) ws) ≡ first_free s ws) × AreUp u s (drop (i + 1) ws) × AllByRecursion P (drop (i + 1) ws)
+called_on_from P u s ws i w lt is up so_far =
     let front : drop i ws ≡ w ∷ drop (i + 1) ws = drop_more ws i w lt ∙ ap (λ (v : Waiter). v ∷ drop (i + 1) ws) (sym is) in
-    (sym (called_onward s w (drop (i + 1) ws) up) ∙ ap (first_called s []) (sym front) ∙ so_far.0, (subst (AreUp u s) front so_far.1).1)
+    (sym (called_onward s w (drop (i + 1) ws) up) ∙ ap (first_free s) (sym front) ∙ so_far.0, (subst (AreUp u s) front so_far.1).1, (subst (λ (vs : List Waiter). AllByRecursion P vs) front so_far.2).1)
+
+-- so is the next of them
+pub next_of : (P : Waiter → Type 0) (ws : List Waiter) (i : ℕ) (w : Waiter) → i < length ws → w ≡ get_or ws i w → AllByRecursion P (drop i ws) → P w
+next_of P ws i w lt is all = (subst (λ (vs : List Waiter). AllByRecursion P vs) (drop_more ws i w lt ∙ ap (λ (v : Waiter). v ∷ drop (i + 1) ws) (sym is)) all).0
 
 -- who isn't held up is free on the unsettled file
-free_one : (s : CoreState) (file : ℕ) (w : Waiter) → IsPled w.asked → IsHeldUp (Files (file ∷ [])) [] s w w.asked → holds_up [] s w w.asked ≡ false → is_file file (first_file w.asked) ≡ true
+free_one : (s : CoreState) (file : ℕ) (w : Waiter) → IsPled w.asked → IsHeldUp (Files (file ∷ [])) (before_number w.id s.waiters) s w w.asked → is_up s w ≡ false → is_file file (first_file w.asked) ≡ true
 free_one s file w pled up free = by w.asked pled up free where
   alone : (b : Bool) → b ≡ false → (b || false) ≡ false
   alone true e = e
   alone false e = e
 
-  by : (asked : List Claim) → IsPled asked → IsHeldUp (Files (file ∷ [])) [] s w asked → holds_up [] s w asked ≡ false → is_file file (first_file asked) ≡ true
+  by : (asked : List Claim) → IsPled asked → IsHeldUp (Files (file ∷ [])) (before_number w.id s.waiters) s w asked → holds_up (before_number w.id s.waiters) s w asked ≡ false → is_file file (first_file asked) ≡ true
   by [] none up free = absurd none
   by (c ∷ cs) some up free =
       elim (cases_Bool (c.file == file)) [
         | inl on ↦ on
-        | inr off ↦ absurd (both_ways (is_held_up [] s w c) (or_parts (is_some s.grace) (is_held_up [] s w c) free).1 (up (alone (c.file == file) off)))
+        | inr off ↦ absurd (both_ways (is_held_up (before_number w.id s.waiters) s w c) (or_parts (is_some s.grace) (is_held_up (before_number w.id s.waiters) s w c) free).1 (up (alone (c.file == file) off)))
       ]
 
-calm_if_free : (s : CoreState) (w : Waiter) → holds_up [] s w w.asked ≡ false → is_some s.grace ≡ false
-calm_if_free s w free = (or_parts (is_some s.grace) (of_first (λ c. is_held_up [] s w c) w.asked) free).0
+calm_if_free : (s : CoreState) (w : Waiter) → is_up s w ≡ false → is_some s.grace ≡ false
+calm_if_free s w free = (or_parts (is_some s.grace) (of_first (λ c. is_held_up (before_number w.id s.waiters) s w c) w.asked) free).0
 
 -- who is called of those on the one unsettled file is called of all
-called_among : (s : CoreState) (file : ℕ) (ws : List Waiter) → AllByRecursion (IsWaiter s.names s.counter) ws → (is_some s.grace ≡ false → AreUp (Files (file ∷ [])) s ws) → first_called s [] (waiting_on file ws) ≡ first_called s [] ws
+called_among : (s : CoreState) (file : ℕ) (ws : List Waiter) → AllByRecursion (IsWaiter s.names s.counter) ws → (is_some s.grace ≡ false → AreUp (Files (file ∷ [])) s ws) → first_free s (waiting_on file ws) ≡ first_free s ws
 called_among s file [] are all = refl
 called_among s file (w ∷ ws) are all =
-    let behind : first_called s [] (waiting_on file ws) ≡ first_called s [] ws = called_among s file ws are.1 (λ calm. (all calm).1) in
-    elim (cases_Bool (holds_up [] s w w.asked)) [
+    let behind : first_free s (waiting_on file ws) ≡ first_free s ws = called_among s file ws are.1 (λ calm. (all calm).1) in
+    elim (cases_Bool (is_up s w)) [
       | inl up ↦ elim (cases_Bool (is_file file (first_file w.asked))) [
         | inl on ↦ rw on (called_onward s w (waiting_on file ws) up ∙ behind ∙ sym (called_onward s w ws up))
         | inr off ↦ rw off (behind ∙ sym (called_onward s w ws up))
@@ -290,9 +324,68 @@ called_among s file (w ∷ ws) are all =
       | inr free ↦ rw (free_one s file w are.0.2 (all (calm_if_free s w free)).0 free, free) refl
     ]
 
-pub called_on : (s : CoreState) (file : ℕ) → IsGood s → AreHeldUp (Files (file ∷ [])) s → first_called s [] (waiting_on file s.waiters) ≡ first_called s [] s.waiters
+pub called_on : (s : CoreState) (file : ℕ) → IsGood s → AreHeldUp (Files (file ∷ [])) s → first_free s (waiting_on file s.waiters) ≡ first_free s s.waiters
 unfolding AreHeldUp
-called_on s file good all = called_among s file s.waiters good.waiters (λ calm. each_up (Files (file ∷ [])) s [] s.waiters (all calm))
+called_on s file good all = called_among s file s.waiters good.waiters all
+
+-- who is called of all is the first of them that isn't held up
+free_from : (s : CoreState) (before ws : List Waiter) → s.waiters ≡ before ++ ws → Pairwise are_apart s.waiters → first_free s ws ≡ first_called s before ws
+free_from s before [] are apart = refl
+free_from s before (w ∷ ws) are apart =
+    let front : before_number w.id s.waiters ≡ before = ap (before_number w.id) are ∙ before_is before w ws (apart_before before w ws (subst (λ (vs : List Waiter). Pairwise are_apart vs) are apart)) in
+    λ i. if holds_up (front i) s w w.asked then free_from s (before ++ w ∷ []) ws (are ∙ sym (append_assoc before (w ∷ []) ws)) apart i else Some (called_of s w)
+
+pub free_is_called : (s : CoreState) → IsGood s → first_free s s.waiters ≡ first_called s [] s.waiters
+free_is_called s good = free_from s [] s.waiters refl good.apart
+
+-- each who waits stands in its file's queue as it does among all
+pub waiter_line : (s : CoreState) (w : Waiter) → IsGood s → IsIn w s.waiters → AllByRecursion (IsInLine (Before w.id) s.waiters) w.asked
+waiter_line s w good there = by w.asked refl (all_in (IsWaiter s.names s.counter) w s.waiters good.waiters there).2 where
+  one : (c d : Claim) (ds : List Claim) → w.asked ≡ d ∷ ds → c.file ≡ d.file → IsInLine (Before w.id) s.waiters c
+  one c d ds is same = in_its_line w.id c.file s.waiters
+      (all_from (λ (x : Waiter). (x.id == w.id) ≡ true → is_file c.file (first_file x.asked) ≡ true) s.waiters
+      (λ x held e. subst (λ (y : Waiter). is_file c.file (first_file y.asked) ≡ true) (sym (one_number w x s.waiters good.apart there held e)) (ap (λ (cs : List Claim). is_file c.file (first_file cs)) is ∙ eq-eqb d.file c.file (sym same))))
+
+  each : (d : Claim) (ds cs : List Claim) → w.asked ≡ d ∷ ds → AllByRecursion (λ c. c.file ≡ d.file) cs → AllByRecursion (IsInLine (Before w.id) s.waiters) cs
+  each d ds [] is all = tt
+  each d ds (c ∷ cs) is all = (one c d ds is all.0, each d ds cs is all.1)
+
+  by : (asked : List Claim) → w.asked ≡ asked → IsPled asked → AllByRecursion (IsInLine (Before w.id) s.waiters) asked
+  by [] is none = absurd none
+  by (d ∷ ds) is pled = (one d d ds is refl, each d ds ds is pled.1)
+
+pub all_lines : (s : CoreState) → IsGood s → AllByRecursion (λ w. AllByRecursion (IsInLine (Before w.id) s.waiters) w.asked) s.waiters
+all_lines s good = all_from (λ (w : Waiter). AllByRecursion (IsInLine (Before w.id) s.waiters) w.asked) s.waiters (λ w there. waiter_line s w good there)
+
+pub called_line : (s : CoreState) (called : Called) → IsGood s → first_called s [] s.waiters ≡ Some called → AllByRecursion (IsInLine (Before called.id) s.waiters) called.asked
+called_line s called good e =
+    let found = called_in s [] s.waiters called e in
+    subst (λ (x : Called). AllByRecursion (IsInLine (Before x.id) s.waiters) x.asked) found.2 (waiter_line s found.0 good found.1)
+
+-- in front of it stand those who stood in front when it was found
+pub called_front : (s : CoreState) (called : Called) → IsGood s → (before behind : List Waiter) (w : Waiter) → s.waiters ≡ before ++ w ∷ behind → w.id ≡ called.id → before_number called.id s.waiters ≡ before
+called_front s called good before behind w stood id =
+    ap (λ (n : ℕ). before_number n s.waiters) (sym id) ∙ ap (before_number w.id) stood ∙ before_is before w behind (apart_before before w behind (subst (λ (vs : List Waiter). Pairwise are_apart vs) stood good.apart))
+
+-- the one who stands so far behind in a file's queue waits
+pub nth_waits : (file i : ℕ) (ws : List Waiter) (w : Waiter) → slice_get (waiting_on file ws) i ≡ Some w → IsIn w ws
+nth_waits file i [] w e = absurd (cc e)
+nth_waits file i (v ∷ vs) w e = elim (cases_Bool (is_file file (first_file v.asked))) [
+  | inr off ↦ inr (nth_waits file i vs w (sym (rw off refl) ∙ e))
+  | inl on ↦ by i (sym (rw on refl) ∙ e) (λ k f. nth_waits file k vs w f)
+]
+  where
+    same : (a b : Waiter) → Some a ≡ Some b → a ≡ b
+    same a b k = cc
+
+    by : (k : ℕ) → slice_get (v ∷ waiting_on file vs) k ≡ Some w → ((m : ℕ) → slice_get (waiting_on file vs) m ≡ Some w → IsIn w vs) → IsIn w (v ∷ vs)
+    by zero f rest = inl (same v w f)
+    by (suc k) f rest = inr (rest k f)
+
+-- nobody is while grace runs
+pub none_free : (s : CoreState) (ws : List Waiter) → is_some s.grace ≡ true → first_free s ws ≡ None
+none_free s [] runs = refl
+none_free s (w ∷ ws) runs = rw runs (none_free s ws runs)
 
 -- of these the next stands there
 stands_next : (ws : List Waiter) (i : ℕ) (w : Waiter) → slice_get ws i ≡ Some w → drop i ws ≡ w ∷ drop (suc i) ws
@@ -307,15 +400,15 @@ none_next (x ∷ xs) zero is = absurd (cc is)
 none_next (x ∷ xs) (suc i) is = none_next xs i is
 
 -- the next of them is held up, so who is called stands behind it; or isn't, and is called; or there is none
-pub on_past : (s : CoreState) (ws : List Waiter) (i : ℕ) (w : Waiter) → slice_get ws i ≡ Some w → holds_up [] s w w.asked ≡ true → first_called s [] (drop i ws) ≡ first_called s [] ws → first_called s [] (drop (i + 1) ws) ≡ first_called s [] ws
+pub on_past : (s : CoreState) (ws : List Waiter) (i : ℕ) (w : Waiter) → slice_get ws i ≡ Some w → is_up s w ≡ true → first_free s (drop i ws) ≡ first_free s ws → first_free s (drop (i + 1) ws) ≡ first_free s ws
 on_past s ws i w is up so_far =
     let next : suc i ≡ i + 1 = omega arith in
-    ap (λ (k : ℕ). first_called s [] (drop k ws)) (sym next) ∙ sym (called_onward s w (drop (suc i) ws) up) ∙ ap (first_called s []) (sym (stands_next ws i w is)) ∙ so_far
+    ap (λ (k : ℕ). first_free s (drop k ws)) (sym next) ∙ sym (called_onward s w (drop (suc i) ws) up) ∙ ap (first_free s) (sym (stands_next ws i w is)) ∙ so_far
 
-pub on_free : (s : CoreState) (ws : List Waiter) (i : ℕ) (w : Waiter) → slice_get ws i ≡ Some w → holds_up [] s w w.asked ≡ false → first_called s [] (drop i ws) ≡ first_called s [] ws → Some (called_of s w) ≡ first_called s [] ws
+pub on_free : (s : CoreState) (ws : List Waiter) (i : ℕ) (w : Waiter) → slice_get ws i ≡ Some w → is_up s w ≡ false → first_free s (drop i ws) ≡ first_free s ws → Some (called_of s w) ≡ first_free s ws
 on_free s ws i w is free so_far =
-    let here : first_called s [] (w ∷ drop (suc i) ws) ≡ Some (called_of s w) = rw free refl in
-    sym here ∙ ap (first_called s []) (sym (stands_next ws i w is)) ∙ so_far
+    let here : first_free s (w ∷ drop (suc i) ws) ≡ Some (called_of s w) = rw free refl in
+    sym here ∙ ap (first_free s) (sym (stands_next ws i w is)) ∙ so_far
 
 few_on : (file : ℕ) (ws : List Waiter) → length (waiting_on file ws) ≤ length ws
 few_on file [] = omega arith
@@ -323,11 +416,11 @@ few_on file (w ∷ ws) =
     let rest = few_on file ws in
     elim (cases_Bool (is_file file (first_file w.asked))) [ inl on ↦ rw on (omega (arith, rest)) | inr off ↦ rw off (omega (arith, rest)) ]
 
-pub on_none : (s : CoreState) (ws : List Waiter) (i : ℕ) → slice_get ws i ≡ None → first_called s [] (drop i ws) ≡ first_called s [] ws → None ≡ first_called s [] ws
-on_none s ws i is so_far = ap (first_called s []) (sym (none_next ws i is)) ∙ so_far
+pub on_none : (s : CoreState) (ws : List Waiter) (i : ℕ) → slice_get ws i ≡ None → first_free s (drop i ws) ≡ first_free s ws → None ≡ first_free s ws
+on_none s ws i is so_far = ap (first_free s) (sym (none_next ws i is)) ∙ so_far
 
-pub on_end : (s : CoreState) (file i : ℕ) (ws : List Waiter) → length ws ≤ i → first_called s [] (drop i (waiting_on file ws)) ≡ first_called s [] (waiting_on file ws) → None ≡ first_called s [] (waiting_on file ws)
-on_end s file i ws far so_far = (let few = few_on file ws in ap (first_called s []) (sym (drop_all i (waiting_on file ws) (omega (arith, few, far))))) ∙ so_far
+pub on_end : (s : CoreState) (file i : ℕ) (ws : List Waiter) → length ws ≤ i → first_free s (drop i (waiting_on file ws)) ≡ first_free s (waiting_on file ws) → None ≡ first_free s (waiting_on file ws)
+on_end s file i ws far so_far = (let few = few_on file ws in ap (first_free s) (sym (drop_all i (waiting_on file ws) (omega (arith, few, far))))) ∙ so_far
 
 -- ---- what a reading of the clock tells
 

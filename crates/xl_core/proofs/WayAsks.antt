@@ -33,7 +33,8 @@ use Rattle.xl_core.specs.BreaksBegun.{with_break, once_broken, breaks_begun}
 use Rattle.xl_core.specs.Frames.{calls_in, drawn_by}
 use Rattle.xl_core.specs.Leases.{moment_after}
 use Rattle.xl_cache.specs.BreakPlans.{is_running}
-use Rattle.xl_core.specs.Blockers.{is_stopped, all_run, test_blockers}
+use Rattle.xl_core.specs.Blockers.{is_stopped, range_ahead, all_run, test_blockers}
+use Rattle.xl_core.proofs.LineLaws.{begun_line}
 use Rattle.xl_core.specs.Causes.{IsWishDue, IsSameAsker, IsConflict, IsClaimDue, IsTestDue, IsUnlockDue, IsOwn, limits_of_grant, IsFree, wanted, asks_claims, name_asked, noted_by}
 use Rattle.xl_core.specs.Decide.{Answered, test_answered, tested, plea_of, waiter_of, decided, way, before_wish, does_wish, wish_after, with_wish, ask, tested_by}
 use Rattle.xl_core.specs.Wishes.{wish_granted, wish_of, wish_for}
@@ -351,13 +352,25 @@ same_test s t a claim names stand blockers = ap (λ (st : Standing). tested_by (
 
 pub ask_foretells : (n : ℕ) (left : Rooms) (s : CoreState) (test lock : Ask) (first last : ℕ) (exclusive : Bool) → IsGood s → is_client lock.owner lock.party ≡ true → is_named lock.owner ≡ true → IsSameAsker test lock
     → test.act ≡ acts.Test (Bytes first last) exclusive → lock.act ≡ acts.Ranges ((Bytes first last, exclusive) ∷ []) → lock.blocking ≡ false → lock.reclaim ≡ false
-    → IsConflict (ask n left s lock).0 ↔ IsConflict (ask n left s test).0
+    → (range_ahead s.waiters s (asked_claim lock (Range (Bytes first last) exclusive) s.names) ≡ None → IsConflict (ask n left s lock).0 → IsConflict (ask n left s test).0) × (IsConflict (ask n left s test).0 → IsConflict (ask n left s lock).0)
 unfolding ask before_wish
 ask_foretells n left s test lock first last exclusive good client has same tests locks hurries fresh =
-    subst (λ (answer : Answer). IsConflict (ask n left s lock).0 ↔ IsConflict answer) told (test_foretells n left t test lock first last exclusive (asked_way_good left s lock good) client has same tests locks hurries fresh)
+    subst (λ (answer : Answer). (range_ahead s.waiters s asked ≡ None → IsConflict (ask n left s lock).0 → IsConflict answer) × (IsConflict answer → IsConflict (ask n left s lock).0)) told ((λ none. both.0 (in_front ∙ none)), both.1)
   where
     t : CoreState
     t = (way left s lock).1
+
+    asked : Claim
+    asked = asked_claim lock (Range (Bytes first last) exclusive) s.names
+
+    -- who waits in front does so whatever breaks begin
+    in_front : range_ahead t.waiters t (asked_claim lock (Range (Bytes first last) exclusive) t.names) ≡ range_ahead s.waiters s asked
+    in_front =
+        (λ i. range_ahead (ask_way_waiters left s lock i) t (asked_claim lock (Range (Bytes first last) exclusive) (ask_way_names left s lock i)))
+        ∙ ask_way_keeps (λ x. range_ahead s.waiters x asked) left s lock (λ c. begun_line s.waiters s c asked)
+
+    both : (range_ahead t.waiters t (asked_claim lock (Range (Bytes first last) exclusive) t.names) ≡ None → IsConflict (decided n left t lock).0 → IsConflict (decided n left t test).0) × (IsConflict (decided n left t test).0 → IsConflict (decided n left t lock).0)
+    both = (test_foretells n left t test lock first last exclusive (asked_way_good left s lock good) client has same tests locks hurries fresh)
 
     claim : Claim
     claim = known_claim test (Bytes first last) exclusive s.names

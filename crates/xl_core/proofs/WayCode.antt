@@ -3,7 +3,13 @@ use Rattle.std.proofs.Common.{◌≡◌, ℕ, ◌+◌, ◌≤◌, Bool, true, fa
 use Rattle.std.specs.List.{AllByRecursion, list_any}
 use Rattle.xl_cache.specs.BreakPlans.{is_final, planned}
 use Rattle.xl_table.specs.Flat.{blocks, is_blocked}
-use Rattle.xl_core.specs.Blockers.{is_stopped}
+use Rattle.xl_core.specs.Blockers.{is_barred}
+use Rattle.std.proofs.lemmas.Bool.{both_ways}
+use Rattle.xl_core.specs.Judge.{those_before}
+use Rattle.xl_core.specs.Standings.{asker_as, is_smb, is_timely, stands}
+use Rattle.xl_core.specs.declared.standings.Standing.{Standing}
+use Rattle.xl_core.specs.declared.standings.Standing.TheVariants.{Timely, Reclaims, Stays, Early, Late, Unrecorded}
+use Rattle.xl_core.proofs.StandingLaws.{reclaims_asks, timely_asks}
 use Rattle.xl_core.proofs.BreaksInOrderLaws.{all_final}
 use Rattle.xl_core.proofs.HeldUpLaws.{is_filled, any_of, asked_there}
 use Rattle.xl_matrix.specs.declared.claim.Claim.{Claim}
@@ -35,7 +41,7 @@ use Rattle.xl_core.specs.Decide.{plea_of, way}
 use Rattle.xl_core.specs.declared.ask.Ask.{Ask}
 use Rattle.xl_core.proofs.GoodLaws.{known_one_party, asked_way_good}
 use Rattle.xl_core.proofs.TurnLaws.{called_known}
-use Rattle.xl_core.proofs.WayLaws.{NoWay, Begins, way_is, way_good, way_names, known_no_cache}
+use Rattle.xl_core.proofs.WayLaws.{NoWay, Begins, way_is, way_graced, way_good, way_names, known_no_cache}
 
 pub no_way : (earlier : List Waiter) (p : Plea) (c : Claim) (cs : List Claim) (s : CoreState) → list_any (λ d. (d.file == c.file) && is_cache d.what) s.claims ≡ false → made_way earlier p (c ∷ cs) s ≡ ([], s)
 no_way earlier p c cs s none =
@@ -55,22 +61,45 @@ pub begun_few : (c : Claim) (s t : CoreState) (told : List Effect) → IsGood s 
 begun_few c s t told good e = omega (arith, ap (λ (w : List Effect × CoreState). w.1.counter) e, begun_counter c s, recalls_few s c good)
 
 -- once its way is made its claims still have one party
-pub called_alone_then : (p q : Parts) (called : Called) (told : List Effect) → IsGood (state_of p) → first_called (state_of p) [] p.queue ≡ Some called → ((earlier : List Waiter) → made_way earlier called.plea called.asked (state_of p) ≡ (told, state_of q))
+pub called_alone_then : (earlier : List Waiter) (p q : Parts) (called : Called) (told : List Effect) → IsGood (state_of p) → first_called (state_of p) [] p.queue ≡ Some called → made_way earlier called.plea called.asked (state_of p) ≡ (told, state_of q)
     → AllByRecursion (λ c. AllByRecursion (λ d. has_one_party c d ≡ true) q.table) called.asked
-called_alone_then p q called told good e made =
+called_alone_then earlier p q called told good e made =
     let known = (called_known (state_of p) [] p.queue called good.waiters e).0 in
-    let sound : IsGood (state_of q) = subst (λ (w : List Effect × CoreState). IsGood w.1) (made []) (way_good [] called.plea called.asked (state_of p) good (known_no_cache p.names called.asked known)) in
-    let names : q.names ≡ p.names = sym (ap (λ (w : List Effect × CoreState). w.1.names) (made [])) ∙ way_names [] called.plea called.asked (state_of p) in
+    let sound : IsGood (state_of q) = subst (λ (w : List Effect × CoreState). IsGood w.1) made (way_good earlier called.plea called.asked (state_of p) good (known_no_cache p.names called.asked known)) in
+    let names : q.names ≡ p.names = sym (ap (λ (w : List Effect × CoreState). w.1.names) made) ∙ way_names earlier called.plea called.asked (state_of p) in
     all_weaker (IsKnown q.names) (λ c. AllByRecursion (λ d. has_one_party c d ≡ true) q.table) called.asked (λ c kept. known_one_party (state_of q) c sound kept)
     (subst (λ (ns : List Name). AllByRecursion (IsKnown ns) called.asked) (sym names) known)
 
 -- without a cache on the file all that blocks a claim does so for good
-pub stopped_uncached : (earlier : List Waiter) (s : CoreState) (c : Claim) → list_any (λ d. (d.file == c.file) && is_cache d.what) s.claims ≡ false → is_stopped earlier s c ≡ is_blocked s.claims c
-stopped_uncached earlier s c none = any_of (is_final c s.claims) s.claims ∙ ap is_filled (all_final c s.claims none) ∙ sym (any_of (blocks c) s.claims)
+pub barred_uncached : (s : CoreState) (c : Claim) → list_any (λ d. (d.file == c.file) && is_cache d.what) s.claims ≡ false → is_barred s c ≡ is_blocked s.claims c
+barred_uncached s c none = any_of (is_final c s.claims) s.claims ∙ ap is_filled (all_final c s.claims none) ∙ sym (any_of (blocks c) s.claims)
 
 -- who waits for what blocks the claim for good is held up by that
-pub waits_blocking : (s : CoreState) (w : Waiter) (c : Claim) → is_blocked s.claims c ≡ true → is_stopped [] s c ≡ true → w.blocking ≡ is_held_up [] s w c
-waits_blocking s w c blocked stopped = rw (blocked, stopped) refl
+pub waits_blocking : (earlier : List Waiter) (s : CoreState) (w : Waiter) (c : Claim) → is_blocked s.claims c ≡ true → is_barred s c ≡ true → w.blocking ≡ is_held_up earlier s w c
+waits_blocking earlier s w c blocked stopped = rw (blocked, stopped) refl
+
+-- a reclaim begins no break
+pub no_way_back : (left : Rooms) (s : CoreState) (a : Ask) (told : List Effect) → a.reclaim ≡ true → told ≡ [] → way left s a ≡ (told, s)
+unfolding plea_of
+no_way_back left s a told back quiet = way_graced s.waiters (plea_of left s a) (asked_claims a (asked_whats a.act) s.names) s (late_way (stands s a) refl) ∙ (λ i. (sym quiet i, s)) where
+  late_way : (standing : Standing) → stands s a ≡ standing → is_timely (stands s a) ≡ false
+  late_way Timely e = absurd (both_ways a.reclaim (timely_asks s (asker_as a) (is_smb a.party) a.reclaim e) back)
+  late_way Reclaims e = ap is_timely e
+  late_way Stays e = ap is_timely e
+  late_way (Early until) e = ap is_timely e
+  late_way (Late clock) e = ap is_timely e
+  late_way Unrecorded e = ap is_timely e
+
+-- who doesn't reclaim stands behind all who wait
+pub behind_them : (s : CoreState) (a : Ask) → a.reclaim ≡ false → those_before (stands s a) s.waiters ≡ s.waiters
+behind_them s a fresh = by (stands s a) refl where
+  by : (standing : Standing) → stands s a ≡ standing → those_before standing s.waiters ≡ s.waiters
+  by Timely e = refl
+  by Reclaims e = absurd (both_ways a.reclaim fresh (reclaims_asks s (asker_as a) (is_smb a.party) a.reclaim e))
+  by Stays e = refl
+  by (Early until) e = refl
+  by (Late clock) e = refl
+  by Unrecorded e = refl
 
 -- nor is a way made for an ask on a file without caches
 pub no_way_for : (left : Rooms) (s : CoreState) (a : Ask) (told : List Effect) → list_any (λ d. (d.file == a.file) && is_cache d.what) s.claims ≡ false → told ≡ [] → way left s a ≡ (told, s)

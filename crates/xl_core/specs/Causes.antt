@@ -9,7 +9,7 @@ use Rattle.xl_matrix.specs.declared.claim.Claim.{Claim}
 use Rattle.xl_matrix.specs.declared.claim.What.TheVariants.{Cache}
 use Rattle.xl_matrix.specs.declared.claim.Extent.{Extent}
 use Rattle.xl_table.specs.Elements.{element_held}
-use Rattle.xl_core.specs.Judge.{all_granted, held_with, held_then, blocks_its_cache, reclaim_blocker, to_record}
+use Rattle.xl_core.specs.Judge.{all_granted, held_with, held_then, blocks_its_cache, reclaim_blocker, those_before, to_record}
 use Rattle.xl_core.specs.Decide.{beside_of, is_back}
 use Rattle.xl_core.specs.Standings.{asker_as, waiter_as, stores_name, stands, stands_alone, enters}
 use Rattle.xl_core.specs.Stores.{may_record, unrecorded, bytes_with, record_left}
@@ -25,7 +25,7 @@ use Rattle.xl_wait.specs.declared.waiter.Waiter.{Waiter}
 use Rattle.xl_core.specs.State.{CoreState, aside_of}
 use Rattle.xl_core.specs.Askers.{asker, asking_party, both_entered, asked_whats, asked_claim, asked_claims}
 use Rattle.xl_table.specs.Least.{least}
-use Rattle.xl_core.specs.Blockers.{blockers, is_stopped, cache_against, test_blockers}
+use Rattle.xl_core.specs.Blockers.{is_barred, is_against, waits_for_asker, range_ahead, is_stopped, is_in_line, blocker, cache_against, test_blockers}
 use Rattle.xl_core.specs.Limits.{grant_limits, wait_limits, wish_limits, IsRoom, IsLeastPassed}
 use Rattle.xl_table.specs.Flat.{is_blocked}
 use Rattle.xl_core.specs.Good.{AllBehind, caches_of, caches_beside, is_held_up, IsUp}
@@ -58,22 +58,38 @@ may_wait earlier s a claim = if is_stopped earlier s claim then a.blocking else 
 
 -- it waits: for the end of grace, or for what is in its way
 abbrev pub IsWaiting : Standing → List Waiter → CoreState → Ask → Claim → Type 0
-IsWaiting Timely earlier s a claim = (may_wait earlier s a claim ≡ true) × (is_blocked s.claims claim ≡ true)
+IsWaiting Timely earlier s a claim = (may_wait earlier s a claim ≡ true) × (is_in_line earlier s claim ≡ true)
 IsWaiting Stays earlier s a claim = Unit {0}
 IsWaiting _ earlier s a claim = ⊥
 
--- nothing held blocks the claim, nor the delegation that is reclaimed with it
+-- nothing held blocks the claim, nor the delegation that is reclaimed with it, nor does the range of one who waits block it, unless
+-- the ask is a reclaim
 abbrev pub IsFree : CoreState → Ask → Claim → Type 0
-IsFree s a claim = (is_blocked s.claims claim ≡ false) × (list_any (λ c. blocks_its_cache (beside_of a.reclaim a.wish) claim c) s.claims ≡ false)
+IsFree s a claim = (is_blocked s.claims claim ≡ false) × (list_any (λ c. blocks_its_cache (beside_of a.reclaim a.wish) claim c) s.claims ≡ false) × (range_ahead (those_before (stands s a) s.waiters) s claim ≡ None)
 
 -- the held claim blocks it, or the delegation that is reclaimed with it
 abbrev pub blocks_either : Ask → Claim → Claim → Bool
 blocks_either a claim c = blocks claim c || blocks_its_cache (beside_of a.reclaim a.wish) claim c
 
--- it meets a conflict with this held claim: of what no break moves that blocks it, the least, if it doesn't wait; of a reclaim the
--- least of all that blocks it
+-- This range is asked for by one of these who wait, which has another owner and doesn't wait for the asker. What is asked for is a
+-- range too that may not be held beside it, and nothing held blocks that for good.
+pub record IsAhead (earlier : List Waiter) (s : CoreState) (claim c : Claim) : Type 0 where
+  pub waiter : Waiter
+  pub waits : IsIn waiter earlier
+  pub asks : IsIn c waiter.asked
+  pub range : is_range claim.what ≡ true
+  pub against : is_against claim c ≡ true
+  pub stays : waits_for_asker s.claims claim waiter ≡ false
+  pub unbarred : is_barred s claim ≡ false
+
+-- the claim is held, and blocks what is asked for; or it is such a range of one who waits
+abbrev pub IsBarring : List Waiter → CoreState → Claim → Claim → Type 0
+IsBarring earlier s claim c = (IsIn c s.claims × (blocks claim c ≡ true)) ⊎ IsAhead earlier s claim c
+
+-- it meets a conflict with this claim: of what no break moves that blocks it, the least that is held, or else the first range of those
+-- who wait, if it doesn't wait itself; of a reclaim the least of all that is held and blocks it
 abbrev pub IsAgainst : Standing → CoreState → Ask → Claim → Claim → Type 0
-IsAgainst Timely s a claim c = (a.blocking ≡ false) × (least s.names (blockers s.waiters s claim) ≡ Some c) × IsIn c s.claims × (blocks claim c ≡ true)
+IsAgainst Timely s a claim c = (a.blocking ≡ false) × (blocker s.waiters s claim ≡ Some c) × IsBarring s.waiters s claim c
 IsAgainst Reclaims s a claim c = (reclaim_blocker (beside_of a.reclaim a.wish) claim s ≡ Some c) × IsIn c s.claims × (blocks_either a claim c ≡ true)
 IsAgainst _ s a claim c = ⊥
 
@@ -81,11 +97,11 @@ IsAgainst _ s a claim c = ⊥
 abbrev pub wanted : CoreState → Ask → Option Recorded
 wanted s a = unrecorded (stores_name a) (asker_as a) s.stable
 
--- Why a share or a lock is, if n stores of the step succeed. What grace lets in and nothing held blocks is granted, if no limit
--- is passed, and its client is recorded or can be. While grace runs a request of SMB waits, and all else but a reclaim is told its
--- end; a reclaim is told that the record lacks its client, or that no grace runs. What something blocks waits, if it may and no
--- limit is passed; else the least of what blocks it for good is answered, or if nothing does a cache in its way; of a reclaim
--- anything that blocks it.
+-- Why a share or a lock is, if n stores of the step succeed. What grace lets in and nothing held blocks, nor a range that is asked
+-- for in front of it, is granted, if no limit is passed, and its client is recorded or can be. While grace runs a request of SMB waits,
+-- and all else but a reclaim is told its end; a reclaim is told that the record lacks its client, or that no grace runs. What something blocks waits, if it may and no
+-- limit is passed; else of what blocks it for good the least that is held is answered, or if none is the first range that is waited
+-- for, or if nothing does a cache in its way; of a reclaim anything held that blocks it.
 abbrev pub IsClaimDue : ℕ → Rooms → CoreState → Ask → Claim → Answer → Type 0
 IsClaimDue n left s a claim (Granted c) =
     (c ≡ claim) × (enters (stands s a) ≡ true) × IsFree s a claim × IsRoom (limits_of_grant left s a claim) × (may_record n s (wanted s a) ≡ true)
@@ -157,20 +173,20 @@ IsElementDue s claim extent NotHeld = element_held claim extent s.claims ≡ Non
 IsElementDue s claim extent _ = ⊥
 
 -- Why several claims of which none waits are answered so, behind these waiters: each is judged once those before it are held. The
--- first that something held blocks for good is answered with the least that does; the first that a cache keeps off, with that; the
--- first that passes a limit, with the least limit. If there is no such the answer is the last one. So many names are kept then, and
+-- first that something blocks for good is answered with the least that is held and does, or else the first range of those who wait;
+-- the first that a cache keeps off, with that; the first that passes a limit, with the least limit. If there is no such the answer is the last one. So many names are kept then, and
 -- so many bytes are in the record that is stored first (CORE-14).
 abbrev pub IsEachBehind : List Waiter → Rooms → Rooms → ℕ → ℕ → Answer → List Claim → CoreState → Answer → Type 0
 IsEachBehind earlier left rows bytes kept last [] s answer = answer ≡ last
 IsEachBehind earlier left rows bytes kept last (c ∷ cs) s answer =
-    ((d : Claim) → least s.names (blockers earlier s c) ≡ Some d → answer ≡ Conflict d)
+    ((d : Claim) → blocker earlier s c ≡ Some d → answer ≡ Conflict d)
     × ((d : Claim) → is_stopped earlier s c ≡ false → cache_against s.claims c ≡ Some d → answer ≡ Recall d)
-    × ((limit : ℕ) → is_blocked s.claims c ≡ false → IsLeastPassed (grant_limits left rows (length (granted_claims c s.claims)) bytes kept) limit → answer ≡ Full limit)
-    × (is_blocked s.claims c ≡ false → IsRoom (grant_limits left rows (length (granted_claims c s.claims)) bytes kept) → IsEachBehind earlier left rows 0 kept last cs (held_with (c ∷ []) s) answer)
+    × ((limit : ℕ) → is_in_line earlier s c ≡ false → IsLeastPassed (grant_limits left rows (length (granted_claims c s.claims)) bytes kept) limit → answer ≡ Full limit)
+    × (is_in_line earlier s c ≡ false → IsRoom (grant_limits left rows (length (granted_claims c s.claims)) bytes kept) → IsEachBehind earlier left rows 0 kept last cs (held_with (c ∷ []) s) answer)
 
--- why an ask for several ranges of which none waits is: behind all who wait; all are granted, or none
+-- why an ask for several ranges of which none waits is: behind all who wait, unless it is a reclaim; all are granted, or none
 abbrev pub IsEachDue : Rooms → CoreState → Ask → Claim → List Claim → Answer → Type 0
-IsEachDue left s a first asked answer = IsEachBehind s.waiters left a.rows (bytes_with (wanted s a) s.stable) (length (both_entered a s.names)) (Granted first) asked s answer
+IsEachDue left s a first asked answer = IsEachBehind (those_before (stands s a) s.waiters) left a.rows (bytes_with (wanted s a) s.stable) (length (both_entered a s.names)) (Granted first) asked s answer
 
 -- ---- what an ask leaves of the record
 

@@ -27,7 +27,8 @@ use Rattle.xl_core.specs.Frames.{who_expired}
 use Rattle.xl_core.specs.declared.ask.Effect.{Effect}
 use Rattle.xl_grace.specs.Grace.{is_over, is_back, shortened}
 use Rattle.xl_core.specs.Leases.{ended}
-use Rattle.xl_table.specs.Flat.{is_blocked}
+use Rattle.xl_core.specs.Blockers.{is_in_line}
+use Rattle.xl_core.specs.Judge.{those_before}
 use Rattle.xl_core.specs.Good.{IsSettled}
 use Rattle.xl_core.specs.Settle.{settle}
 use Rattle.xl_core.specs.declared.ask.Act.{Act}
@@ -36,8 +37,8 @@ use Rattle.xl_core.specs.declared.ask.Answer.{Answer}
 use Rattle.xl_core.specs.declared.ask.Answer.TheVariants.{Granted}
 use Rattle.xl_core.specs.declared.ask.Ask.{Ask}
 
--- a share or a lock is granted if grace lets it in, nothing held stands against it, no limit is passed and its client is recorded
--- or can be; and each answer has its cause
+-- a share or a lock is granted if grace lets it in, nothing held stands against it, nor, unless it is a reclaim, the range of one who
+-- waits, no limit is passed and its client is recorded or can be; and each answer has its cause
 pub record IsGrantDue (n : ℕ) (left : Rooms) (s : CoreState) (a : Ask) (what : What) (answer : Answer) : Type 0 where
   pub free : enters (stands s a) ≡ true → IsFree s a (asked_claim a what s.names) → IsRoom (limits_of_grant left s a (asked_claim a what s.names)) → may_record n s (wanted s a) ≡ true → answer ≡ Granted (asked_claim a what s.names)
   pub cause : IsClaimDue n left s a (asked_claim a what s.names) answer
@@ -54,8 +55,8 @@ IsRangesDue n left s a [] answer = Unit {0}
 IsRangesDue n left s a (range ∷ []) answer = IsGrantDue n left s a (range_what range) answer
 IsRangesDue n left s a (range ∷ more ∷ ranges) answer =
     (enters (stands s a) ≡ false → IsClaimDue n left s a (asked_claim a (range_what range) s.names) answer)
-    × (is_blocked s.claims (asked_claim a (range_what range) s.names) ≡ true → IsClaimDue n left s a (asked_claim a (range_what range) s.names) answer)
-    × (stands s a ≡ Timely → is_blocked s.claims (asked_claim a (range_what range) s.names) ≡ false → IsEachDue left s a (asked_claim a (range_what range) s.names) (asked_claims a (map range_what (range ∷ more ∷ ranges)) s.names) answer)
+    × (is_in_line (those_before (stands s a) s.waiters) s (asked_claim a (range_what range) s.names) ≡ true → IsClaimDue n left s a (asked_claim a (range_what range) s.names) answer)
+    × (stands s a ≡ Timely → is_in_line s.waiters s (asked_claim a (range_what range) s.names) ≡ false → IsEachDue left s a (asked_claim a (range_what range) s.names) (asked_claims a (map range_what (range ∷ more ∷ ranges)) s.names) answer)
 
 -- what is due to an unlock of a range by this claim's owner: of bytes, or of an element
 abbrev pub IsBytesDue : CoreState → Claim → ℕ → ℕ → Bool → Answer → Type 0

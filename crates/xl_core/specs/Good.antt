@@ -20,12 +20,11 @@ use Rattle.xl_matrix.specs.declared.claim.What.{What}
 use Rattle.xl_matrix.specs.declared.claim.What.TheVariants.{Share, Range, Cache}
 use Rattle.xl_names.specs.Names.{protocol_of, AreDistinct, most_names}
 use Rattle.xl_names.specs.declared.name.Name.{Name}
-use Rattle.xl_table.specs.Flat.{is_blocked}
 use Rattle.xl_table.specs.Held.{is_share, is_cache, may_own, IsKept, IsGrantable, IsShareOrLock}
 use Rattle.xl_wait.specs.declared.waiter.Waiter.{Waiter}
 use Rattle.xl_core.specs.State.{CoreState}
 use Rattle.xl_core.specs.Askers.{client_of, is_name, is_lease}
-use Rattle.xl_core.specs.Blockers.{is_stopped, first_broken, all_run}
+use Rattle.xl_core.specs.Blockers.{is_stopped, is_in_line, first_broken, all_run}
 use Rattle.xl_core.specs.declared.blockers.Passage.{Passage}
 use Rattle.xl_core.specs.declared.blockers.Passage.TheVariants.{Barred, Open}
 use Rattle.xl_core.specs.Judge.{IsRow}
@@ -145,12 +144,12 @@ abbrev pub AllBehind : (List Waiter → Waiter → Type 0) → List Waiter → L
 AllBehind P earlier [] = Unit {0}
 AllBehind P earlier (w ∷ ws) = P earlier w × AllBehind P (earlier ++ w ∷ []) ws
 
--- Whether the claim of one who waits behind these is held up: something held blocks it; if that does so for good the waiter
--- waits for it, and else for the answers to breaks, all of which run.
+-- Whether the claim of one who waits behind these is held up: something is in its way, held or asked for by one of them; if that
+-- blocks it for good the waiter waits for it, and else for the answers to breaks, all of which run.
 abbrev pub is_held_up : List Waiter → CoreState → Waiter → Claim → Bool
-is_held_up earlier s w c = is_blocked s.claims c && (if is_stopped earlier s c then w.blocking else all_run s.claims c)
+is_held_up earlier s w c = is_in_line earlier s c && (if is_stopped earlier s c then w.blocking else all_run s.claims c)
 
--- so it is where the way of its claim, which something blocks, stands so
+-- so it is where the way of its claim, in which something is, stands so
 abbrev pub holds_back : Waiter → Passage → Bool
 holds_back w (Barred c) = w.blocking
 holds_back w (Open plan) = not (is_some (first_broken plan.breaks))

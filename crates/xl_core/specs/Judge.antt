@@ -9,13 +9,16 @@ use Rattle.xl_matrix.specs.declared.claim.CacheKind.{CacheKind}
 use Rattle.xl_matrix.specs.declared.claim.Claim.{Claim}
 use Rattle.xl_matrix.specs.declared.claim.What.TheVariants.{Cache}
 use Rattle.xl_names.specs.Names.{most_names}
-use Rattle.xl_table.specs.Flat.{blocks, is_blocked, with_what}
+use Rattle.xl_table.specs.Flat.{blocks, with_what}
 use Rattle.xl_table.specs.Held.{is_range, IsGrantable}
 use Rattle.xl_wait.specs.declared.waiter.Rooms.{Rooms}
 use Rattle.xl_wait.specs.declared.waiter.Waiter.{Waiter}
 use Rattle.xl_core.specs.State.{CoreState}
 use Rattle.xl_table.specs.Least.{least}
-use Rattle.xl_core.specs.Blockers.{blockers, is_stopped, cache_in, cache_against}
+pub use Rattle.xl_core.specs.Blockers.{first_of}
+use Rattle.xl_core.specs.Blockers.{blocker, is_stopped, is_in_line, cache_in, cache_against}
+use Rattle.xl_core.specs.declared.blockers.Front.{Front}
+use Rattle.xl_core.specs.declared.blockers.Front.TheVariants.{Nobody}
 use Rattle.xl_core.specs.declared.blockers.Passage.{Passage}
 use Rattle.xl_core.specs.declared.blockers.Passage.TheVariants.{Barred, Open}
 use Rattle.xl_core.specs.Limits.{grant_limits, first_passed}
@@ -75,9 +78,9 @@ waits (Some limit) = full limit
 abbrev pub stopped : Plea → Claim → Ruling
 stopped p c = if p.blocking then waits p.crowded else Told (Conflict c)
 
--- what is held against the claim, and no break moves it (CORE-1)
+-- what stands against the claim behind these waiters, and no break moves it (CORE-1)
 unfoldable pub check_held : List Waiter → Plea → Claim → CoreState → Option Ruling
-check_held earlier p c s = option_map (stopped p) (least s.names (blockers earlier s c))
+check_held earlier p c s = option_map (stopped p) (blocker earlier s c)
 
 -- what comes of a claim that a cache keeps off: a wait for the answer to its break, if it awaits that, else a refusal
 -- that names it (CORE-3)
@@ -157,10 +160,6 @@ abbrev pub least_beside : Option CacheKind → Claim → CoreState → Option Cl
 least_beside None c s = None
 least_beside (Some kind) c s = least s.names (filter (λ held. blocks_beside kind c held) s.claims)
 
-abbrev pub first_of : Option Claim → Option Claim → Option Claim
-first_of (Some c) later = Some c
-first_of None later = later
-
 -- what stands against a reclaim: the least of what blocks the claim, caches too, or else the cache with it
 abbrev pub reclaim_blocker : Option CacheKind → Claim → CoreState → Option Claim
 reclaim_blocker beside c s = first_of (least s.names (filter (λ held. blocks c held) s.claims)) (least_beside beside c s)
@@ -199,6 +198,15 @@ to_record name _ = None
 unfoldable pub record_name : ℕ → Plea → List Claim → Step
 record_name n p asked s = recorded_by n (to_record p.unrecorded asked) s
 
+-- who stands before one who pleads so: nobody before one who reclaims, which had what it asks for before all who wait (CORE-18)
+abbrev pub those_before : Standing → List Waiter → List Waiter
+those_before Reclaims earlier = []
+those_before _ earlier = earlier
+
+abbrev pub front_by : Standing → Front → Front
+front_by Reclaims front = Nobody
+front_by _ front = front
+
 -- all claims are held, and only now
 unfoldable pub enter_all : List Claim → CoreState → Ruled
 enter_all asked s = (Gets, [], held_with asked s)
@@ -209,11 +217,11 @@ enter_all asked s = (Gets, [], held_with asked s)
 -- succeed in the step: all of them are granted, or none (CORE-1).
 unfoldable pub judged : ℕ → List Waiter → Rooms → Plea → List Claim → CoreState → Ruled
 judged n earlier left p asked =
-    after (check_grace p) (after (check_reclaim p asked) (after (check_row earlier left p asked) (after (record_name n p asked) (enter_all asked))))
+    after (check_grace p) (after (check_reclaim p asked) (after (check_row (those_before p.standing earlier) left p asked) (after (record_name n p asked) (enter_all asked))))
 
--- something held blocks the claim of one who pleads so behind these waiters, and it waits for that
+-- something is in the way of the claim of one who pleads so behind these waiters, and it waits for that
 abbrev pub does_wait : List Waiter → Plea → CoreState → Claim → Bool
-does_wait earlier p s c = is_blocked s.claims c && (if is_stopped earlier s c then p.blocking else p.awaits)
+does_wait earlier p s c = is_in_line earlier s c && (if is_stopped earlier s c then p.blocking else p.awaits)
 
 -- ---- several claims
 

@@ -1,4 +1,5 @@
--- How far the queue of a file was gone through: who stands in front of a turn that frees nobody there is held up behind it too.
+-- How far the queue of a file was gone through: who is shut out by what is held, in front of a turn that frees nobody there, is so
+-- behind it too.
 use Rattle.std.specs.Prelude.{◌≡◌, ℕ, Bool, true, false, not, ◌&&◌, ◌||◌, ◌==◌, if◌then◌else◌, List, [], ◌∷◌, length, take, is_some, find}
 use Rattle.std.specs.List.{AllByRecursion, list_all, list_any}
 use Rattle.xl_matrix.specs.Owners.{posix}
@@ -13,13 +14,13 @@ use Rattle.xl_table.specs.Relock.{is_share_of}
 use Rattle.xl_wait.specs.Waiting.{waiting_on}
 use Rattle.xl_wait.specs.declared.waiter.Waiter.{Waiter}
 use Rattle.xl_core.specs.State.{CoreState}
-use Rattle.xl_core.specs.Good.{holds_up, of_first}
+use Rattle.xl_core.specs.Good.{of_first}
 use Rattle.xl_core.specs.Judge.{all_granted}
 use Rattle.xl_core.specs.declared.ask.Effect.{Effect}
 use Rattle.xl_core.specs.declared.passed.Passed.{Passed}
 use Rattle.xl_core.specs.declared.settling.Called.{Called}
 
--- something held blocks the first claim that the waiter asks for, and it waits for that
+-- something held blocks the first claim that the waiter asks for, and it waits for that; who waits in front has no part in it
 abbrev pub is_shut_out : CoreState → Waiter → Bool
 is_shut_out s w = w.blocking && of_first (λ c. is_blocked s.claims c) w.asked
 
@@ -74,7 +75,7 @@ pub record FreesNobody (called : Called) (file : ℕ) (s : CoreState) : Type 0 w
   pub uncached : has_cache file s.claims ≡ false
   pub adds : (test : Claim → Bool) → list_any test s.claims ≡ true → list_any test (all_granted called.asked s.claims) ≡ true
 
--- so many who wait on the file are held up, and none of them is who is called
+-- so many who wait on the file are shut out by what is held, and none of them is who is called
 pub record StandBefore (called : Called) (p : Passed) (s : CoreState) : Type 0 where
-  pub up : AllByRecursion (λ w. holds_up [] s w w.asked ≡ true) (take p.count (waiting_on p.file s.waiters))
+  pub shut : AllByRecursion (λ w. is_shut_out s w ≡ true) (take p.count (waiting_on p.file s.waiters))
   pub others : AllByRecursion (λ w. (w.id == called.id) ≡ false) (take p.count (waiting_on p.file s.waiters))

@@ -17,6 +17,7 @@ use Rattle.xl_wait.specs.Waiting.{cancelled}
 use Rattle.xl_wait.specs.declared.waiter.Rooms.{Rooms}
 use Rattle.xl_wait.specs.declared.waiter.Waiter.{Waiter}
 use Rattle.xl_core.specs.State.{CoreState}
+use Rattle.xl_core.specs.Blockers.{before_number}
 use Rattle.xl_core.specs.BreaksBegun.{idle_caches}
 use Rattle.xl_core.specs.Good.{AllBehind, holds_up}
 use Rattle.xl_core.specs.Judge.{Ruled, judged}
@@ -105,7 +106,16 @@ abbrev pub first_called : CoreState → List Waiter → List Waiter → Option C
 first_called s earlier [] = None
 first_called s earlier (w ∷ ws) = if holds_up earlier s w w.asked then first_called s (earlier ++ w ∷ []) ws else Some (called_of s w)
 
--- the way that is made for that one
+-- the waiter is held up behind those before it
+abbrev pub is_up : CoreState → Waiter → Bool
+is_up s w = holds_up (before_number w.id s.waiters) s w w.asked
+
+-- the first of these that isn't
+abbrev pub first_free : CoreState → List Waiter → Option Called
+first_free s [] = None
+first_free s (w ∷ ws) = if is_up s w then first_free s ws else Some (called_of s w)
+
+-- the way that is made for the first that isn't held up
 abbrev pub first_way : CoreState → List Waiter → List Waiter → List Effect × CoreState
 first_way s earlier [] = ([], s)
 first_way s earlier (w ∷ ws) = if holds_up earlier s w w.asked then first_way s (earlier ++ w ∷ []) ws else way_again earlier s w

@@ -1,14 +1,16 @@
 -- What is kept beside the state, so that not all who wait are looked at after each change: the files on which someone may
--- wait whom nothing blocks.
-use Rattle.std.specs.Prelude.{◌≡◌, ℕ, Bool, true, false, ◌==◌, if◌then◌else◌, List, [], ◌∷◌, Option, Some, None, is_some}
+-- wait whom nothing blocks, neither what is held nor a range that is asked for in front of it.
+use Rattle.std.specs.Prelude.{◌≡◌, ℕ, Bool, true, false, ◌==◌, if◌then◌else◌, List, [], ◌∷◌, Option, Some, None, IfSome, is_some}
 use Rattle.std.specs.List.{AllByRecursion, list_any}
 use Rattle.xl_matrix.specs.declared.claim.Claim.{Claim}
 use Rattle.xl_table.specs.Leaving.{goes}
 use Rattle.xl_table.specs.declared.leaver.Leaver.{Leaver}
-use Rattle.xl_wait.specs.Waiting.{waits_on}
+use Rattle.xl_wait.specs.Waiting.{first_file, waits_on}
 use Rattle.xl_wait.specs.declared.waiter.Waiter.{Waiter}
+use Rattle.xl_core.specs.Settle.{waits_with}
 use Rattle.xl_core.specs.State.{CoreState}
-use Rattle.xl_core.specs.Good.{AllBehind, is_held_up}
+use Rattle.xl_core.specs.Blockers.{before_number}
+use Rattle.xl_core.specs.Good.{is_held_up}
 use Rattle.xl_core.specs.declared.ask.Act.{Act}
 use Rattle.xl_core.specs.declared.ask.Act.TheVariants.{Share, Ranges, Test, Unlock, Wish}
 use Rattle.xl_core.specs.declared.ask.Answer.{Answer}
@@ -44,10 +46,24 @@ pub record Notes (old new : Unsettled) (file : ℕ) (ws : List Waiter) : Type 0 
   pub wider : IsWider old new
   pub own : waits_on file ws ≡ true → is_among new file ≡ true
 
+-- the file on which the waiter waits is among them
+abbrev pub IsNoted : Unsettled → Waiter → Type 0
+IsNoted unsettled w = IfSome (first_file w.asked) (λ file. is_among unsettled file ≡ true)
+
 -- and so is each from which claims go with who leaves
 pub record NotesLeft (old new : Unsettled) (leaver : Leaver) (held : List Claim) (ws : List Waiter) : Type 0 where
   pub wider : IsWider old new
   pub own : AllByRecursion (λ c. goes leaver c ≡ true → waits_on c.file ws ≡ true → is_among new c.file ≡ true) held
+
+-- and each on which someone of these waits no more with who leaves: who waits behind it there may have waited for it
+pub record NotesGone (old new : Unsettled) (leaver : Leaver) (ws : List Waiter) : Type 0 where
+  pub wider : IsWider old new
+  pub gone : AllByRecursion (λ w. waits_with leaver w ≡ true → IsNoted new w) ws
+
+-- and that of the waiter of this number, who cancels
+pub record NotesOne (old new : Unsettled) (id : ℕ) (ws : List Waiter) : Type 0 where
+  pub wider : IsWider old new
+  pub one : AllByRecursion (λ w. (w.id == id) ≡ true → IsNoted new w) ws
 
 -- an ask that is answered so may have changed what is held on its file: one that waits is blocked, and none other changes it
 abbrev pub is_granted : Answer → Bool
@@ -85,6 +101,10 @@ IsOfFirst P (c ∷ cs) = P c
 abbrev pub IsHeldUp : Unsettled → List Waiter → CoreState → Waiter → List Claim → Type 0
 IsHeldUp unsettled earlier s w asked = IsOfFirst (λ c. is_among unsettled c.file ≡ false → is_held_up earlier s w c ≡ true) asked
 
+-- each of these is, behind those who wait before it
+abbrev pub AreUp : Unsettled → CoreState → List Waiter → Type 0
+AreUp unsettled s ws = AllByRecursion (λ w. IsHeldUp unsettled (before_number w.id s.waiters) s w w.asked) ws
+
 -- who isn't held up behind those before it waits on one of these files, unless grace runs (TABLE-17)
 unfoldable pub AreHeldUp : Unsettled → CoreState → Type 0
-AreHeldUp unsettled s = is_some s.grace ≡ false → AllBehind (λ earlier w. IsHeldUp unsettled earlier s w w.asked) [] s.waiters
+AreHeldUp unsettled s = is_some s.grace ≡ false → AreUp unsettled s s.waiters

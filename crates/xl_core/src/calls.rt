@@ -16,9 +16,10 @@ ghost use Rattle.xl_core.specs.Whole.{state_of};
 ghost use Rattle.xl_core.specs.declared.unsettled.Unsettled.TheVariants.{Files};
 
 use crate::ask::{Answer, Ask, Effect};
+use crate::leaving::told_with;
 use crate::parts::Parts;
 use crate::passed::{NOBODY, Passed};
-use crate::unsettled::{Unsettled, is_none, note, note_asked, note_left};
+use crate::unsettled::{Unsettled, is_none, note, note_asked, note_gone, note_left, note_one};
 use crate::{decide, leaving, settling, ticking};
 use std::alloc::{AllocError, Global};
 use std::mem;
@@ -100,7 +101,7 @@ pub(crate) fn settle<K: Keeper>(
     Ok(Some(effects))
 }
 
-/// Takes one waiter out.
+/// Takes one waiter out, and notes its file: who waits behind it there may have waited for it.
 #[tactic(auto, using(crate::proofs::HeldUpLaws::any_up))]
 pub(crate) fn cancel(
     alloc: Global,
@@ -108,11 +109,13 @@ pub(crate) fn cancel(
     unsettled: &mut Unsettled,
     id: u32,
 ) -> Result<Sequence<Effect>, AllocError>
+    requires good { IsGood (state_of parts.old) }
     requires held_up { AreHeldUp unsettled.old (state_of parts.old) }
     ensures state { IfOk result (λ effects. cancel (state_of parts.old) id ≡ (effects, state_of parts.new)) }
     ensures held_up { AreHeldUp unsettled.new (state_of parts.new) }
 {
-    let before = mem::replace(unsettled, Unsettled::All);
+    let mut before = mem::replace(unsettled, Unsettled::All);
+    note_one(&mut before, id, parts.queue.waiters());
     let effects = leaving::cancel(alloc, parts, id)?;
     *unsettled = before;
     Ok(effects)
@@ -170,7 +173,7 @@ pub(crate) fn ack(
     leaving::ack(alloc, parts, cache, to)
 }
 
-/// Takes out the claims and the waiters that go with who leaves, and notes the files of these claims.
+/// Takes out the claims and the waiters that go with who leaves, and notes their files.
 #[tactic(auto, using(crate::proofs::HeldUpLaws::any_up))]
 pub(crate) fn leave(
     alloc: Global,
@@ -185,7 +188,9 @@ pub(crate) fn leave(
 {
     let mut before = mem::replace(unsettled, Unsettled::All);
     note_left(&parts.table, &parts.queue, &mut before, leaver);
-    let effects = leaving::leave(alloc, parts, leaver)?;
+    let told = told_with(alloc, leaver, parts.queue.waiters())?;
+    note_gone(&mut before, leaver, told.as_slice(), parts.queue.waiters());
+    let effects = leaving::leave(alloc, parts, leaver, told)?;
     *unsettled = before;
     Ok(effects)
 }

@@ -20,8 +20,8 @@ use crate::ask::{Act, Answer, Ask, Effect};
 use crate::askers::{
     asked_claim, asked_claims, asking_party, count_names, enter_both, known_claim,
 };
-use crate::blockers::Passage;
-use crate::judge::{Plea, Ruling, judge_all};
+use crate::blockers::{Front, Passage};
+use crate::judge::{Plea, Ruling, front_by, judge_all};
 use crate::limits::{passed_by_wait, passed_by_wish};
 use crate::parts::Parts;
 use crate::standings::{asker_as, is_smb, recorded_as, refusal, standing_of, stores_name};
@@ -137,7 +137,8 @@ fn ask_claims<K: Keeper>(
     claims: &[Claim],
     known: Option<Passage>,
 ) -> Result<Answer, AllocError>
-    requires known { IsKnown known (state_of parts.old) claims.now }
+    requires known { IsKnown parts.old.queue known (state_of parts.old) claims.now }
+    requires back { ask.now.reclaim ≡ true → known ≡ None }
     requires client { is_client ask.now.owner ask.now.party ≡ true }
     requires row { IsRow claims.now }
     requires party { AllByRecursion (λ c. AllByRecursion (λ d. has_one_party c d ≡ true) parts.old.table) claims.now }
@@ -150,7 +151,8 @@ fn ask_claims<K: Keeper>(
         return Ok(Answer::NotHeld);
     };
     let plea = plea_of(alloc, parts, left, ask)?;
-    match judge_all(alloc, parts, keeper, left, &plea, claims, known)? {
+    let front = front_by(plea.standing, Front::Everybody);
+    match judge_all(alloc, parts, keeper, left, front, &plea, claims, known)? {
         Ruling::Gets => {
             note_back(alloc, parts, ask)?;
             enter_both(&mut parts.names, ask)?;
@@ -271,7 +273,8 @@ fn ask_for<K: Keeper>(
     what: What,
     known: Option<Passage>,
 ) -> Result<Answer, AllocError>
-    requires known { IsKnown known (state_of parts.old) (asked_claims ask.now (what ∷ []) parts.old.names) }
+    requires known { IsKnown parts.old.queue known (state_of parts.old) (asked_claims ask.now (what ∷ []) parts.old.names) }
+    requires back { ask.now.reclaim ≡ true → known ≡ None }
     requires client { is_client ask.now.owner ask.now.party ≡ true }
     requires own { may_hold ask.now.owner what ≡ true }
     requires real { IsShareOrLock what }
@@ -295,7 +298,8 @@ fn ask_ranges<K: Keeper>(
     ranges: &[(Extent, bool)],
     known: Option<Passage>,
 ) -> Result<Answer, AllocError>
-    requires known { IsKnown known (state_of parts.old) (asked_claims ask.now (asked_whats (Ranges ranges.now)) parts.old.names) }
+    requires known { IsKnown parts.old.queue known (state_of parts.old) (asked_claims ask.now (asked_whats (Ranges ranges.now)) parts.old.names) }
+    requires back { ask.now.reclaim ≡ true → known ≡ None }
     requires fit { IsFitAct ask.now.owner ask.now.blocking (Ranges ranges.now) }
     requires client { is_client ask.now.owner ask.now.party ≡ true }
     requires own { may_hold_all ask.now.owner ranges.now ≡ true }
@@ -348,7 +352,8 @@ fn decided<K: Keeper>(
     request: &Ask,
     known: Option<Passage>,
 ) -> Result<Answer, AllocError>
-    requires known { IsKnown known (state_of parts.old) (asked_claims request.now (asked_whats request.now.act) parts.old.names) }
+    requires known { IsKnown parts.old.queue known (state_of parts.old) (asked_claims request.now (asked_whats request.now.act) parts.old.names) }
+    requires back { request.now.reclaim ≡ true → known ≡ None }
     requires fit { IsFit request.now }
     requires good { IsGood (state_of parts.old) }
     requires numbers { parts.old.counter + 1 < 2 ^ 32 }
@@ -385,7 +390,7 @@ fn decided<K: Keeper>(
 }
 
 /// Begins the breaks that an ask begins, and gives their effects, and how its way stands then, if a cache stands on its
-/// file.
+/// file. A reclaim begins none.
 #[tactic(auto, unfolding(crate::specs::Ways::made_way))]
 fn make_way_for(
     alloc: Global,
@@ -397,12 +402,16 @@ fn make_way_for(
     requires good { IsGood (state_of parts.old) }
     requires numbers { parts.old.counter + numbers_left < 2 ^ 32 }
     ensures way { IfOk result (λ r. way left.now (state_of parts.old) request.now ≡ (r.0, state_of parts.new)) }
-    ensures known { IfOk result (λ r. IsKnown r.1 (state_of parts.new) (asked_claims request.now (asked_whats request.now.act) parts.new.names)) }
+    ensures known { IfOk result (λ r. IsKnown parts.new.queue r.1 (state_of parts.new) (asked_claims request.now (asked_whats request.now.act) parts.new.names)) }
+    ensures back { request.now.reclaim ≡ true → IfOk result (λ r. r.1 ≡ None) }
     ensures few { OnOk result (parts.new.counter ≤ parts.old.counter + most_claims) }
     ensures stable { parts.new.stable ≡ parts.old.stable }
     ensures given { parts.new.given ≡ parts.old.given }
     ensures failed { parts.new.failed ≡ parts.old.failed }
 {
+    if request.reclaim {
+        return Ok((Sequence::new(alloc), None));
+    }
     if !parts.table.has_cache(request.file) {
         return Ok((Sequence::new(alloc), None));
     }
@@ -410,12 +419,12 @@ fn make_way_for(
         Act::Share(access, deny) => {
             let claims = [asked_claim(&parts.names, request, What::Share(*access, *deny))];
             let plea = plea_of(alloc, parts, left, request)?;
-            make_way(alloc, parts, &plea, &claims)
+            make_way(alloc, parts, Front::Everybody, &plea, &claims)
         }
         Act::Ranges(ranges) => {
             let claims = asked_claims(alloc, &parts.names, request, ranges.as_slice())?;
             let plea = plea_of(alloc, parts, left, request)?;
-            make_way(alloc, parts, &plea, &claims)
+            make_way(alloc, parts, Front::Everybody, &plea, &claims)
         }
         _ => Ok((Sequence::new(alloc), None)),
     }

@@ -1,11 +1,11 @@
 //! The order of decisions, read for those who ask and for those who wait.
-ghost use Rattle.std.specs.Prelude.{◌≡◌, ℕ, ◌≤◌, List, [], ◌∷◌, length, true, false, Option, Some, None, Ok, IfOk, IfSome, if◌then◌else◌, OnOk};
+ghost use Rattle.std.specs.Prelude.{◌≡◌, ℕ, ◌≤◌, List, [], ◌∷◌, length, true, false, Option, Some, None, Ok, option_map, IfOk, IfSome, if◌then◌else◌, OnOk};
 ghost use Rattle.std.specs.List.{AllByRecursion};
 ghost use Rattle.xl_table.specs.Held.{has_one_party, IsGrantable, IsKept};
 ghost use Rattle.xl_table.specs.Relock.{granted_claims, most_claims};
 ghost use Rattle.xl_wait.specs.declared.waiter.Waiter.{Waiter};
-ghost use Rattle.xl_core.specs.Blockers.{passage_of, IsKnown};
-ghost use Rattle.xl_core.specs.Judge.{after, check_grace, check_reclaim, check_row, recorded_by, record_name, enter_all, stopped, waits, check_held, kept_off, check_caches, check_room, at_once, judged, or_else, stop_of, stop_by, first_stop, stop_left, IsRow, IsFew};
+ghost use Rattle.xl_core.specs.Blockers.{in_front_of, passage_of, IsInLine, IsKnown};
+ghost use Rattle.xl_core.specs.Judge.{after, check_grace, check_reclaim, check_row, recorded_by, record_name, enter_all, stopped, waits, check_held, kept_off, check_caches, check_room, at_once, those_before, front_by, judged, or_else, stop_of, stop_by, first_stop, stop_left, IsRow, IsFew};
 ghost use Rattle.xl_base.specs.Stable.{is_recordable};
 ghost use Rattle.xl_core.specs.State.{CoreState, MayBe, GoesOn};
 ghost use Rattle.xl_core.specs.Stores.{HandsOn};
@@ -15,7 +15,7 @@ ghost use Rattle.xl_core.specs.declared.judge.Ruling.{Ruling};
 ghost use Rattle.xl_core.specs.declared.judge.Ruling.TheVariants.{Gets, Waits, Told};
 
 use crate::ask::Answer;
-use crate::blockers::{Passage, cache_in, look};
+use crate::blockers::{Front, Passage, cache_in, look, range_ahead};
 use crate::limits::passed_by_grant;
 use crate::parts::Parts;
 use crate::reclaims::{held_then, reclaim_blocker};
@@ -41,7 +41,7 @@ pub(crate) enum Ruling {
 /// What is judged besides the claims: of one who asks, or of one who waits already.
 #[derive(Drop)]
 pub(crate) struct Plea {
-    /// Whether it waits if something held blocks it for good.
+    /// Whether it waits if something blocks it for good.
     pub blocking: bool,
     /// Whether it waits for the answer to a break.
     pub awaits: bool,
@@ -143,23 +143,37 @@ fn stop_by(plea: &Plea, passage: &Passage) -> Option<Ruling>
     }
 }
 
-/// What is held against the claim: what no break moves, or else a cache. Most often nothing is, or no cache stands on the file.
-#[tactic(auto, using(crate::proofs::RowLaws::nothing_held, crate::proofs::RowLaws::held_for_good, crate::proofs::PassageLaws::stopped_so))]
+/// Who meets the range of one who waits in front of it waits, if it may.
+fn stopped_by_range(plea: &Plea, range: Option<Claim>) -> Option<Ruling>
+    ensures ruling { result ≡ option_map (stopped plea.now) range }
+{
+    match range {
+        Some(blocker) => Some(stopped(plea, blocker)),
+        None => None,
+    }
+}
+
+/// What stands against the claim: what no break moves, or else a cache. Most often nothing is held against it, or no cache stands on
+/// the file.
+#[tactic(auto, using(crate::proofs::PassageLaws::stopped_behind, crate::proofs::RowLaws::held_for_good, crate::proofs::PassageLaws::stopped_so))]
 fn check_claim(
     alloc: Global,
     parts: &Parts,
+    front: Front,
     plea: &Plea,
     claim: &Claim,
 ) -> Result<Option<Ruling>, AllocError>
-    ensures ruling { (earlier : List Waiter) (later : Option Ruling) → IfOk result (λ r. or_else (check_held earlier plea.now claim.now (state_of parts.now)) (or_else (check_caches plea.now claim.now (state_of parts.now)) later) ≡ or_else r later) }
+    requires line { IsInLine front parts.now.queue claim.now }
+    ensures ruling { (later : Option Ruling) → IfOk result (λ r. or_else (check_held (in_front_of front parts.now.queue) plea.now claim.now (state_of parts.now)) (or_else (check_caches plea.now claim.now (state_of parts.now)) later) ≡ or_else r later) }
 {
     let Some(blocker) = parts.table.least_blocker(alloc, &parts.names, claim)? else {
-        return Ok(None);
+        let range = range_ahead(alloc, parts, front, claim)?;
+        return Ok(stopped_by_range(plea, range));
     };
     if !parts.table.has_cache(claim.file) {
         return Ok(Some(stopped(plea, blocker)));
     }
-    let passage = look(alloc, parts, claim)?;
+    let passage = look(alloc, parts, front, claim)?;
     Ok(stop_by(plea, &passage))
 }
 
@@ -168,16 +182,18 @@ fn check_claim(
 fn check_known(
     alloc: Global,
     parts: &Parts,
+    front: Front,
     plea: &Plea,
     claim: &Claim,
     known: Option<Passage>,
 ) -> Result<Option<Ruling>, AllocError>
-    requires known { IfSome known (λ passage. passage ≡ passage_of [] (state_of parts.now) claim.now) }
-    ensures ruling { (earlier : List Waiter) (later : Option Ruling) → IfOk result (λ r. or_else (check_held earlier plea.now claim.now (state_of parts.now)) (or_else (check_caches plea.now claim.now (state_of parts.now)) later) ≡ or_else r later) }
+    requires line { IsInLine front parts.now.queue claim.now }
+    requires known { IfSome known (λ passage. passage ≡ passage_of (in_front_of front parts.now.queue) (state_of parts.now) claim.now) }
+    ensures ruling { (later : Option Ruling) → IfOk result (λ r. or_else (check_held (in_front_of front parts.now.queue) plea.now claim.now (state_of parts.now)) (or_else (check_caches plea.now claim.now (state_of parts.now)) later) ≡ or_else r later) }
 {
     match known {
         Some(passage) => Ok(stop_by(plea, &passage)),
-        None => check_claim(alloc, parts, plea, claim),
+        None => check_claim(alloc, parts, front, plea, claim),
     }
 }
 
@@ -225,14 +241,16 @@ fn judge_one(
     alloc: Global,
     parts: &mut Parts,
     left: &Rooms,
+    front: Front,
     plea: &Plea,
     claim: &Claim,
     known: Option<Passage>,
 ) -> Result<Option<Ruling>, AllocError>
-    requires known { IfSome known (λ passage. passage ≡ passage_of [] (state_of parts.old) claim.now) }
+    requires line { IsInLine front parts.old.queue claim.now }
+    requires known { IfSome known (λ passage. passage ≡ passage_of (in_front_of front parts.old.queue) (state_of parts.old) claim.now) }
     requires grantable { IsGrantable claim.now }
     requires party { AllByRecursion (λ c. has_one_party claim.now c ≡ true) parts.old.table }
-    ensures stop { (earlier : List Waiter) → IfOk result (λ r. stop_of earlier left.now plea.now claim.now (state_of parts.old) ≡ r) }
+    ensures stop { IfOk result (λ r. stop_of (in_front_of front parts.old.queue) left.now plea.now claim.now (state_of parts.old) ≡ r) }
     ensures state { IfOk result (λ r. state_of parts.new ≡ stop_left r (claim.now ∷ []) (state_of parts.old)) }
     ensures kept { result ≡ Ok None → IsKept parts.old.table }
     ensures queue { parts.new.queue ≡ parts.old.queue }
@@ -242,7 +260,7 @@ fn judge_one(
     ensures given { parts.new.given ≡ parts.old.given }
     ensures failed { parts.new.failed ≡ parts.old.failed }
 {
-    if let Some(ruling) = check_known(alloc, parts, plea, claim, known)? {
+    if let Some(ruling) = check_known(alloc, parts, front, plea, claim, known)? {
         return Ok(Some(ruling));
     }
     let change = parts.table.granted(alloc, claim)?;
@@ -259,14 +277,16 @@ fn judge_row(
     alloc: Global,
     parts: &mut Parts,
     left: &Rooms,
+    front: Front,
     plea: &Plea,
     claims: &[Claim],
     known: Option<Passage>,
 ) -> Result<Option<Ruling>, AllocError>
-    requires known { IsKnown known (state_of parts.old) claims.now }
+    requires line { AllByRecursion (IsInLine front parts.old.queue) claims.now }
+    requires known { IsKnown (in_front_of front parts.old.queue) known (state_of parts.old) claims.now }
     requires row { IsRow claims.now }
     requires party { AllByRecursion (λ c. AllByRecursion (λ d. has_one_party c d ≡ true) parts.old.table) claims.now }
-    ensures stop { (earlier : List Waiter) → IfOk result (λ r. first_stop earlier left.now plea.now claims.now (state_of parts.old) ≡ r) }
+    ensures stop { IfOk result (λ r. first_stop (in_front_of front parts.old.queue) left.now plea.now claims.now (state_of parts.old) ≡ r) }
     ensures state { IfOk result (λ r. state_of parts.new ≡ stop_left r claims.now (state_of parts.old)) }
     ensures queue { parts.new.queue ≡ parts.old.queue }
     ensures names { parts.new.names ≡ parts.old.names }
@@ -278,10 +298,10 @@ fn judge_row(
     let [claim, rest @ ..] = claims else {
         return Ok(None);
     };
-    if let Some(ruling) = judge_one(alloc, parts, left, plea, claim, known)? {
+    if let Some(ruling) = judge_one(alloc, parts, left, front, plea, claim, known)? {
         return Ok(Some(ruling));
     }
-    if let Some(ruling) = judge_row(alloc, parts, left, &at_once(plea), rest, None)? {
+    if let Some(ruling) = judge_row(alloc, parts, left, front, &at_once(plea), rest, None)? {
         parts.table.take_back(claim);
         return Ok(Some(ruling));
     }
@@ -322,15 +342,17 @@ fn judge_alone<K: Keeper>(
     parts: &mut Parts,
     keeper: &mut K,
     left: &Rooms,
+    front: Front,
     plea: &Plea,
     claim: &Claim,
     known: Option<Passage>,
 ) -> Result<Ruling, AllocError>
-    requires known { IfSome known (λ passage. passage ≡ passage_of [] (state_of parts.old) claim.now) }
+    requires line { IsInLine front parts.old.queue claim.now }
+    requires known { IfSome known (λ passage. passage ≡ passage_of (in_front_of front parts.old.queue) (state_of parts.old) claim.now) }
     requires grantable { IsGrantable claim.now }
     requires party { AllByRecursion (λ c. has_one_party claim.now c ≡ true) parts.old.table }
     requires new { IfSome plea.now.unrecorded (λ name. is_recordable name ≡ true) }
-    ensures ruled { (n : ℕ) (earlier : List Waiter) → IfOk result (λ r. MayBe n (state_of parts.new) → after (check_row earlier left.now plea.now (claim.now ∷ [])) (after (record_name n plea.now (claim.now ∷ [])) (enter_all (claim.now ∷ []))) (state_of parts.old) ≡ (r, [], state_of parts.new)) }
+    ensures ruled { (n : ℕ) → IfOk result (λ r. MayBe n (state_of parts.new) → after (check_row (in_front_of front parts.old.queue) left.now plea.now (claim.now ∷ [])) (after (record_name n plea.now (claim.now ∷ [])) (enter_all (claim.now ∷ []))) (state_of parts.old) ≡ (r, [], state_of parts.new)) }
     ensures few { result ≡ Ok Gets → IsFew plea.now (claim.now ∷ []) }
     ensures waits { result ≡ Ok Waits → plea.now.crowded ≡ None }
     ensures queue { OnOk result (parts.new.queue ≡ parts.old.queue) }
@@ -339,7 +361,7 @@ fn judge_alone<K: Keeper>(
     ensures on { OnOk result (GoesOn (state_of parts.old) (state_of parts.new)) }
     ensures keeper { OnOk result (HandsOn (state_of parts.old) (state_of parts.new) (record { held = K.held keeper.old; given = K.given keeper.old; faults = K.faults keeper.old; left = K.left keeper.old }) (record { held = K.held keeper.new; given = K.given keeper.new; faults = K.faults keeper.new; left = K.left keeper.new })) }
 {
-    if let Some(ruling) = check_known(alloc, parts, plea, claim, known)? {
+    if let Some(ruling) = check_known(alloc, parts, front, plea, claim, known)? {
         return Ok(ruling);
     }
     let change = parts.table.granted(alloc, claim)?;
@@ -353,7 +375,18 @@ fn judge_alone<K: Keeper>(
     Ok(Ruling::Gets)
 }
 
-/// What comes of a plea for these claims, of which there is one at least. It may be known how the way of the first stands.
+/// Who stands in front of one who stands so to grace: nobody, if it reclaims, as it had what it asks for before all who wait.
+pub(crate) fn front_by(standing: Standing, front: Front) -> Front
+    ensures { result ≡ front_by standing front }
+{
+    match standing {
+        Standing::Reclaims => Front::Nobody,
+        _ => front,
+    }
+}
+
+/// What comes of a plea for these claims, of which there is one at least, behind those who stand in front. It may be known how the
+/// way of the first stands.
 /// Only what is held changes.
 #[tactic(auto, unfolding(crate::specs::Judge::judged, crate::specs::Judge::check_row, crate::specs::Judge::record_name, crate::specs::Judge::enter_all))]
 pub(crate) fn judge_all<K: Keeper>(
@@ -361,15 +394,17 @@ pub(crate) fn judge_all<K: Keeper>(
     parts: &mut Parts,
     keeper: &mut K,
     left: &Rooms,
+    front: Front,
     plea: &Plea,
     claims: &[Claim],
     known: Option<Passage>,
 ) -> Result<Ruling, AllocError>
-    requires known { IsKnown known (state_of parts.old) claims.now }
+    requires line { AllByRecursion (IsInLine front parts.old.queue) claims.now }
+    requires known { IsKnown (in_front_of front parts.old.queue) known (state_of parts.old) claims.now }
     requires row { IsRow claims.now }
     requires party { AllByRecursion (λ c. AllByRecursion (λ d. has_one_party c d ≡ true) parts.old.table) claims.now }
     requires new { IfSome plea.now.unrecorded (λ name. is_recordable name ≡ true) }
-    ensures judged { (n : ℕ) (earlier : List Waiter) → IfOk result (λ r. MayBe n (state_of parts.new) → judged n earlier left.now plea.now claims.now (state_of parts.old) ≡ (r, [], state_of parts.new)) }
+    ensures judged { (n : ℕ) (earlier : List Waiter) → those_before plea.now.standing earlier ≡ in_front_of front parts.old.queue → IfOk result (λ r. MayBe n (state_of parts.new) → judged n earlier left.now plea.now claims.now (state_of parts.old) ≡ (r, [], state_of parts.new)) }
     ensures few { result ≡ Ok Gets → IsFew plea.now claims.now }
     ensures waits { result ≡ Ok Waits → plea.now.crowded ≡ None }
     ensures queue { OnOk result (parts.new.queue ≡ parts.old.queue) }
@@ -385,8 +420,8 @@ pub(crate) fn judge_all<K: Keeper>(
         return Ok(ruling);
     }
     if let [claim] = claims {
-        return judge_alone(alloc, parts, keeper, left, plea, claim, known);
+        return judge_alone(alloc, parts, keeper, left, front, plea, claim, known);
     }
-    let stop = judge_row(alloc, parts, left, plea, claims, known)?;
+    let stop = judge_row(alloc, parts, left, front, plea, claims, known)?;
     Ok(stop.unwrap_or(Ruling::Gets))
 }

@@ -15,13 +15,14 @@ ghost use Rattle.xl_matrix.specs.declared.claim.Rwd.{Rwd};
 ghost use Rattle.xl_matrix.specs.declared.claim.What.{What};
 ghost use Rattle.xl_matrix.specs.Matrix.{compat};
 ghost use Rattle.xl_matrix.specs.Weaker.{weaker};
-ghost use Rattle.xl_table.specs.Flat.{inserted, removed, changed, with_what};
+ghost use Rattle.xl_core.specs.Blockers.{range_ahead};
+ghost use Rattle.xl_table.specs.Flat.{inserted, is_blocked, removed, changed, with_what};
 ghost use Rattle.xl_table.specs.Least.{range_before, least};
 ghost use Rattle.xl_table.specs.Relock.{most_claims, with_share, shares_of, old_shares, unites, united_by};
 ghost use Rattle.xl_names.specs.declared.name.Name.{Name};
 ghost use Rattle.xl_spans.specs.Spans.{relocked};
 ghost use Rattle.xl_table.specs.Held.{is_cache, mode_of, is_of, spans_of};
-ghost use Rattle.xl_wait.specs.Waiting.{is_waiting, cancelled};
+ghost use Rattle.xl_wait.specs.Waiting.{is_waiting, cancelled, waits_on};
 ghost use Rattle.xl_wait.specs.declared.waiter.Rooms.{Rooms};
 ghost use Rattle.xl_wait.specs.declared.waiter.Waiter.{Waiter};
 ghost use Rattle.xl_core.specs.State.{CoreState, aside_of, started, step_begun, drawn};
@@ -91,8 +92,8 @@ pub fn breaks_may_begin()
 {}
 
 /// Each answer is given exactly if its cause holds, which `IsClaimDue`, `IsTestDue`, `IsUnlockDue` and `IsWishDue` say;
-/// of several limits the least is answered. Of the claims that block an ask the one that is answered is held, and none
-/// of the others comes before it; the break of a cache that is answered runs by then.
+/// of several limits the least is answered. Of the held claims that block an ask the least is answered, and only if there is none the
+/// first range that one in front waits for; the break of a cache that is answered runs by then.
 pub fn answers_have_causes()
     ensures claims { (n : ℕ) (left : Rooms) (s : CoreState) (a : Ask) (what : What) (answer : Answer) → asked_what a.act ≡ Some what → ((ask n left s a).0 ≡ answer) ↔ IsClaimDue n left (way left s a).1 a (asked_claim a what s.names) answer }
     ensures recalls { (n : ℕ) (left : Rooms) (s : CoreState) (a : Ask) (what : What) (c : Claim) → asked_what a.act ≡ Some what → (ask n left s a).0 ≡ Answer.Recall c → is_running c.what ≡ true }
@@ -102,8 +103,8 @@ pub fn answers_have_causes()
     ensures least { (names : List Name) (claims : List Claim) (c : Claim) → least names claims ≡ Some c → IsIn c claims × AllByRecursion (λ d. range_before names d c ≡ false) claims }
 {}
 
-/// A share or a lock that grace lets in, that nothing held blocks and that passes no limit is granted, if its client is recorded or
-/// can be. What is granted is
+/// A share or a lock that grace lets in, that nothing held blocks, nor, unless it is a reclaim, the range of one who waits, and that passes
+/// no limit is granted, if its client is recorded or can be. What is granted is
 /// held then, whatever the owner had in the range before, or shared, united with the share that an NFSv4 owner had; what is
 /// unlocked no more.
 pub fn free_asks_are_granted()
@@ -125,13 +126,15 @@ pub fn nothing_else_changes()
 
 /// An asker that begins to wait is at the end of the queue, under the number that it is answered. There is no turn
 /// exactly if each waiter, judged behind those before it, waits on with nothing begun or changed; and that is if each
-/// is held up: something held blocks the first claim that it asks for, for good if it waits for that, and else a cache.
+/// is held up: something held blocks the first claim that it asks for, or the range of one who waits in front, for good if it waits for
+/// that, and else a cache. Something held blocks the first who waits on each file, unless grace runs.
 /// A turn is that of the first waiter that isn't held up: it has what it asked for, or is answered what blocks it or
 /// the least limit that this would pass, and waits no more; all others wait on, and have what they had. So turns end,
 /// with nobody left who isn't held up: a turn takes a waiter out, which may be served with a cache, or begins a break.
 pub fn nobody_is_forgotten()
     ensures waits { (n : ℕ) (left : Rooms) (s : CoreState) (a : Ask) (number : ℕ) → IsGood s → IsFit a → (ask n left s a).0 ≡ Answer.Queued number → (ask n left s a).2.waiters ≡ s.waiters ++ waiter_of number a (asking_party a s.names) (asked_claims a (asked_whats a.act) s.names) ∷ [] }
     ensures settled { (n : ℕ) (left : Rooms) (s : CoreState) → (settle n left s ≡ None) ↔ AllRest n left s [] s.waiters }
+    ensures first { (s : CoreState) (before behind : List Waiter) (w : Waiter) (c : Claim) (cs : List Claim) → IsSettled s → s.grace ≡ None → s.waiters ≡ before ++ w ∷ behind → w.asked ≡ c ∷ cs → waits_on c.file before ≡ false → is_blocked s.claims c ≡ true }
     ensures blocked { (n : ℕ) (left : Rooms) (s : CoreState) → AllRest n left s [] s.waiters ↔ IsSettled s }
     ensures turns { (n : ℕ) (left : Rooms) (s : CoreState) → IsGood s → IfSome (settle n left s) (λ r. IsTurn n left s r.0 r.1) }
     ensures fewer { (n : ℕ) (left : Rooms) (s : CoreState) → IsGood s → IfSome (settle n left s) (λ r. turns_left r.1 + 1 ≤ turns_left s) }
@@ -206,10 +209,12 @@ pub fn only_turns_serve()
     ensures ticks { (n : ℕ) (s : CoreState) (now : Moment) → serves_none (tick n s now).0 ≡ true }
 {}
 
-/// A test foretells the lock: the same lock of the same asker, not blocking and no reclaim, meets a conflict exactly if the test is
-/// denied. A cache that keeps the lock off is a conflict to neither.
+/// A test foretells the lock as far as what is held goes: if the test is denied, the same lock of the same asker, not blocking and no
+/// reclaim, meets a conflict; and so it is the other way round, if no range is asked for in front of the lock. A cache that keeps
+/// the lock off is a conflict to neither.
 pub fn a_test_foretells()
-    ensures { (n : ℕ) (left : Rooms) (s : CoreState) (test lock : Ask) (first last : ℕ) (exclusive : Bool) → IsGood s → IsFit lock → is_named lock.owner ≡ true → IsSameAsker test lock → test.act ≡ Act.Test (Extent.Bytes first last) exclusive → lock.act ≡ Act.Ranges ((Extent.Bytes first last, exclusive) ∷ []) → lock.blocking ≡ false → lock.reclaim ≡ false → IsConflict (ask n left s lock).0 ↔ IsConflict (ask n left s test).0 }
+    ensures { (n : ℕ) (left : Rooms) (s : CoreState) (test lock : Ask) (first last : ℕ) (exclusive : Bool) → IsGood s → IsFit lock → is_named lock.owner ≡ true → IsSameAsker test lock → test.act ≡ Act.Test (Extent.Bytes first last) exclusive → lock.act ≡ Act.Ranges ((Extent.Bytes first last, exclusive) ∷ []) → lock.blocking ≡ false → lock.reclaim ≡ false
+        → (range_ahead s.waiters s (asked_claim lock (What.Range (Extent.Bytes first last) exclusive) s.names) ≡ None → IsConflict (ask n left s lock).0 → IsConflict (ask n left s test).0) × (IsConflict (ask n left s test).0 → IsConflict (ask n left s lock).0) }
 {}
 
 /// A granted ask leaves the clock, and the last number that was given out but for the calls of its breaks. The record, the stores of

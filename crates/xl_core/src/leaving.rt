@@ -127,7 +127,7 @@ fn waits_as(number: u32, waiter: &Waiter) -> bool
 }
 
 /// Whether a waiter waits no more once this one leaves.
-fn waits_with(leaver: Leaver, waiter: &Waiter) -> bool
+pub(crate) fn waits_with(leaver: Leaver, waiter: &Waiter) -> bool
     ensures { result ≡ waits_with leaver waiter.now }
 {
     match leaver {
@@ -138,7 +138,7 @@ fn waits_with(leaver: Leaver, waiter: &Waiter) -> bool
 
 /// What is told of those who wait no more once this one leaves.
 #[tactic(auto, unfolding(crate::specs::Settle::told_with))]
-fn told_with(
+pub(crate) fn told_with(
     alloc: Global,
     leaver: Leaver,
     waiters: &[Waiter],
@@ -178,19 +178,20 @@ fn who_left(alloc: Global, told: &[Effect]) -> Result<Vec<u32>, AllocError>
     Ok(numbers)
 }
 
-/// Takes out the claims and the waiters that go with who leaves, these in one pass.
+/// Takes out the claims and the waiters that go with who leaves, these in one pass: so much is told of them.
 #[tactic(auto, using(crate::proofs::SettleLaws::passed_out))]
 pub(crate) fn leave(
     alloc: Global,
     parts: &mut Parts,
     leaver: Leaver,
+    told: Sequence<Effect>,
 ) -> Result<Sequence<Effect>, AllocError>
     requires good { IsGood (state_of parts.old) }
+    requires told { told ≡ told_with leaver parts.old.queue }
     ensures { IfOk result (λ effects. departed (state_of parts.old) leaver ≡ (effects, state_of parts.new)) }
 {
-    let effects = told_with(alloc, leaver, parts.queue.waiters())?;
-    let numbers = who_left(alloc, effects.as_slice())?;
+    let numbers = who_left(alloc, told.as_slice())?;
     parts.table.remove_leaver(leaver);
     parts.queue.cancel_all(&numbers)?;
-    Ok(effects)
+    Ok(told)
 }

@@ -1,9 +1,10 @@
 //! How far the queue of a file was gone through, so that a turn is looked for behind those whom the turn before left held up.
-ghost use Rattle.std.specs.Prelude.{◌≡◌, ◌<◌, [], true, take, IfOk};
+ghost use Rattle.std.specs.Prelude.{◌≡◌, ◌==◌, ◌&&◌, ◌+◌, ◌<◌, ◌^◌, if◌then◌else◌, [], true, take, IfOk};
 ghost use Rattle.std.specs.List.{AllByRecursion, list_all};
 ghost use Rattle.xl_wait.specs.Waiting.{waiting_on};
-ghost use Rattle.xl_core.specs.Good.{holds_up, IsGood};
-ghost use Rattle.xl_core.specs.Passed.{is_element, replaces_none, replace_none, known_on, is_seen_free, passed_then, ArePassed, FreesNobody};
+ghost use Rattle.xl_core.specs.Good.{IsGood};
+ghost use Rattle.xl_core.specs.Settle.{is_up};
+ghost use Rattle.xl_core.specs.Passed.{is_shut_out, is_element, replaces_none, replace_none, known_on, is_seen_free, passed_then, ArePassed, FreesNobody};
 ghost use Rattle.xl_core.specs.Whole.{state_of};
 
 use crate::ask::Effect;
@@ -11,8 +12,9 @@ use crate::parts::Parts;
 use crate::settling::Called;
 use std::alloc::{AllocError, Global};
 use xl_matrix::{Claim, Extent, What, is_posix};
+use xl_wait::Waiter;
 
-/// The first so many of those who wait on the file are held up, and go on to be while it has no cache.
+/// The first so many of those who wait on the file are shut out by what is held, so they are held up while it has no cache.
 #[derive(Clone, Copy)]
 pub(crate) struct Passed {
     /// The file.
@@ -24,12 +26,35 @@ pub(crate) struct Passed {
 /// Of nobody it is known.
 pub(crate) const NOBODY: Passed = Passed { file: 0, count: 0 };
 
-/// How many of those who wait on this file are known to be held up.
-#[tactic(auto, using(crate::proofs::PassedLaws::none_up))]
+/// Whether something held blocks the first claim that the waiter asks for, and it waits for that.
+pub(crate) fn is_shut_out(parts: &Parts, waiter: &Waiter) -> bool
+    ensures { result ≡ is_shut_out (state_of parts.now) waiter.now }
+{
+    match waiter.asked.as_slice() {
+        [claim, ..] => waiter.blocking && parts.table.is_blocked(claim),
+        [] => false,
+    }
+}
+
+/// How many are shut out in front, once the waiter behind so many others is looked at.
+pub(crate) fn shut_then(parts: &Parts, waiter: &Waiter, shut: usize, count: usize) -> usize
+    requires { count < 2 ^ 63 }
+    ensures { result ≡ (if (shut == count) && is_shut_out (state_of parts.now) waiter.now then shut + 1 else shut) }
+{
+    if shut == count && is_shut_out(parts, waiter) {
+        shut + 1
+    } else {
+        shut
+    }
+}
+
+/// How many of those who wait on this file are known to be held up, as they are shut out.
+#[tactic(auto, using(crate::proofs::PassedLaws::none_shut, crate::proofs::PassedLaws::none_up))]
 pub(crate) fn known_on(parts: &Parts, file: u32, passed: Passed) -> usize
     requires { ArePassed passed (state_of parts.now) }
     ensures exact { result ≡ known_on passed file parts.now.table }
-    ensures up { AllByRecursion (λ w. holds_up [] (state_of parts.now) w w.asked ≡ true) (take result (waiting_on file parts.now.queue)) }
+    ensures shut { AllByRecursion (λ w. is_shut_out (state_of parts.now) w ≡ true) (take result (waiting_on file parts.now.queue)) }
+    ensures up { AllByRecursion (λ w. is_up (state_of parts.now) w ≡ true) (take result (waiting_on file parts.now.queue)) }
 {
     if passed.file != file {
         return 0;

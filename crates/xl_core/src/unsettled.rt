@@ -1,14 +1,18 @@
 //! The files on which someone may wait whom nothing blocks, so that not all who wait are looked at after each change.
+ghost use Rattle.std.specs.List.{AllByRecursion};
 ghost use Rattle.std.specs.Prelude.{◌≡◌, ◌==◌, [], ◌∷◌, true, false, IfSome};
-ghost use Rattle.xl_core.specs.Unsettled.{is_among, is_none, only_file, may_free, may_change, IsWider, Notes, NotesLeft};
+ghost use Rattle.xl_core.specs.Settle.{told_with};
+ghost use Rattle.xl_core.specs.Unsettled.{is_among, is_none, only_file, may_free, may_change, IsNoted, IsWider, Notes, NotesLeft, NotesGone, NotesOne};
 ghost use Rattle.xl_core.specs.declared.unsettled.Unsettled.TheVariants.{Files};
 
 use crate::ask::{Act, Answer, Ask, Effect};
+use crate::leaving::waits_with;
 use xl_base::Sequence;
 use xl_table::{Leaver, Table};
-use xl_wait::Queue;
+use xl_wait::{Queue, Waiter};
 
-/// The files whose claims changed since all who wait were last found blocked, as far as someone waited there.
+/// The files whose claims changed since all who wait were last found blocked, as far as someone waited there, and those on which
+/// someone waits no more.
 #[derive(Drop)]
 pub(crate) enum Unsettled {
     /// These.
@@ -92,6 +96,57 @@ pub(crate) fn note_left(table: &Table, queue: &Queue, unsettled: &mut Unsettled,
     'files: while let Some(file) = table.next_left(leaver, past) {
         note(queue, unsettled, file);
         past = Some(file);
+    }
+}
+
+/// Notes the file on which the waiter waits.
+#[tactic(auto, using(crate::proofs::UnsettledLaws::same_wider))]
+fn note_of(unsettled: &mut Unsettled, waiter: &Waiter)
+    ensures wider { IsWider unsettled.old unsettled.new }
+    ensures own { IsNoted unsettled.new waiter.now }
+{
+    if let [claim, ..] = waiter.asked.as_slice() {
+        if !is_among(unsettled, claim.file) {
+            add(unsettled, claim.file);
+        }
+    }
+}
+
+/// Notes the file of each of these that waits no more once this one leaves: who waits behind it there may have waited for it.
+fn note_each(unsettled: &mut Unsettled, leaver: Leaver, waiters: &[Waiter])
+    ensures { NotesGone unsettled.old unsettled.new leaver waiters.now }
+{
+    'waiters: for waiter in waiters {
+        if waits_with(leaver, waiter) {
+            note_of(unsettled, waiter);
+        }
+    }
+}
+
+/// The same, where this is told of them. Most often nobody of them goes, and they aren't gone through again.
+pub(crate) fn note_gone(
+    unsettled: &mut Unsettled,
+    leaver: Leaver,
+    told: &[Effect],
+    waiters: &[Waiter],
+)
+    requires told { told.now ≡ told_with leaver waiters.now }
+    ensures { NotesGone unsettled.old unsettled.new leaver waiters.now }
+{
+    match told {
+        [] => {}
+        [_, ..] => note_each(unsettled, leaver, waiters),
+    }
+}
+
+/// Notes the file of the waiter of this number, who cancels, for the same reason.
+pub(crate) fn note_one(unsettled: &mut Unsettled, id: u32, waiters: &[Waiter])
+    ensures { NotesOne unsettled.old unsettled.new id waiters.now }
+{
+    'waiters: for waiter in waiters {
+        if waiter.id == id {
+            note_of(unsettled, waiter);
+        }
     }
 }
 

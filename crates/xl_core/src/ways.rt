@@ -1,17 +1,17 @@
 //! The way that is made for an ask, or a waiter, before it is judged: the breaks that it begins.
+ghost use Rattle.std.specs.List.{AllByRecursion};
 ghost use Rattle.std.specs.Prelude.{◌≡◌, ◌∷◌, ◌+◌, ◌<◌, ◌≤◌, ◌^◌, List, [], OnOk, IfOk};
 ghost use Rattle.xl_base.specs.Limits.{numbers_left};
 ghost use Rattle.xl_matrix.specs.declared.claim.Claim.{Claim};
 ghost use Rattle.xl_table.specs.Relock.{most_claims};
-ghost use Rattle.xl_wait.specs.declared.waiter.Waiter.{Waiter};
-ghost use Rattle.xl_core.specs.Blockers.{passage_of, IsKnown};
+ghost use Rattle.xl_core.specs.Blockers.{in_front_of, passage_of, IsInLine, IsKnown};
 ghost use Rattle.xl_core.specs.Good.{IsGood};
 ghost use Rattle.xl_core.specs.Ways.{begins_some, made_way};
 ghost use Rattle.xl_core.specs.Whole.{state_of};
 ghost use Rattle.xl_core.specs.declared.blockers.Passage.TheVariants as Passage;
 
 use crate::ask::Effect;
-use crate::blockers::{Passage, first_broken, passage_of};
+use crate::blockers::{Front, Passage, first_broken, passage_of};
 use crate::breaks::{begin_breaks, plan_then};
 use crate::judge::Plea;
 use crate::lease::moment_after;
@@ -36,15 +36,16 @@ fn begins_some(plea: &Plea, plan: &BreakPlan) -> bool
 fn carry_out(
     alloc: Global,
     parts: &mut Parts,
+    front: Front,
     plea: &Plea,
     claim: &Claim,
     plan: BreakPlan,
 ) -> Result<(Sequence<Effect>, BreakPlan), AllocError>
-    requires passage { Passage.Open plan ≡ passage_of [] (state_of parts.old) claim.now }
+    requires passage { Passage.Open plan ≡ passage_of (in_front_of front parts.old.queue) (state_of parts.old) claim.now }
     requires good { IsGood (state_of parts.old) }
     requires numbers { parts.old.counter + numbers_left < 2 ^ 32 }
-    ensures way { (earlier : List Waiter) (claims : List Claim) → IfOk result (λ r. made_way earlier plea.now (claim.now ∷ claims) (state_of parts.old) ≡ (r.0, state_of parts.new)) }
-    ensures passage { IfOk result (λ r. Passage.Open r.1 ≡ passage_of [] (state_of parts.new) claim.now) }
+    ensures way { (claims : List Claim) → IfOk result (λ r. made_way (in_front_of front parts.old.queue) plea.now (claim.now ∷ claims) (state_of parts.old) ≡ (r.0, state_of parts.new)) }
+    ensures passage { IfOk result (λ r. Passage.Open r.1 ≡ passage_of (in_front_of front parts.new.queue) (state_of parts.new) claim.now) }
     ensures few { OnOk result (parts.new.counter ≤ parts.old.counter + most_claims) }
     ensures queue { parts.new.queue ≡ parts.old.queue }
     ensures names { parts.new.names ≡ parts.old.names }
@@ -68,13 +69,15 @@ fn carry_out(
 fn make_way_of(
     alloc: Global,
     parts: &mut Parts,
+    front: Front,
     plea: &Plea,
     claim: &Claim,
 ) -> Result<(Sequence<Effect>, Passage), AllocError>
+    requires line { IsInLine front parts.old.queue claim.now }
     requires good { IsGood (state_of parts.old) }
     requires numbers { parts.old.counter + numbers_left < 2 ^ 32 }
-    ensures way { (earlier : List Waiter) (claims : List Claim) → IfOk result (λ r. made_way earlier plea.now (claim.now ∷ claims) (state_of parts.old) ≡ (r.0, state_of parts.new)) }
-    ensures passage { IfOk result (λ r. r.1 ≡ passage_of [] (state_of parts.new) claim.now) }
+    ensures way { (claims : List Claim) → IfOk result (λ r. made_way (in_front_of front parts.old.queue) plea.now (claim.now ∷ claims) (state_of parts.old) ≡ (r.0, state_of parts.new)) }
+    ensures passage { IfOk result (λ r. r.1 ≡ passage_of (in_front_of front parts.new.queue) (state_of parts.new) claim.now) }
     ensures few { OnOk result (parts.new.counter ≤ parts.old.counter + most_claims) }
     ensures queue { parts.new.queue ≡ parts.old.queue }
     ensures names { parts.new.names ≡ parts.old.names }
@@ -82,10 +85,10 @@ fn make_way_of(
     ensures given { parts.new.given ≡ parts.old.given }
     ensures failed { parts.new.failed ≡ parts.old.failed }
 {
-    match passage_of(alloc, parts, claim)? {
+    match passage_of(alloc, parts, front, claim)? {
         Passage::Barred(blocker) => Ok((Sequence::new(alloc), Passage::Barred(blocker))),
         Passage::Open(plan) => {
-            let (told, left) = carry_out(alloc, parts, plea, claim, plan)?;
+            let (told, left) = carry_out(alloc, parts, front, plea, claim, plan)?;
             Ok((told, Passage::Open(left)))
         }
     }
@@ -97,13 +100,15 @@ fn make_way_of(
 pub(crate) fn make_way(
     alloc: Global,
     parts: &mut Parts,
+    front: Front,
     plea: &Plea,
     claims: &[Claim],
 ) -> Result<(Sequence<Effect>, Option<Passage>), AllocError>
+    requires line { AllByRecursion (IsInLine front parts.old.queue) claims.now }
     requires good { IsGood (state_of parts.old) }
     requires numbers { parts.old.counter + numbers_left < 2 ^ 32 }
-    ensures way { (earlier : List Waiter) → IfOk result (λ r. made_way earlier plea.now claims.now (state_of parts.old) ≡ (r.0, state_of parts.new)) }
-    ensures known { IfOk result (λ r. IsKnown r.1 (state_of parts.new) claims.now) }
+    ensures way { IfOk result (λ r. made_way (in_front_of front parts.old.queue) plea.now claims.now (state_of parts.old) ≡ (r.0, state_of parts.new)) }
+    ensures known { IfOk result (λ r. IsKnown (in_front_of front parts.new.queue) r.1 (state_of parts.new) claims.now) }
     ensures few { OnOk result (parts.new.counter ≤ parts.old.counter + most_claims) }
     ensures queue { parts.new.queue ≡ parts.old.queue }
     ensures names { parts.new.names ≡ parts.old.names }
@@ -117,6 +122,6 @@ pub(crate) fn make_way(
     if !parts.table.has_cache(claim.file) {
         return Ok((Sequence::new(alloc), None));
     }
-    let (told, passage) = make_way_of(alloc, parts, plea, claim)?;
+    let (told, passage) = make_way_of(alloc, parts, front, plea, claim)?;
     Ok((told, Some(passage)))
 }

@@ -10,6 +10,7 @@ use Rattle.xl_base.specs.declared.journal.Entry.{Entry}
 use Rattle.xl_base.specs.declared.journal.Head.{Head}
 use Rattle.xl_core.specs.State.{CoreState, MayBe, GoesOn, started, step_begun}
 use Rattle.xl_core.proofs.DeedLists.{deeds_good}
+use Rattle.xl_core.specs.Blockers.{range_ahead, ranges_ahead}
 use Rattle.xl_core.specs.Good.{IsGood, IsSettled}
 use Rattle.xl_core.specs.Knowing.{KnowsRecord}
 use Rattle.xl_core.proofs.GoodLaws.{started_good, begun_good}
@@ -47,7 +48,7 @@ unfolding step_begun
 begun_none s = (refl, refl, refl)
 
 begun_settled : (s : CoreState) → IsSettled s → IsSettled (step_begun s)
-unfolding step_begun
+unfolding step_begun range_ahead ranges_ahead
 begun_settled s settled = settled
 
 begun_waits : (s : CoreState) → AllByRecursion WaitsForItself s.waiters → AllByRecursion WaitsForItself (step_begun s).waiters

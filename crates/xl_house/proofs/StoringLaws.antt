@@ -11,13 +11,12 @@ use Rattle.xl_base.specs.declared.stable.Recorded.{Recorded}
 use Rattle.xl_grace.specs.Grace.{reclaimed, shortened}
 use Rattle.xl_matrix.specs.declared.claim.Claim.{Claim}
 use Rattle.xl_matrix.specs.declared.claim.What.{What}
-use Rattle.xl_table.specs.Flat.{is_blocked}
 use Rattle.xl_table.specs.Least.{least}
 use Rattle.xl_table.specs.Relock.{granted_claims}
 use Rattle.xl_wait.specs.declared.waiter.Rooms.{Rooms}
 use Rattle.xl_wait.specs.declared.waiter.Waiter.{Waiter}
 use Rattle.xl_core.specs.Askers.{asked_what, asked_whats, asked_claim, asked_claims, is_client}
-use Rattle.xl_core.specs.Blockers.{blockers, cache_against, is_stopped}
+use Rattle.xl_core.specs.Blockers.{blocker, is_in_line, cache_against, is_stopped}
 use Rattle.xl_core.specs.BreakAnswers.{client_of}
 use Rattle.xl_core.specs.BreaksBegun.{breaks_begun}
 use Rattle.xl_core.specs.Causes.{IsClaimDue, IsEachBehind, asks_claims, back_by, last_answer, name_asked, name_waiting, noted_by, wanted}
@@ -206,11 +205,11 @@ ends answer = false
 
 -- one claim that nothing stops is told what comes last
 last_is : (earlier : List Waiter) (left rows : Rooms) (bytes kept : ℕ) (last : Answer) (c : Claim) (t : CoreState) (answer : Answer) → ends answer ≡ true → IsEachBehind earlier left rows bytes kept last (c ∷ []) t answer → answer ≡ last
-last_is earlier left rows bytes kept last c t answer end due = by_held (least t.names (blockers earlier t c)) refl where
+last_is earlier left rows bytes kept last c t answer end due = by_held (blocker earlier t c) refl where
   held : ℕ
   held = length (granted_claims c t.claims)
 
-  by_room : is_blocked t.claims c ≡ false → (o : Option ℕ) → first_passed (grant_limits left rows held bytes kept) ≡ o → answer ≡ last
+  by_room : is_in_line earlier t c ≡ false → (o : Option ℕ) → first_passed (grant_limits left rows held bytes kept) ≡ o → answer ≡ last
   by_room free None e = due.3 free (grant_found left rows held bytes kept None e)
   by_room free (Some limit) e = absurd (both_ways (ends answer) (ap ends (due.2 limit free (grant_found left rows held bytes kept (Some limit) e))) end)
 
@@ -218,7 +217,7 @@ last_is earlier left rows bytes kept last c t answer end due = by_held (least t.
   by_cache moves None e = by_room (free_unless earlier t c moves e) (first_passed (grant_limits left rows held bytes kept)) refl
   by_cache moves (Some d) e = absurd (both_ways (ends answer) (ap ends (due.1 d moves e)) end)
 
-  by_held : (o : Option Claim) → least t.names (blockers earlier t c) ≡ o → answer ≡ last
+  by_held : (o : Option Claim) → blocker earlier t c ≡ o → answer ≡ last
   by_held None e = by_cache (blockers_none earlier t c e) (cache_against t.claims c) refl
   by_held (Some d) e = absurd (both_ways (ends answer) (ap ends (due.0 d e)) end)
 

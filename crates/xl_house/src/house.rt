@@ -469,8 +469,8 @@ impl<K: Keeper> House<K> {
     ///   answers, gives it back, ends or expires, or the deadline passes;
     /// - broken: a break begins only of a cache in the way of what was asked, and its answer is awaited;
     /// - caches_kept: each cache stays, at its kind or a greater one, unless a deed ends it or the entry tells that it is gone;
-    /// - complete: what grace let in and nothing held stands against was granted, and what was due by a reading of the clock was
-    ///   done, except what waits for a store that failed;
+    /// - complete: what grace let in and neither what is held nor the range of one who waits stands against was granted, and what was due by
+    ///   a reading of the clock was done, except what waits for a store that failed;
     /// - fit: each deed is one that may be done where it is done;
     /// - wished: a wish got one of its choices, the least kind with one of them and what its party had, or nothing;
     /// - asking: an ask of a request of NLM is on the file that it names, a reclaim if it says so, with the state that it names as its

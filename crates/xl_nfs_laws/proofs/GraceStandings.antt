@@ -6,8 +6,8 @@ use Rattle.xl_grace.specs.declared.grace.Admission.TheVariants.{Enters, NotRecor
 use Rattle.xl_matrix.specs.declared.claim.Claim.{Claim}
 use Rattle.xl_table.specs.Flat.{blocks}
 use Rattle.xl_table.specs.Least.{least}
-use Rattle.xl_core.specs.Blockers.{blockers, is_stopped}
-use Rattle.xl_core.specs.Causes.{IsAgainst, IsWaiting}
+use Rattle.xl_core.specs.Blockers.{blocker, is_stopped}
+use Rattle.xl_core.specs.Causes.{IsAgainst, IsWaiting, IsBarring}
 use Rattle.xl_core.specs.Standings.{asker_as, is_smb, standing, standing_by, stands}
 use Rattle.xl_core.specs.State.{CoreState}
 use Rattle.xl_core.specs.declared.ask.Ask.{Ask}
@@ -35,10 +35,10 @@ never_waits s a claim hurries rests other waits = by s.grace a.reclaim (subst (�
   by (Some g) true w = lets (may_reclaim (asker_as a) g.reclaimants) w
   by (Some g) false w = w
 
--- what stands against one that doesn't reclaim is the least of what does for good
+-- what stands against one that does not reclaim is the least held claim that does for good, or else the first range that is waited for
 pub against_asked : (s : CoreState) (a : Ask) (claim c : Claim) → is_smb a.party ≡ false → a.reclaim ≡ false → IsAgainst (stands s a) s a claim c
-    → (a.blocking ≡ false) × (least s.names (blockers s.waiters s claim) ≡ Some c) × IsIn c s.claims × (blocks claim c ≡ true)
+    → (a.blocking ≡ false) × (blocker s.waiters s claim ≡ Some c) × IsBarring s.waiters s claim c
 against_asked s a claim c other plain against = by s.grace (subst (λ standing. IsAgainst standing s a claim c) (stands_so s a false s.grace false other refl plain) against) where
-  by : (g : Option Running) → IsAgainst (standing_by false false s.clock (admission g (asker_as a) false)) s a claim c → (a.blocking ≡ false) × (least s.names (blockers s.waiters s claim) ≡ Some c) × IsIn c s.claims × (blocks claim c ≡ true)
+  by : (g : Option Running) → IsAgainst (standing_by false false s.clock (admission g (asker_as a) false)) s a claim c → (a.blocking ≡ false) × (blocker s.waiters s claim ≡ Some c) × IsBarring s.waiters s claim c
   by None is = is
   by (Some g) is = absurd is

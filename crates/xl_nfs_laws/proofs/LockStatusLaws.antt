@@ -119,7 +119,7 @@ told_denied : (n : ℕ) (s t : CoreState) (l : NfsLists) (a : Ask) (claim : Clai
 told_denied n s t l a claim false (answers.Conflict c) h other plain due stays e =
     let same : held_lock t l c ≡ h = cc in
     let against = against_asked s a claim c other plain due in
-    record { by = c; is_held = against.2; against = against.3; least = against.1; told = sym same ∙ ap (λ (u : CoreState). held_lock u l c) stays }
+    record { by = c; barring = against.2; named = against.1; told = sym same ∙ ap (λ (u : CoreState). held_lock u l c) stays }
 told_denied n s t l a claim true (answers.Conflict c) h other plain due stays e = absurd cc
 told_denied n s t l a claim reclaim (answers.Granted c) h other plain due stays e = absurd cc
 told_denied n s t l a claim reclaim (answers.Queued id) h other plain due stays e = absurd cc

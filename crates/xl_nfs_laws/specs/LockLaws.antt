@@ -19,8 +19,8 @@ use Rattle.xl_table.specs.Least.{least}
 use Rattle.xl_names.specs.declared.name.Name.{Name}
 use Rattle.xl_names.specs.declared.name.Name.TheVariants.{NfsRange}
 use Rattle.xl_core.specs.Askers.{asked_claim, known_claim, known_owner}
-use Rattle.xl_core.specs.Blockers.{blockers, test_blockers}
-use Rattle.xl_core.specs.Causes.{IsClaimDue, IsTestDue, stands_against}
+use Rattle.xl_core.specs.Blockers.{blocker, test_blockers}
+use Rattle.xl_core.specs.Causes.{IsClaimDue, IsTestDue, stands_against, IsBarring}
 use Rattle.xl_core.specs.Decide.{way}
 use Rattle.xl_core.specs.Places.{ByteOf, held_at}
 use Rattle.xl_core.specs.State.{CoreState}
@@ -81,7 +81,7 @@ AreFree o file first last s t = AreBytes (unlock_claim s o file first last) firs
 
 -- ---- why a LOCK or a LOCKT is answered so
 
--- OK if grace lets the lock in, nothing held stands against it, there is room for it, and its client is recorded or can be, if n
+-- OK if grace lets the lock in, neither what is held nor, unless it reclaims, the range of one who waits stands against it, there is room for it, and its client is recorded or can be, if n
 -- stores of the step succeed; DENIED if something stands against it for good, and RECLAIM_CONFLICT if anything does against a
 -- reclaim; DELAY if a cache keeps it off, and RESOURCE if a limit is passed, that of the record too; GRACE while grace runs, for
 -- what is no reclaim, and NO_GRACE for a reclaim while none runs; RECLAIM_BAD for a reclaim of a client that isn't recorded, or is
@@ -106,12 +106,12 @@ IsTestTold s a claim statuses.Denied = (c : Claim) × IsTestDue s a claim (answe
 IsTestTold s a claim statuses.Grace = (until : Moment) × IsTestDue s a claim (answers.Grace until)
 IsTestTold s a claim _ = ⊥
 
--- what is answered is a claim that is held and stands against the lock: the least of those that do
+-- what is answered is a claim that is held and stands against the lock, the least of those that do; or, if none does, the first range
+-- of those who wait that does
 pub record IsDenial (s : CoreState) (l : NfsLists) (claim : Claim) (held : HeldLock) : Type 0 where
   pub by : Claim
-  pub is_held : IsIn by s.claims
-  pub against : blocks claim by ≡ true
-  pub least : least s.names (blockers s.waiters s claim) ≡ Some by
+  pub barring : IsBarring s.waiters s claim by
+  pub named : blocker s.waiters s claim ≡ Some by
   pub told : held ≡ held_lock s l by
 
 -- the same of a LOCKT: it is a range

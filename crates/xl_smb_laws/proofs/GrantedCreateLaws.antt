@@ -25,14 +25,13 @@ use Rattle.xl_core.proofs.DecideLaws.{blockers_none, free_unless}
 use Rattle.xl_core.proofs.FrameLaws.{way_leaves}
 use Rattle.xl_core.proofs.LimitLaws.{grant_found}
 use Rattle.xl_core.proofs.SettleLaws.{turn_is}
-use Rattle.xl_core.specs.Blockers.{blockers, cache_against, is_stopped}
+use Rattle.xl_core.specs.Blockers.{blocker, is_in_line, cache_against, is_stopped}
 use Rattle.xl_core.specs.Causes.{IsEachBehind, IsTurn, Answered, WaitsOn, last_answer, name_waiting}
 use Rattle.xl_core.specs.Frames.{who_left}
 use Rattle.xl_core.specs.Judge.{to_record}
 use Rattle.xl_core.specs.Stores.{bytes_with, may_record}
 use Rattle.xl_core.specs.Good.{IsGood, are_apart}
 use Rattle.xl_core.specs.Limits.{first_passed, grant_limits, is_passed, most_hosts, most_owners}
-use Rattle.xl_table.specs.Flat.{is_blocked}
 use Rattle.xl_table.specs.Least.{least}
 use Rattle.xl_table.specs.Relock.{granted_claims, most_claims}
 use Rattle.xl_names.specs.Names.{most_names}
@@ -74,12 +73,12 @@ second_passed a true rest h = absurd (true≢false h)
 
 each_room : (earlier : List Waiter) (left rows : Rooms) (bytes kept : ℕ) (last : Answer) (c d : Claim) (s : CoreState) → IsEachBehind earlier left rows bytes kept last (c ∷ []) s (answers.Granted d) → rows.opens ≤ left.opens
 each_room earlier left rows bytes kept last c d s due =
-    let moves : is_stopped earlier s c ≡ false = free_of (least s.names (blockers earlier s c)) refl in
+    let moves : is_stopped earlier s c ≡ false = free_of (blocker earlier s c) refl in
     let clear : cache_against s.claims c ≡ None = none_of moves (cache_against s.claims c) refl in
-    let free : is_blocked s.claims c ≡ false = free_unless earlier s c moves clear in
+    let free : is_in_line earlier s c ≡ false = free_unless earlier s c moves clear in
     by free (first_passed (grant_limits left rows (length (granted_claims c s.claims)) bytes kept)) refl
   where
-    free_of : (o : Option Claim) → least s.names (blockers earlier s c) ≡ o → is_stopped earlier s c ≡ false
+    free_of : (o : Option Claim) → blocker earlier s c ≡ o → is_stopped earlier s c ≡ false
     free_of None e = blockers_none earlier s c e
     free_of (Some x) e = absurd (not_conflict (due.0 x e))
 
@@ -87,7 +86,7 @@ each_room earlier left rows bytes kept last c d s due =
     none_of moves None e = refl
     none_of moves (Some x) e = absurd (not_recall (due.1 x moves e))
 
-    by : is_blocked s.claims c ≡ false → (o : Option ℕ) → first_passed (grant_limits left rows (length (granted_claims c s.claims)) bytes kept) ≡ o → rows.opens ≤ left.opens
+    by : is_in_line earlier s c ≡ false → (o : Option ℕ) → first_passed (grant_limits left rows (length (granted_claims c s.claims)) bytes kept) ≡ o → rows.opens ≤ left.opens
     by free None e = not_less left.opens rows.opens (second_passed (nat_lt left.hosts rows.hosts) (nat_lt left.opens rows.opens)
         ((most_owners, nat_lt left.owners rows.owners) ∷ (most_claims, nat_lt most_claims (length (granted_claims c s.claims))) ∷ (most_record_bytes, nat_lt most_record_bytes bytes) ∷ (most_names, nat_lt most_names kept) ∷ [])
         (grant_found left rows (length (granted_claims c s.claims)) bytes kept None e most_opens))

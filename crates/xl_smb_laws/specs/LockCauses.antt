@@ -33,8 +33,8 @@ pub record IsLockOf (exclusive waits : Bool) (e : LockElement) : Type 0 where
 abbrev pub range_claim : List Name → ℕ → Open → LockElement → Claim
 range_claim names number row e = record { file = row.file; owner = owners.Open number; party = party_in (party_for number row) names; what = held_as e }
 
--- why one lock is answered so, by what is held once its breaks began: locked if the core is due to grant it; pending if it is
--- due to let it wait, as it does while grace runs; LOCK_NOT_GRANTED if something held stands against it for good,
+-- why one lock is answered so, by what is held once its breaks began and by who waits: locked if the core is due to grant it; pending
+-- if it is due to let it wait, as it does while grace runs; LOCK_NOT_GRANTED if something stands against it for good,
 -- INSUFFICIENT_RESOURCES if it passes a limit
 abbrev pub IsOneDue : ℕ → CoreState → Ask → Claim → Told → Type 0
 IsOneDue n s a claim told.Locked = IsClaimDue n no_rows s a claim (answers.Granted claim)
@@ -43,7 +43,7 @@ IsOneDue n s a claim (told.Failed status.LockNotGranted) = (c : Claim) × IsClai
 IsOneDue n s a claim (told.Failed status.InsufficientResources) = (limit : ℕ) × IsClaimDue n no_rows s a claim (answers.Full limit)
 IsOneDue n s a claim other = ⊥
 
--- neither granted, nor waiting, nor kept off by something held
+-- neither granted, nor waiting, nor kept off by something that is held or waited for
 abbrev pub is_short : Answer → Bool
 is_short (answers.Granted c) = false
 is_short (answers.Queued id) = false

@@ -33,8 +33,8 @@ pub fn ranges_are_read_by_their_flags()
 /// LOCK is answered with its status exactly if that has its cause, in the order of its checks (MS-SMB2 3.3.5.14): in no session
 /// USER_SESSION_DELETED, on no tree connect of it NETWORK_NAME_DELETED, of no open under the connection FILE_CLOSED;
 /// INVALID_PARAMETER if one of several locks is not just a lock, or they may wait; INVALID_LOCK_RANGE if one reaches past the
-/// last byte. None of these changes anything. Else one lock is answered, by what is held once its breaks began, that it is locked if
-/// the core is due to grant it, that it is pending if it is due to let it wait, LOCK_NOT_GRANTED if something held stands
+/// last byte. None of these changes anything. Else one lock is answered, by what is held once its breaks began and by who waits, that it
+/// is locked if the core is due to grant it, that it is pending if it is due to let it wait, LOCK_NOT_GRANTED if something stands
 /// against it for good, INSUFFICIENT_RESOURCES if it passes a limit; and several as the first of them that is stopped, once
 /// those before it are held. While grace runs one is due to wait, and so are several.
 pub fn locks_have_causes()

@@ -34,7 +34,7 @@ status_success = 0
 abbrev pub status_pending : ℕ
 status_pending = 0x103
 
--- what an ask comes to by the core's answer: it fails with this status if something held is against it, and else for want of room
+-- what an ask comes to by the core's answer: it fails with this status if something is against it for good, and else for want of room
 abbrev pub comes_to : SmbStatus → Answer → Locking
 comes_to conflict (answers.Granted c) = locking.Done
 comes_to conflict (answers.Queued id) = locking.Waits id

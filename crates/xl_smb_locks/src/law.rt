@@ -71,7 +71,7 @@ pub fn opens_of_a_lease_share_its_cache()
 
 /// A request that waited and was served has one final reply, to the connection that it came by, and waits no more
 /// (MS-SMB2 3.3.4.2, 3.3.4.4): STATUS_SUCCESS for a LOCK that is granted, and for a CREATE that is and whose open may
-/// stand, with its id and what it has of caches; LOCK_NOT_GRANTED or SHARING_VIOLATION if something held is against it,
+/// stand, with its id and what it has of caches; LOCK_NOT_GRANTED or SHARING_VIOLATION if something is against it for good,
 /// and else INSUFFICIENT_RESOURCES. One that a message cancels has CANCELLED with that message, and nothing for the
 /// effect that tells of it.
 pub fn requests_have_one_final_reply()

@@ -29,7 +29,7 @@ pub enum Locking {
     Waits(u32),
 }
 
-/// What an ask comes to by the core's answer: it fails with this status if something held is against it, and else for
+/// What an ask comes to by the core's answer: it fails with this status if something is against it for good, and else for
 /// want of room (MS-ERREF 2.3).
 pub fn comes_to(conflict: SmbStatus, answer: &Answer) -> Locking
     ensures { result ≡ comes_to conflict answer.now }
@@ -67,7 +67,7 @@ pub fn asked<K: Keeper>(
     Ok((answer, effects))
 }
 
-/// Locks all of these ranges of an open of a file, or none (MS-SMB2 3.3.5.14.2, MS-FSA 2.1.5.8). If something held
+/// Locks all of these ranges of an open of a file, or none (MS-SMB2 3.3.5.14.2, MS-FSA 2.1.5.8). If something
 /// stands against one for good, it waits if it may, and is answered by this connection; else it is LOCK_NOT_GRANTED. If
 /// a cache keeps the first off all of them wait for the answer to its break. While grace runs all of them wait for its end,
 /// and no break begins for them. If a limit is passed it is INSUFFICIENT_RESOURCES. The breaks that begin for it come first,

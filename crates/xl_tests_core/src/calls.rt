@@ -3,4 +3,5 @@
 mod asks;
 mod cases;
 mod grace;
+mod order;
 mod steps;

@@ -595,8 +595,8 @@ pub fn run<
     // range is turned away by a cache of which no break runs.
     // caches_kept: each cache stays, at its kind or a greater one, unless it is given back, its break is answered or over, its party
     // ends or expires, or it was for reading alone and the event tells that it is gone.
-    // complete: a lock or a share that grace lets in is granted if nothing held stands against it, no limit is passed, and its client is
-    // recorded or can be; if something does, it is refused or waits. A reading of the clock ends each break and lets each client expire
+    // complete: a lock or a share that grace lets in is granted if nothing held stands against it, nor, unless it is a reclaim, the range of
+    // one who waits, no limit is passed, and its client is recorded or can be; if something does, it is refused or waits. A reading of the clock ends each break and lets each client expire
     // that is due by then, except what waits for a store that failed.
     // fit: what is given back is held, a share that is made weaker has no more than before, no more is left of a cache than its
     // break leaves, and breaks and leases end only once their time has come.

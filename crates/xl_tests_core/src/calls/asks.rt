@@ -1,9 +1,10 @@
 //! What is asked of the core.
 
-ghost use Rattle.std.specs.Prelude.{◌≡◌, ◌+◌, ◌≤◌, ◌∷◌, [], false, true, IfOk};
+ghost use Rattle.std.specs.Prelude.{◌≡◌, ◌+◌, ◌≤◌, ◌||◌, ◌∷◌, [], false, true, IfOk};
 ghost use Rattle.xl_matrix.specs.declared.claim.CacheKind.TheVariants.{R, RWH, WriteDeleg};
 ghost use Rattle.xl_matrix.specs.declared.claim.Extent.TheVariants.{Bytes};
-ghost use Rattle.xl_core.specs.Askers.{IsFit, IsFitAct, IsFitWish, IsOrdered, may_ask, may_hold};
+ghost use Rattle.xl_core.specs.Askers.{IsFit, IsFitAct, IsFitWish, IsOrdered, is_named, may_ask, may_hold};
+ghost use Rattle.xl_core.specs.declared.ask.Who.{Who};
 
 use std::alloc::{AllocError, Global};
 use xl_base::{Mark, Sequence};
@@ -66,6 +67,7 @@ pub(crate) enum Place {
 }
 
 /// Who asks for what, of file 1 unless another is named.
+#[derive(Drop)]
 pub(crate) enum Asked {
     /// A caller of NLM tests ten bytes.
     Test(u8),
@@ -76,6 +78,12 @@ pub(crate) enum Asked {
     /// A caller of NLM locks ten bytes, or reclaims them, with a state of four such bytes; it is monitored, and waits if something
     /// stands in its way.
     StateLock(u8, u8, bool),
+    /// A caller of NLM locks bytes, shared or exclusively; it waits if something stands in its way, or doesn't.
+    Bytes(u8, Place, bool, bool),
+    /// A caller of NLM unlocks bytes.
+    Free(u8, Place),
+    /// A caller of NLM tests whether it may lock ten bytes, shared.
+    SharedTest(u8),
     /// An SMB open locks one range, shared or exclusively; it doesn't wait.
     Range(u32, Place, bool),
     /// An SMB open locks the bytes 0 to 9, the bytes 20 to 29, and ten bytes from here on, in one request.
@@ -163,6 +171,80 @@ fn lock_by(
         mark,
         rows: NO_ROWS,
     }
+}
+
+/// What a caller, whose name is given twice, does to bytes of file 1; it waits if something blocks it, or doesn't.
+fn act_by(alloc: Global, caller: Sequence<u8>, same: Sequence<u8>, act: Act, waits: bool) -> Ask
+    requires caller { caller ≡ same }
+    requires act { (who : Who) → IsFitAct who waits act }
+    requires own { (who : Who) → is_named who ≡ true → may_ask who act ≡ true }
+    requires wish { (who : Who) → IsFitWish who (waits || waits) false act [] }
+    ensures { IsFit result }
+{
+    Ask {
+        file: 1,
+        owner: Who::Named(Name::NlmRange(caller, 1, Sequence::new(alloc))),
+        party: Who::Named(Name::NlmParty(same)),
+        act,
+        wish: Sequence::new(alloc),
+        conn: None,
+        blocking: waits,
+        awaits: waits,
+        reclaim: false,
+        monitored: false,
+        mark: None,
+        rows: NO_ROWS,
+    }
+}
+
+/// Bytes in their order.
+fn bytes_at(place: Place) -> (u64, u64)
+    ensures { result.0 ≤ result.1 }
+{
+    match place {
+        Place::Whole => (0, 9),
+        Place::Start => (0, 4),
+        Place::Across => (5, 14),
+        Place::Behind => (10, 19),
+        Place::Inside => (5, 5),
+        Place::Before => (0, 0),
+    }
+}
+
+fn bytes_of(
+    alloc: Global,
+    caller: u8,
+    place: Place,
+    exclusive: bool,
+    waits: bool,
+) -> Result<Ask, AllocError>
+    ensures { IfOk result (λ ask. IsFit ask) }
+{
+    let (first, last) = bytes_at(place);
+    let mut ranges = Sequence::new(alloc);
+    ranges.push((Extent::Bytes(first, last), exclusive))?;
+    let name = Sequence::from_slice(alloc, &[caller])?;
+    let same = Sequence::from_slice(alloc, &[caller])?;
+    Ok(act_by(alloc, name, same, Act::Ranges(ranges), waits))
+}
+
+fn free_of(alloc: Global, caller: u8, place: Place) -> Result<Ask, AllocError>
+    ensures { IfOk result (λ ask. IsFit ask) }
+{
+    let (first, last) = bytes_at(place);
+    let name = Sequence::from_slice(alloc, &[caller])?;
+    let same = Sequence::from_slice(alloc, &[caller])?;
+    let act = Act::Unlock(Extent::Bytes(first, last));
+    Ok(act_by(alloc, name, same, act, false))
+}
+
+fn shared_test_of(alloc: Global, caller: u8) -> Result<Ask, AllocError>
+    ensures { IfOk result (λ ask. IsFit ask) }
+{
+    let name = Sequence::from_slice(alloc, &[caller])?;
+    let same = Sequence::from_slice(alloc, &[caller])?;
+    let act = Act::Test(Extent::Bytes(0, 9), false);
+    Ok(act_by(alloc, name, same, act, false))
 }
 
 fn lock_of(
@@ -505,6 +587,11 @@ pub(crate) fn ask_of(alloc: Global, asked: &Asked) -> Result<Ask, AllocError>
         Asked::StateLock(caller, state, reclaim) => {
             lock_of(alloc, 1, *caller, *reclaim, Some(Mark::State([*state; 4])))
         }
+        Asked::Bytes(caller, place, exclusive, waits) => {
+            bytes_of(alloc, *caller, *place, *exclusive, *waits)
+        }
+        Asked::Free(caller, place) => free_of(alloc, *caller, *place),
+        Asked::SharedTest(caller) => shared_test_of(alloc, *caller),
         Asked::Range(number, place, exclusive) => range_at(alloc, *number, *place, *exclusive),
         Asked::Three(number, first) => three_of(alloc, *number, *first),
         Asked::Unlock(number, place) => Ok(unlock_at(alloc, *number, *place)),

@@ -4,6 +4,7 @@ ghost use Rattle.std.specs.Prelude.{◌≡◌, true, OnOk, IfOk, IfSome};
 ghost use Rattle.xl_base.specs.Lists.{IsIn};
 ghost use Rattle.xl_core.specs.BreakAnswers.{may_be_left};
 ghost use Rattle.xl_core.specs.Good.{IsGood};
+ghost use Rattle.xl_wait.specs.Waiting.{is_waiting};
 
 use super::asks::{Asked, ask_of};
 use std::alloc::{AllocError, Global};
@@ -12,7 +13,7 @@ use xl_cache::{Wish, find_own_cache, rest_within};
 use xl_core::{Answer, Core, Effect, Times};
 use xl_grace::Grace;
 use xl_matrix::{CacheKind, Claim, What};
-use xl_wait::Rooms;
+use xl_wait::{Rooms, Waiter};
 
 /// How long leases, grace and breaks last.
 const TIMES: Times = Times {
@@ -38,6 +39,7 @@ const NO_HOSTS: Rooms = Rooms {
 const MOST_NUMBERS: u32 = 1000;
 
 /// What an ask is answered.
+#[derive(Drop)]
 pub(crate) enum Told {
     Granted,
     /// A claim stands against it.
@@ -56,6 +58,7 @@ pub(crate) enum Told {
     NotHeld,
 }
 
+#[derive(Drop)]
 pub(crate) enum Step {
     /// An ask is answered so, and there are so many effects besides.
     Ask(Asked, Told, usize),
@@ -63,6 +66,8 @@ pub(crate) enum Step {
     AskInVain(Asked, Told, usize),
     /// A turn is had by the one who waits under this number, which is granted; by nobody for 0.
     Turn(u32),
+    /// The one who waits under this number waits no more.
+    Cancels(u32),
     /// A party leaves, and there are so many effects.
     Leaves(Party, usize),
     /// An open's answer to the break of its cache, by which this much is left, is taken or isn't.
@@ -166,6 +171,29 @@ fn is_turn(
         Some(told) => is_served(told.as_slice(), number),
         None => number == 0,
     })
+}
+
+fn is_waiting(waiters: &[Waiter], number: u32) -> bool
+    ensures { result ≡ is_waiting number waiters.now }
+{
+    'waiters: for waiter in waiters {
+        if waiter.id == number {
+            return true;
+        }
+    }
+    false
+}
+
+/// Cancels the wait of this number; false if nobody waits so.
+fn cancels(alloc: Global, core: &mut Core, number: u32) -> Result<bool, AllocError>
+    requires good { IsGood core.old }
+    ensures good { OnOk result (IsGood core.new) }
+{
+    if !is_waiting(core.queue().waiters(), number) {
+        return Ok(false);
+    }
+    let told = core.cancel(alloc, number)?;
+    Ok(told.as_slice().len() == 1)
 }
 
 fn leaves(alloc: Global, core: &mut Core, party: Party, effects: usize) -> Result<bool, AllocError>
@@ -426,6 +454,7 @@ fn is_done(
             is_told(alloc, core, keeper, asked, &NO_HOSTS, told, *effects)
         }
         Step::Turn(number) => is_turn(alloc, core, keeper, *number),
+        Step::Cancels(number) => cancels(alloc, core, *number),
         Step::Leaves(party, effects) => leaves(alloc, core, *party, *effects),
         Step::Answers(number, to, wanted) => is_taken(alloc, core, *number, *to, *wanted),
         Step::GivesBack(party) => gives_back(alloc, core, *party),

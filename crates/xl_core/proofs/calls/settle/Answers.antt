@@ -1,5 +1,6 @@
 use Rattle.std.proofs.Common.{◌≡◌, ◌<◌, Bool, if◌then◌else◌, Option, Some, None, [], List, Ok, ap, sym, subst, ◌∙◌, is_some, option_map, IfSome, refl}
 use Rattle.xl_wait.specs.declared.waiter.Waiter.{Waiter}
+use Rattle.xl_core.specs.Blockers.{before_number}
 use Rattle.xl_core.specs.Passed.{ArePassed, FreesNobody, StandBefore}
 use Rattle.xl_core.specs.Settle.{first_called}
 use Rattle.xl_core.specs.State.{CoreState}
@@ -51,4 +52,4 @@ returns-clause-passed g c =
     let s = state_of c.args.parts.now in
     let t = state_of c.settle.new.parts in
     turn_passed c.args.left.now s t c.in-Some.effects c.in-Some.stay (λ n may. c.in_ok-turn.ensures.turn n may ∙ ap (λ (r : Option (List Effect × Passed)). option_map (λ x. told_with x.0 t) r) c.in-Some.is) c.requires.good
-    (subst (λ (r : Option (List Effect × Passed)). IfSome r (λ x. 0 < x.1.count → IfSome (first_called s [] c.args.parts.now.queue) (λ called. FreesNobody called x.1.file s × StandBefore called x.1 s × ((earlier : List Waiter) → (made_way earlier called.plea called.asked s).0 ≡ [])))) c.in-Some.is c.in_ok-turn.ensures.before)
+    (subst (λ (r : Option (List Effect × Passed)). IfSome r (λ x. 0 < x.1.count → IfSome (first_called s [] c.args.parts.now.queue) (λ called. FreesNobody called x.1.file s × StandBefore called x.1 s × ((made_way (before_number called.id c.args.parts.now.queue) called.plea called.asked s).0 ≡ [])))) c.in-Some.is c.in_ok-turn.ensures.before)

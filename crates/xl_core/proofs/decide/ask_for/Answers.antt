@@ -8,7 +8,7 @@ use Rattle.xl_core.specs.Whole.{state_of}
 use Rattle.xl_core.proofs.decide.ask_for.Goals as goal
 
 pub ask_claims-requires-clause-known : goal.ask_claims-requires-clause-known
-ask_claims-requires-clause-known g c = subst (λ (x : Claim). IsKnown c.args.known (state_of c.args.parts.now) (x ∷ [])) (sym c.asked_claim.ensures) c.requires.known
+ask_claims-requires-clause-known g c = subst (λ (x : Claim). IsKnown c.args.parts.now.queue c.args.known (state_of c.args.parts.now) (x ∷ [])) (sym c.asked_claim.ensures) c.requires.known
 
 pub ask_claims-requires-clause-row : goal.ask_claims-requires-clause-row
 ask_claims-requires-clause-row g c = asked_grantable c.args.parts.now c.args.ask.now c.args.what c.asked_claim.result c.asked_claim.ensures c.requires.client c.requires.own c.requires.real

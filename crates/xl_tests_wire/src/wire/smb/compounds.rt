@@ -272,7 +272,8 @@ fn are_parts(parts: &[SmbPart], wanted: &[u8]) -> bool {
     for part in parts {
         match rest {
             [count, behind, more @ ..] => {
-                if part.bytes.len() != usize::from(*count) || behind_number(part.behind) != *behind
+                if part.bytes.len() != usize::from(*count)
+                    || behind_number(part.behind) != *behind
                 {
                     return false;
                 }
@@ -287,9 +288,11 @@ fn are_parts(parts: &[SmbPart], wanted: &[u8]) -> bool {
 /// Whether the frame has these parts, and not more than 64.
 fn is_split(alloc: Global, frame: &[u8], wanted: &[u8]) -> Result<bool, AllocError> {
     let parts = split(alloc, frame)?;
-    Ok(are_parts(&parts, wanted)
-        && part_at(frame).is_some() != wanted.is_empty()
-        && !is_over(frame))
+    Ok(
+        are_parts(&parts, wanted)
+            && part_at(frame).is_some() != wanted.is_empty()
+            && !is_over(frame),
+    )
 }
 
 fn is_changed_split(
@@ -334,10 +337,7 @@ fn join_laid(alloc: Global, messages: &[Laid]) -> Result<Vec<u8>, AllocError> {
     match messages {
         [] => join(alloc, &[]),
         [a] => join(alloc, &[whole(a.alone(alloc)?)?]),
-        [a, b] => join(
-            alloc,
-            &[whole(a.alone(alloc)?)?, whole(b.alone(alloc)?)?],
-        ),
+        [a, b] => join(alloc, &[whole(a.alone(alloc)?)?, whole(b.alone(alloc)?)?]),
         [a, b, c] => join(
             alloc,
             &[
@@ -354,8 +354,10 @@ fn join_laid(alloc: Global, messages: &[Laid]) -> Result<Vec<u8>, AllocError> {
 fn is_joined(alloc: Global, row: &[u8]) -> Result<bool, AllocError> {
     let messages = messages_of(alloc, row)?;
     let frame = join_laid(alloc, &messages)?;
-    Ok(frame.as_slice() == joined_of(alloc, &messages)?.as_slice()
-        && messages.is_empty() == row.is_empty())
+    Ok(
+        frame.as_slice() == joined_of(alloc, &messages)?.as_slice()
+            && messages.is_empty() == row.is_empty(),
+    )
 }
 
 /// The open of this number in epoch 1.
@@ -401,9 +403,11 @@ fn is_resolved(
     };
     let taken = taken_over(&head, before);
     let message = resolved(alloc, taken, &bytes)?;
-    Ok(message.as_slice() == alone.bytes(alloc)?.as_slice()
-        && is_nameless(taken, head.command, part.body) == (nameless == 1)
-        && head.is_related() == (part.head[16] & 4 == 4))
+    Ok(
+        message.as_slice() == alone.bytes(alloc)?.as_slice()
+            && is_nameless(taken, head.command, part.body) == (nameless == 1)
+            && head.is_related() == (part.head[16] & 4 == 4),
+    )
 }
 
 fn is_resolved_row(alloc: Global, row: &[u8]) -> Result<bool, AllocError> {
@@ -553,12 +557,14 @@ fn are_counted(alloc: Global) -> Result<bool, AllocError> {
     let last = [13, 0, 0, 0, 0, 0, 7, 9];
     let astray = [13, 0, 64, 0, 0, 0, 7, 9];
     let reply = [13, 1, 0, 0, 0, 0, 7, 9];
-    Ok(is_counted(alloc, 63, last, (64, 0, false))?
-        && is_counted(alloc, 64, last, (64, 2, true))?
-        && is_counted(alloc, 63, astray, (64, 1, false))?
-        && is_counted(alloc, 64, astray, (64, 2, true))?
-        && is_counted(alloc, 63, reply, (63, 2, false))?
-        && is_counted(alloc, 64, reply, (64, 2, true))?)
+    Ok(
+        is_counted(alloc, 63, last, (64, 0, false))?
+            && is_counted(alloc, 64, last, (64, 2, true))?
+            && is_counted(alloc, 63, astray, (64, 1, false))?
+            && is_counted(alloc, 64, astray, (64, 2, true))?
+            && is_counted(alloc, 63, reply, (63, 2, false))?
+            && is_counted(alloc, 64, reply, (64, 2, true))?,
+    )
 }
 
 #[test]
