@@ -63,7 +63,7 @@ done_stands s l r owner seqids op seqid confirmed closing access deny closed fou
     ∙ stays_named seqids.closed after (with_standing to r) (changed_found r.number to l.stateids r found) stays
 
 -- what an owner's last request closed isn't an open that is live
-open_stays : (s : CoreState) (l : NfsLists) (current : Option ℕ) (seqid : ℕ) (stateid : Stateid) (r : StateidRow) (w : ℕ) (seqids : SeqidState) → IsOrderly l → IsNextOnOpen s l current seqid stateid r w seqids → (m : ℕ) → seqids.closed ≡ Some m → is_whose (whose.Stateid m) r ≡ false
+pub open_stays : (s : CoreState) (l : NfsLists) (current : Option ℕ) (seqid : ℕ) (stateid : Stateid) (r : StateidRow) (w : ℕ) (seqids : SeqidState) → IsOrderly l → IsNextOnOpen s l current seqid stateid r w seqids → (m : ℕ) → seqids.closed ≡ Some m → is_whose (whose.Stateid m) r ≡ false
 open_stays s l current seqid stateid r w seqids orderly is m e =
     elim (cases_Bool (m == r.number)) [
       | inr other ↦ rw other (ap (λ (h : Holder). is_under m h) is.opened.holder)

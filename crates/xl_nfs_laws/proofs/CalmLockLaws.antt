@@ -123,7 +123,7 @@ entered_still last r l above none set =
     let free = freed_still last r.number l above set in
     let up : AreSet r.number m = later_set last r.number m (omega (arith, above)) free.set in
     elim (cases_Bool (first.can_enter r m)) [
-      | inl e ↦ rw e (still_then last r.number l m (with_stateids m (m.stateids ++ r ∷ [])) free (comes_still r.number r m (omega arith) none up))
+      | inl e ↦ rw e (still_then last r.number l m (with_stateids m (m.stateids ++ r ∷ [])) free (comes_still last r m above none free.set))
       | inr e ↦ rw e (still_then last r.number l m m free (still_self r.number m up))
     ]
 

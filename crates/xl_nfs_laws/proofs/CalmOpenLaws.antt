@@ -19,13 +19,11 @@ use Rattle.xl_nfs.specs.declared.opens.OpenConfirmArgs.{OpenConfirmArgs}
 use Rattle.xl_nfs.specs.declared.opens.OpenDowngradeArgs.{OpenDowngradeArgs}
 use Rattle.xl_nfs.specs.declared.status.NfsStatus.{NfsStatus}
 use Rattle.xl_nfs_state.specs.Rows.{with_standing}
-use Rattle.xl_nfs_state.specs.State.{NfsLists, is_client, is_kept, is_owner, is_stateid}
+use Rattle.xl_nfs_state.specs.State.{NfsLists, is_client, is_kept, is_open, is_owner, is_stateid}
 use Rattle.xl_nfs_state.specs.Verdict.{next_seqid}
 use Rattle.xl_nfs_state.specs.declared.client.ClientRow.{ClientRow}
 use Rattle.xl_nfs_state.specs.declared.kept.KeptRow.{KeptRow}
 use Rattle.xl_nfs_state.specs.declared.owner.SeqidState.{SeqidState}
-use Rattle.xl_nfs_state.specs.declared.stateid.Holder.{Holder}
-use Rattle.xl_nfs_state.specs.declared.stateid.Holder.TheVariants as holders
 use Rattle.xl_nfs_state.specs.declared.stateid.Standing.{Standing}
 use Rattle.xl_nfs_state.specs.declared.owner.OwnerKind.TheVariants as kinds
 use Rattle.xl_nfs_state.specs.declared.owner.OwnerKind.{OwnerKind}
@@ -40,7 +38,7 @@ use Rattle.xl_core.specs.State.{CoreState}
 use Rattle.xl_core.specs.declared.ask.Answer.{Answer}
 use Rattle.xl_table.specs.Relock.{is_share_of}
 use Rattle.xl_nfs_opens.specs.Closing.{checked_as, counts, checked, close, close_by, close_done, confirm_by, confirm_done, done_lists, ends_locks, failed_lists, gives_up, lock_owner, locks_gone, locks_under, next_seqids, open_confirm, opener_by, share_by_opener, share_of_open, standing_fault, state_told}
-use Rattle.xl_nfs_laws.specs.Delegated.{AreSet, AreTied, IsShut, is_open_still, written_by}
+use Rattle.xl_nfs_laws.specs.Delegated.{AreSet, AreTied, IsShut, is_open_still}
 use Rattle.xl_nfs_opens.specs.Downgrades.{downgrade_by, downgrade_done, downgrade_fault, open_downgrade, weakens}
 use Rattle.xl_nfs_opens.specs.Opens.{gives, repeated, rights_of, share_by, share_held, stood}
 use Rattle.xl_nfs_laws.specs.Orderly.{IsOrderly}
@@ -54,7 +52,8 @@ use Rattle.xl_nfs_opens.specs.declared.opener.Opener.{Opener}
 use Rattle.xl_nfs_laws.proofs.CloseOwn.{close_own}
 use Rattle.xl_nfs_laws.proofs.OpenNumberLaws.{deeds_rise, draws, parts_own}
 use Rattle.xl_nfs_opens.proofs.OpenOwn.{Owned, confirm_own, downgrade_own}
-use Rattle.xl_nfs_laws.proofs.ListOrderLaws.{all_marked, owned_by}
+use Rattle.xl_nfs_laws.proofs.ListOrderLaws.{all_marked}
+use Rattle.xl_nfs_laws.proofs.OpenCheckLaws.{passed_is}
 use Rattle.xl_nfs_laws.proofs.PassedCheckLaws.{IfPassed, IsPassed, checked_passed}
 use Rattle.xl_nfs_laws.proofs.QuietCacheLaws.{IsQuiet, IsQuietDeed, all_quiet, one_quiet}
 use Rattle.xl_nfs_laws.proofs.StillDelegatedLaws.{AreStill, counted_still, failed_still, later_set, locks_still, none_shut, owner_shut, still_kept, still_self, still_then, stood_still}
@@ -164,23 +163,18 @@ done_still last s l r owner seqids op seqid confirmed closing access deny closed
     let was : IsShut last a.stateids seqids.closed = subst (λ (t : SeqidState). IsShut last a.stateids t.closed) (sym passed.seqids_is) (owner_shut last a (is_owner owner) passed.row passed.owned one.set) in
     still_then last last l a (done_lists s l r owner seqids op seqid confirmed closing access deny closed) one (counted_still last owner seqids.closed (next_seqids op seqid confirmed closing) (spelled op (state_told s r)) a was shut one.set)
 
--- an open that is closed is no delegation
-not_written : (h : Holder) (owner : ℕ) → owned_by h ≡ Some owner → written_by h ≡ None
-not_written (holders.Open by) owner e = refl
-not_written (holders.Lock by under opener) owner e = refl
-not_written (holders.Delegation write) owner e = absurd (true≢false (ap is_some (sym e)))
-
-closed_shut : (last : ℕ) (l : NfsLists) (r : StateidRow) (owner : ℕ) (seqids : SeqidState) (access deny : ℕ) → IsPassed l r owner seqids → IsOrderly l → AreSet last l → IsShut last (stood r.number r access deny true l).stateids (Some r.number)
-closed_shut last l r owner seqids access deny passed orderly set =
+-- what a CLOSE closes is an open
+closed_shut : (last : ℕ) (l : NfsLists) (r : StateidRow) (owner : ℕ) (seqids : SeqidState) (access deny : ℕ) → IsPassed l r owner seqids → is_open r.holder ≡ true → IsOrderly l → AreSet last l → IsShut last (stood r.number r access deny true l).stateids (Some r.number)
+closed_shut last l r owner seqids access deny passed opened orderly set =
     let to : Standing = record { seqid = next_seqid r.standing.seqid; access = access; deny = deny; closed = true } in
     record {
       given = all_in (λ (q : StateidRow). q.number ≤ last) r l.stateids set.given (found_in (is_stateid r.number) l.stateids r passed.found).0;
       other = all_marked (λ q. Unit {0}) (λ q. is_open_still (Some r.number) q ≡ true) r.number (with_standing to) l.stateids r passed.found orderly.apart
-          (λ x other h. apart x other) (λ h. rw (not_written r.holder owner passed.holder) refl) (all_from (λ q. Unit {0}) l.stateids (λ q there. tt));
+          (λ x other h. apart x other) (λ h. rw opened refl) (all_from (λ q. Unit {0}) l.stateids (λ q there. tt));
     }
   where
     apart : (x : StateidRow) → (r.number == x.number) ≡ false → is_open_still (Some r.number) x ≡ true
-    apart x other = elim (cases_Bool (is_some (written_by x.holder))) [ inl e ↦ rw (e, other) refl | inr e ↦ rw e refl ]
+    apart x other = elim (cases_Bool (is_open x.holder)) [ inl e ↦ rw e refl | inr e ↦ rw (e, other) refl ]
 
 pub repeat_calm : (last : ℕ) (s : CoreState) (l : NfsLists) (current : Option ℕ) (o : Option KeptRow) → AreSet last l → IsCalm last l (repeated s l current o)
 repeat_calm last s l current None set = (tt, does_still last [] l l (still_self last l set))
@@ -222,23 +216,29 @@ downgrade_calm last s l current a set =
     renewing_calm last l (state_client s l a.stateid) (λ t. downgrade_by t l current a (checked t l current 21 a.seqid a.stateid)) set
     (λ t le after. counts_calm t.counter t l current kinds.Open 21 a.seqid a.stateid (λ r w v. downgrade_done t l current a r w v (downgrade_fault r v a)) after (λ r w v passed. downgrade_done_calm t.counter t l current a r w v (downgrade_fault r v a) passed after))
 
-close_done_calm : (last : ℕ) (s : CoreState) (l : NfsLists) (current : Option ℕ) (a : CloseArgs) (r : StateidRow) (owner : ℕ) (seqids : SeqidState) (x : Option NfsStatus) → IsPassed l r owner seqids → IsOrderly l → AreSet last l → IsCalm last l (close_done s l current a r owner seqids x)
-close_done_calm last s l current a r owner seqids (Some status) passed orderly set = (tt, does_still last [] l (failed_lists l owner seqids 4 a.seqid status) (failed_still last l owner seqids 4 a.seqid status (passed_shut last l r owner seqids passed set) set))
-close_done_calm last s l current a r owner seqids None passed orderly set = (
+close_done_calm : (last : ℕ) (s : CoreState) (l : NfsLists) (current : Option ℕ) (a : CloseArgs) (r : StateidRow) (owner : ℕ) (seqids : SeqidState) (x : Option NfsStatus) → IsPassed l r owner seqids → is_open r.holder ≡ true → IsOrderly l → AreSet last l → IsCalm last l (close_done s l current a r owner seqids x)
+close_done_calm last s l current a r owner seqids (Some status) passed opened orderly set = (tt, does_still last [] l (failed_lists l owner seqids 4 a.seqid status) (failed_still last l owner seqids 4 a.seqid status (passed_shut last l r owner seqids passed set) set))
+close_done_calm last s l current a r owner seqids None passed opened orderly set = (
   ends_quiet l r (locks_under l r.number),
   still_self last l set,
   λ t le.
       (let later = later_set last t.counter l le set in
       let after : NfsLists = done_lists t l r owner seqids 4 a.seqid seqids.confirmed (Some r.number) r.standing.access r.standing.deny true in
-      let one = done_still t.counter t l r owner seqids 4 a.seqid seqids.confirmed (Some r.number) r.standing.access r.standing.deny true passed (closed_shut t.counter l r owner seqids r.standing.access r.standing.deny passed orderly later) later in
+      let one = done_still t.counter t l r owner seqids 4 a.seqid seqids.confirmed (Some r.number) r.standing.access r.standing.deny true passed (closed_shut t.counter l r owner seqids r.standing.access r.standing.deny passed opened orderly later) later in
       (open_quiet t l r owner, does_still t.counter (gives (share_of_open t l r owner)) l (locks_gone r.number after) (still_then t.counter t.counter l after (locks_gone r.number after) one (locks_still t.counter r.number after one.set)))),
 )
+
+close_checked_calm : (last : ℕ) (s : CoreState) (l : NfsLists) (current : Option ℕ) (a : CloseArgs) (c : Checked) → checked s l current 4 a.seqid a.stateid ≡ c → IfPassed l c → IsOrderly l → AreSet last l → IsCalm last l (close_by s l current a c)
+close_checked_calm last s l current a (Refused status) e passed orderly set = (tt, does_still last [] l l (still_self last l set))
+close_checked_calm last s l current a (Repeated owner) e passed orderly set = repeat_calm last s l current (find (is_kept owner) l.kept) set
+close_checked_calm last s l current a (Passed r w v) e passed orderly set =
+    close_done_calm last s l current a r w v (standing_fault r v a.stateid.seqid true) passed (ap is_open (passed_is s l current 4 a.seqid a.stateid r w v e).opened.holder) orderly set
 
 close_calm : (last : ℕ) (s : CoreState) (l : NfsLists) (current : Option ℕ) (a : CloseArgs) → IsOrderly l → AreSet last l → IsCalm last l (close s l current a)
 unfolding close
 close_calm last s l current a orderly set =
     renewing_calm last l (state_client s l a.stateid) (λ t. close_by t l current a (checked t l current 4 a.seqid a.stateid)) set
-    (λ t le after. counts_calm t.counter t l current kinds.Open 4 a.seqid a.stateid (λ r w v. close_done t l current a r w v (standing_fault r v a.stateid.seqid true)) after (λ r w v passed. close_done_calm t.counter t l current a r w v (standing_fault r v a.stateid.seqid true) passed orderly after))
+    (λ t le after. close_checked_calm t.counter t l current a (checked t l current 4 a.seqid a.stateid) refl (checked_passed kinds.Open t l current 4 a.seqid a.stateid) orderly after)
 
 -- ---- each operation
 

@@ -54,7 +54,7 @@ use Rattle.xl_nfs_opens.specs.declared.opener.Checked.{Checked}
 use Rattle.xl_nfs_opens.specs.declared.opener.Checked.TheVariants.{Passed}
 use Rattle.xl_nfs_opens.specs.declared.opener.Opener.{Opener}
 use Rattle.xl_nfs_opens.specs.declared.told.Told.TheVariants.{State}
-use Rattle.xl_nfs_laws.specs.AnsweredStateids.{AreNewLocks, LockersCloseNothing, can_join, counted_new, new_locks}
+use Rattle.xl_nfs_laws.specs.AnsweredStateids.{AreLocksUnder, LockersCloseNothing, can_join, counted_new, new_locks}
 use Rattle.xl_nfs_laws.specs.Orderly.{closes, IsHeldBy, IsOrderly, IsOwnedBy}
 use Rattle.xl_nfs_laws.specs.StateidNumbers.{AreGivenOut}
 use Rattle.xl_nfs_laws.proofs.AnsweredLockLaws.{first_stands, never_told}
@@ -91,7 +91,7 @@ number_from (Some r) (Some q) next e = same_Some r.number q.number e
 number_from None (Some q) next e = absurd (true≢false (sym (ap is_some e)))
 number_from (Some r) None next e = absurd (true≢false (ap is_some e))
 
-counted_number : (o : Opener) (owner : ℕ) (closed : Option ℕ) (seqids : SeqidState) (bytes : List ℕ) (l : NfsLists) → opener_number o (counted owner closed seqids bytes l) ≡ opener_number o l
+pub counted_number : (o : Opener) (owner : ℕ) (closed : Option ℕ) (seqids : SeqidState) (bytes : List ℕ) (l : NfsLists) → opener_number o (counted owner closed seqids bytes l) ≡ opener_number o l
 counted_number o owner closed seqids bytes l =
     ap (λ (os : List OwnerRow). number_by (find (is_opener o) os) (next_owner os)) (counted_owners owner closed seqids bytes l)
     ∙ ap (λ (next : Option ℕ). number_by (find (is_opener o) (changed (is_owner owner) (with_seqids seqids) l.owners)) next) (next_seqid_set (is_owner owner) seqids l.owners)
@@ -112,7 +112,7 @@ remembered_number o seqids bytes k is =
 
 -- ---- what else the two leave
 
-kept_clients : (owner : ℕ) (bytes : List ℕ) (l : NfsLists) → (kept_for owner bytes l).clients ≡ l.clients
+pub kept_clients : (owner : ℕ) (bytes : List ℕ) (l : NfsLists) → (kept_for owner bytes l).clients ≡ l.clients
 kept_clients owner bytes l =
     elim (cases_Bool (is_some (find (is_kept owner) l.kept))) [
       | inl e ↦ rw e refl
@@ -122,15 +122,15 @@ kept_clients owner bytes l =
       ])
     ]
 
-gone_clients : (closed : Option ℕ) (l : NfsLists) → (closed_gone closed l).clients ≡ l.clients
+pub gone_clients : (closed : Option ℕ) (l : NfsLists) → (closed_gone closed l).clients ≡ l.clients
 gone_clients None l = refl
 gone_clients (Some number) l = refl
 
-counted_clients : (owner : ℕ) (closed : Option ℕ) (seqids : SeqidState) (bytes : List ℕ) (l : NfsLists) → (counted owner closed seqids bytes l).clients ≡ l.clients
+pub counted_clients : (owner : ℕ) (closed : Option ℕ) (seqids : SeqidState) (bytes : List ℕ) (l : NfsLists) → (counted owner closed seqids bytes l).clients ≡ l.clients
 unfolding counted
 counted_clients owner closed seqids bytes l = kept_clients owner bytes (closed_gone closed (seqid_set owner seqids l)) ∙ gone_clients closed (seqid_set owner seqids l)
 
-remembered_clients : (o : Opener) (seqids : SeqidState) (bytes : List ℕ) (k : NfsLists) → (remembered o seqids bytes k).clients ≡ k.clients
+pub remembered_clients : (o : Opener) (seqids : SeqidState) (bytes : List ℕ) (k : NfsLists) → (remembered o seqids bytes k).clients ≡ k.clients
 unfolding remembered
 remembered_clients o seqids bytes k =
     elim (cases_Bool (is_room_for o k)) [
@@ -174,7 +174,7 @@ not_shut l w q file orderly calm kind at here on =
     let none : w.seqids.closed ≡ None = all_in (λ (o : OwnerRow). o.name.kind ≡ kinds.Lock → o.seqids.closed ≡ None) w l.owners calm found.0 kind in
     closed_by l.owners q q.holder w.number w (held_by w.number file q.client q.file q.holder on) at (all_in (λ z. IsHeldBy l.owners z z.holder) q l.stateids orderly.held here) ∙ ap (λ (c : Option ℕ). closes c q.number) none
 
-locker_kind : (o : Opener) (w : OwnerRow) → o.kind ≡ kinds.Lock → is_opener o w ≡ true → w.name.kind ≡ kinds.Lock
+pub locker_kind : (o : Opener) (w : OwnerRow) → o.kind ≡ kinds.Lock → is_opener o w ≡ true → w.name.kind ≡ kinds.Lock
 locker_kind o w kind is =
     let parts = and_parts (o.client == w.name.client) _ is in
     sym (kinds_are o.kind w.name.kind (and_parts (same_kind o.kind w.name.kind) _ parts.1).0) ∙ kind
@@ -188,7 +188,7 @@ stands_live l o w file q orderly calm kind named at =
 live_some : (q : StateidRow) → q.standing.closed ≡ false → live (Some q) ≡ Some q
 live_some q is = rw is refl
 
-joins_same : (x y : Option StateidRow) → Joins x ≡ Joins y → x ≡ y
+pub joins_same : (x y : Option StateidRow) → Joins x ≡ Joins y → x ≡ y
 joins_same x y e = cc
 
 -- what is found under the open is what the owner has there
@@ -198,7 +198,7 @@ verdict_joins w q j verdicts.Next e = sym (joins_same q j e)
 verdict_joins w q j verdicts.New e = sym (joins_same q j e)
 verdict_joins w q j (verdicts.Bad last) e = absurd cc
 
-owner_joins : (r : StateidRow) (w : OwnerRow) (seqid : ℕ) (q j : Option StateidRow) → first.by_owner r w seqid q ≡ Joins j → j ≡ q
+pub owner_joins : (r : StateidRow) (w : OwnerRow) (seqid : ℕ) (q j : Option StateidRow) → first.by_owner r w seqid q ≡ Joins j → j ≡ q
 owner_joins r w seqid q j = by (first.fits_under r.number q) refl
   where
     by : (b : Bool) → first.fits_under r.number q ≡ b → (if b then first.by_verdict w q (verdict (Some w.seqids) 12 seqid) else Bad) ≡ Joins j → j ≡ q
@@ -299,15 +299,15 @@ joins s l b o r seqid orderly calm given is own kind client room joined =
 
 -- ---- what a LOCK under an open is answered
 
-remembered_named : (o : Opener) (seqids : SeqidState) (bytes : List ℕ) (k : NfsLists) (is : IsSeated o seqids k (seated o seqids k)) → is_room_for o k ≡ true → find (is_opener o) (remembered o seqids bytes k).owners ≡ Some is.row
+pub remembered_named : (o : Opener) (seqids : SeqidState) (bytes : List ℕ) (k : NfsLists) (is : IsSeated o seqids k (seated o seqids k)) → is_room_for o k ≡ true → find (is_opener o) (remembered o seqids bytes k).owners ≡ Some is.row
 unfolding remembered
 remembered_named o seqids bytes k is room = rw room (ap (λ (os : List OwnerRow). find (is_opener o) os) (kept_owners (opener_number o k) bytes (seated o seqids k)) ∙ is.named)
 
-new_behind : (r : StateidRow) (o : Opener) (told : Stateid) (effects : List Effect) (done : Outcome) → AreNewLocks r o told done → AreNewLocks r o told (told_behind effects done)
+pub new_behind : (r : StateidRow) (o : Opener) (told : Stateid) (effects : List Effect) (done : Outcome) → AreLocksUnder r o told done → AreLocksUnder r o told (told_behind effects done)
 new_behind r o told effects done is = record { row = is.row; owner = is.owner; opener = is.opener; found = is.found; told_is = is.told_is; client = is.client; file = is.file; its = is.its; holder = is.holder; live = is.live }
 
 module _ (n : ℕ) (l : NfsLists) (current : Option ℕ) (b : BothOwners) (o : Opener) (r : StateidRow) (seqid : ℕ) (told : Stateid) (orderly : IsOrderly l) (calm : LockersCloseNothing l) (is : IsOpener l b r) (own : o.client ≡ r.client) (kind : o.kind ≡ kinds.Lock) (client : is_some (find (is_client r.client true) l.clients) ≡ true) (joined : first.found_joined l r o seqid ≡ Joins None) where
-  granted_new_locks : (s : CoreState) → AreGivenOut s.counter l → is_room_for o l ≡ true → (carried n s l (first.joined_new s l current b o r)).0 ≡ State told → AreNewLocks r o told (carried n s l (first.joined_new s l current b o r))
+  granted_new_locks : (s : CoreState) → AreGivenOut s.counter l → is_room_for o l ≡ true → (carried n s l (first.joined_new s l current b o r)).0 ≡ State told → AreLocksUnder r o told (carried n s l (first.joined_new s l current b o r))
   granted_new_locks s given room said =
       let bytes = spelled 12 (State (stateid_of (drawn s) (s.counter + 1) 1)) in
       let next = next_seqids 12 b.open_seqid b.seqids.confirmed None in
@@ -330,14 +330,14 @@ module _ (n : ℕ) (l : NfsLists) (current : Option ℕ) (b : BothOwners) (o : O
         live = refl;
       }
 
-  answered_new_locks : (s : CoreState) (reclaim : Bool) (answer : Answer) → AreGivenOut s.counter l → is_room_for o l ≡ true → (carried n s l (first.join_answered l current b o r None reclaim answer s)).0 ≡ State told → AreNewLocks r o told (carried n s l (first.join_answered l current b o r None reclaim answer s))
+  answered_new_locks : (s : CoreState) (reclaim : Bool) (answer : Answer) → AreGivenOut s.counter l → is_room_for o l ≡ true → (carried n s l (first.join_answered l current b o r None reclaim answer s)).0 ≡ State told → AreLocksUnder r o told (carried n s l (first.join_answered l current b o r None reclaim answer s))
   answered_new_locks s reclaim answer given room =
       elim (cases_Bool (is_granted answer)) [
         | inl e ↦ rw e (granted_new_locks s given room)
         | inr e ↦ rw e (λ said. absurd (never_told s l reclaim answer told said))
       ]
 
-  ranged_new_locks : (s : CoreState) (a : LockArgsItem) (last : Result ℕ NfsStatus) → IsGood s → AreGivenOut s.counter l → (carried n s l (first.join_to l current a b o r None last)).0 ≡ State told → AreNewLocks r o told (carried n s l (first.join_to l current a b o r None last))
+  pub ranged_new_locks : (s : CoreState) (a : LockArgsItem) (last : Result ℕ NfsStatus) → IsGood s → AreGivenOut s.counter l → (carried n s l (first.join_to l current a b o r None last)).0 ≡ State told → AreLocksUnder r o told (carried n s l (first.join_to l current a b o r None last))
   ranged_new_locks s a (Err status) good given = λ said. absurd cc
   ranged_new_locks s a (Ok last) good given =
       let q = lock_ask o r.file a.kind a.reclaim a.offset last in
@@ -351,7 +351,7 @@ module _ (n : ℕ) (l : NfsLists) (current : Option ℕ) (b : BothOwners) (o : O
       ]
 
 -- the client that names the lock owner is the open's
-under_is : (r : StateidRow) (owner : List ℕ) (c : Option ClientRow) (o : Opener) → first.locker_under r owner c ≡ Some o → (k : ClientRow) × (c ≡ Some k) × (k.number ≡ r.client) × (o ≡ locker_of k owner)
+pub under_is : (r : StateidRow) (owner : List ℕ) (c : Option ClientRow) (o : Opener) → first.locker_under r owner c ≡ Some o → (k : ClientRow) × (c ≡ Some k) × (k.number ≡ r.client) × (o ≡ locker_of k owner)
 under_is r owner None o e = absurd (true≢false (sym (ap is_some e)))
 under_is r owner (Some k) o e = by (k.number == r.client) refl e
   where
@@ -360,14 +360,14 @@ under_is r owner (Some k) o e = by (k.number == r.client) refl e
     by false is d = absurd (true≢false (sym (ap is_some d)))
 
 -- a client that is found by a clientid is confirmed under its number
-client_there : (l : NfsLists) (who : Option ℕ) (k : ClientRow) → option_and_then (λ number. find (is_client number true) l.clients) who ≡ Some k → is_some (find (is_client k.number true) l.clients) ≡ true
+pub client_there : (l : NfsLists) (who : Option ℕ) (k : ClientRow) → option_and_then (λ number. find (is_client number true) l.clients) who ≡ Some k → is_some (find (is_client k.number true) l.clients) ≡ true
 client_there l None k e = absurd (true≢false (sym (ap is_some e)))
 client_there l (Some number) k e =
     let there = subst (λ (x : Option ClientRow). IfSome x (λ y. IsIn y l.clients × (is_client number true y ≡ true))) e (find_in (is_client number true) l.clients) in
     let same : number ≡ k.number = eqb-true number k.number (and_parts (number == k.number) _ there.1).0 in
     subst (λ (m : ℕ). is_some (find (is_client m true) l.clients) ≡ true) same (ap is_some e)
 
-opener_is : (s : CoreState) (l : NfsLists) (current : Option ℕ) (x : NewLockerItem) (r : StateidRow) (owner : ℕ) (seqids : SeqidState) → checked s l current 12 x.open_seqid x.open_stateid ≡ Passed r owner seqids → IsOpener l (first.both_of x owner seqids) r
+pub opener_is : (s : CoreState) (l : NfsLists) (current : Option ℕ) (x : NewLockerItem) (r : StateidRow) (owner : ℕ) (seqids : SeqidState) → checked s l current 12 x.open_seqid x.open_stateid ≡ Passed r owner seqids → IsOpener l (first.both_of x owner seqids) r
 opener_is s l current x r owner seqids e =
     let is = passed_is s l current 12 x.open_seqid x.open_stateid r owner seqids e in
     record { row = is.row; found = is.opened.found; holder = is.opened.holder; live = is.live; owner = is.opened.owner; seqids_is = is.seqids_is }
@@ -392,13 +392,13 @@ module _ (n : ℕ) (s : CoreState) (l : NfsLists) (current : Option ℕ) (a : Lo
       standing None = of (first.locker_under r x.owner.owner (client_in s l x.owner.clientid)) under
 
   pub first_comes : IsGood s → IsOrderly l → LockersCloseNothing l → AreGivenOut s.counter l → first.found_joined l r o x.lock_seqid ≡ Joins None
-      → (carried n s l (first.join_checked s l current a x (checked s l current 12 x.open_seqid x.open_stateid))).0 ≡ State told → AreNewLocks r o told (carried n s l (first.join_checked s l current a x (checked s l current 12 x.open_seqid x.open_stateid)))
+      → (carried n s l (first.join_checked s l current a x (checked s l current 12 x.open_seqid x.open_stateid))).0 ≡ State told → AreLocksUnder r o told (carried n s l (first.join_checked s l current a x (checked s l current 12 x.open_seqid x.open_stateid)))
   first_comes good orderly calm given joined =
       let its = under_is r x.owner.owner (client_in s l x.owner.clientid) o under in
       let own : o.client ≡ r.client = ap (λ (y : Opener). y.client) its.3 ∙ its.2 in
       let kind : o.kind ≡ kinds.Lock = ap (λ (y : Opener). y.kind) its.3 in
       let client : is_some (find (is_client r.client true) l.clients) ≡ true = subst (λ (m : ℕ). is_some (find (is_client m true) l.clients) ≡ true) its.2 (client_there l (number_in s x.owner.clientid) its.0 its.1) in
-      joins_as (λ done. AreNewLocks r o told done) (Joins None) joined
+      joins_as (λ done. AreLocksUnder r o told done) (Joins None) joined
       (ranged_new_locks n l current (first.both_of x owner seqids) o r x.lock_seqid told orderly calm (opener_is s l current x r owner seqids passed) own kind client joined s a (lock_end a.kind r.standing.access (last_byte a.offset a.len)) good given)
 
   pub first_again : (q : StateidRow) → first.found_joined l r o x.lock_seqid ≡ Joins (Some q)

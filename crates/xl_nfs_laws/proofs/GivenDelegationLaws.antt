@@ -47,13 +47,12 @@ use Rattle.xl_nfs.specs.Opens.{OpenArgsItem}
 use Rattle.xl_core.specs.declared.ask.Answer.TheVariants as answers
 use Rattle.xl_nfs_laws.specs.Delegated.{AreDelegated, AreSet, IsShut, clients_apart, delegation_held, delegation_kept, delegation_numbered, is_open_still, number_confirmed, written_by}
 use Rattle.xl_nfs_opens.specs.Opens.{all_rooms, can_stand, delegated, delegated_in, delegation_in, delegation_row, draws_for, is_granted, rights_of, share_ask}
-use Rattle.xl_nfs_laws.specs.Orderly.{closes}
 use Rattle.xl_nfs_opens.specs.declared.opener.Opener.{Opener}
 use Rattle.xl_nfs_laws.proofs.OpenNumberLaws.{draws, next_unused}
 use Rattle.xl_nfs_opens.proofs.OpenOwn.{ask_fits}
 use Rattle.xl_nfs_opens.proofs.OwnerLaws.{own_client}
 use Rattle.xl_nfs_laws.proofs.QuietCacheLaws.{IsQuiet, asked_kind, deed_held, once_other, one_quiet}
-use Rattle.xl_nfs_laws.proofs.StillDelegatedLaws.{AreStill, later_set, placed_delegation, still_kept}
+use Rattle.xl_nfs_laws.proofs.StillDelegatedLaws.{AreStill, later_set, new_still, placed_delegation, still_kept}
 
 -- ---- confirmed clients
 
@@ -230,14 +229,6 @@ module _ {A : Type 0} where
         | inr next ↦ rw next (find_last p ys x (rw next at none) is)
       ]
 
-closes_none : (last number : ℕ) (closed : Option ℕ) → IfSome closed (λ k. k ≤ last) → last < number → closes closed number ≡ false
-closes_none last number None h above = refl
-closes_none last number (Some k) h above =
-    elim (cases_Bool (k == number)) [
-      | inl e ↦ absurd (omega (arith, eqb-true k number e, h, above))
-      | inr e ↦ e
-    ]
-
 new_set : (last : ℕ) (row : StateidRow) (m : NfsLists) → last < row.number → AreSet last m → AreSet row.number (with_stateids m (m.stateids ++ row ∷ []))
 new_set last row m above set =
     let up = later_set last row.number m (omega (arith, above)) set in
@@ -245,7 +236,7 @@ new_set last row m above set =
       given = all_append (λ (q : StateidRow). q.number ≤ row.number) m.stateids (row ∷ []) up.given (omega arith, tt);
       shut = all_weaker (λ (o : OwnerRow). IsShut last m.stateids o.seqids.closed) (λ (o : OwnerRow). IsShut row.number (m.stateids ++ row ∷ []) o.seqids.closed) m.owners (λ o h. record {
         given = raised o.seqids.closed h.given;
-        other = all_append (λ (q : StateidRow). is_open_still o.seqids.closed q ≡ true) m.stateids (row ∷ []) h.other (still o.seqids.closed h.given, tt);
+        other = all_append (λ (q : StateidRow). is_open_still o.seqids.closed q ≡ true) m.stateids (row ∷ []) h.other (new_still last row o.seqids.closed h.given above, tt);
       }) set.shut;
       clients = up.clients;
     }
@@ -253,13 +244,6 @@ new_set last row m above set =
     raised : (closed : Option ℕ) → IfSome closed (λ k. k ≤ last) → IfSome closed (λ k. k ≤ row.number)
     raised None h = tt
     raised (Some k) h = omega (arith, h, above)
-
-    still : (closed : Option ℕ) → IfSome closed (λ k. k ≤ last) → is_open_still closed row ≡ true
-    still closed h =
-        elim (cases_Bool (is_some (written_by row.holder))) [
-          | inl e ↦ rw (e, closes_none last row.number closed h above) refl
-          | inr e ↦ rw e refl
-        ]
 
 -- what the core holds then, and what the lists have had so far: of the client on the file what it was granted, if anything, and it
 -- had none there where it was granted something; elsewhere they agree

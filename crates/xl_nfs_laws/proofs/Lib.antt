@@ -57,4 +57,9 @@ pub mod GraceStandings
 pub mod RecordedClientLaws
 pub mod AskedRequestLaws
 pub mod OtherDeedLaws
+pub mod FirstToldLaws
+pub mod SharedOpenLaws
+pub mod DoneAsToldLaws
 pub mod AsToldLaws
+pub mod ClientStayLaws
+pub mod LeaseLaws

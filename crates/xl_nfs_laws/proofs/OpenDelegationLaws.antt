@@ -286,7 +286,7 @@ numbered_one ss q r apart there too same =
     one_row ss q r apart there too (rw same refl) (rw (eq-eqb q.number r.number (sym (eqb-true r.number q.number same))) refl)
 
 -- and two delegations of one client on one file
-placed_one : (ss : List StateidRow) (q r : StateidRow) (client file : ℕ) → Pairwise are_apart ss → IsIn q ss → IsIn r ss → delegated_on client file q ≡ true → delegated_on client file r ≡ true → q ≡ r
+pub placed_one : (ss : List StateidRow) (q r : StateidRow) (client file : ℕ) → Pairwise are_apart ss → IsIn q ss → IsIn r ss → delegated_on client file q ≡ true → delegated_on client file r ≡ true → q ≡ r
 placed_one ss q r client file apart there too on also =
     one_row ss q r apart there too (by r.holder q.holder r q also on (not (r.number == q.number))) (by q.holder r.holder q r on also (not (q.number == r.number)))
   where

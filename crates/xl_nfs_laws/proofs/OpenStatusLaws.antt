@@ -175,7 +175,7 @@ share_granted : (n : ℕ) (s : CoreState) (wish : Option Bool) (o : Opener) (a :
 unfolding share_ask
 share_granted n s wish o a file c good granted = ask_shares n all_rooms s (share_ask wish o a file) (rights_of a.access) (rights_of a.deny) c good (ask_fits wish o a file).party refl granted
 
-on_share : (n others : ℕ) (s : CoreState) (l : NfsLists) (current : Option ℕ) (o : Opener) (a : OpenArgsItem) (confirmed : Bool) (file : ℕ) → IsGood s → has_room others l o file ≡ true → answer_status (reclaims a.claim) (ask n all_rooms s (share_ask (wish_of s l o a confirmed file) o a file)).0 ≡ statuses.Ok
+pub on_share : (n others : ℕ) (s : CoreState) (l : NfsLists) (current : Option ℕ) (o : Opener) (a : OpenArgsItem) (confirmed : Bool) (file : ℕ) → IsGood s → has_room others l o file ≡ true → answer_status (reclaims a.claim) (ask n all_rooms s (share_ask (wish_of s l o a confirmed file) o a file)).0 ≡ statuses.Ok
     → shares_of file (asker (share_ask None o a file) s.names) (carried n s l (open_on others s l current o a confirmed file)).4.claims ≡ with_share (united_by (asker (share_ask None o a file) s.names) (whats.Share (rights_of a.access) (rights_of a.deny)) (old_shares file (asker (share_ask None o a file) s.names) s.claims)) []
 on_share n others s l current o a confirmed file good room ok =
     let wish = wish_of s l o a confirmed file in
@@ -226,7 +226,7 @@ united_has access deny x y (c ∷ cs) a d = by c.what (λ z v p q. united_has ac
     by (whats.Range extent exclusive) rest = rest x y a d
     by (whats.Cache kind broken) rest = rest x y a d
 
-joined_has : (access deny : Rwd) (owner : Owner) (cs : List Claim) → IsShared access deny (with_share (united_by owner (whats.Share access deny) cs) [])
+pub joined_has : (access deny : Rwd) (owner : Owner) (cs : List Claim) → IsShared access deny (with_share (united_by owner (whats.Share access deny) cs) [])
 unfolding united_by
 joined_has access deny owner cs =
     elim (cases_Bool (unites owner)) [

@@ -182,7 +182,7 @@ alike_ids : (a b : ClientRow) → is_one_client a b ≡ true → a.number ≡ b.
 alike_ids a b one same = (bytes_decides a.id b.id).0 (let e = eq-eqb a.number b.number same in rw e at one)
 
 -- records of one number are of one id string
-one_id : (cs : List ClientRow) (a b : ClientRow) → Pairwise is_one_client cs → IsIn a cs → IsIn b cs → a.number ≡ b.number → a.id ≡ b.id
+pub one_id : (cs : List ClientRow) (a b : ClientRow) → Pairwise is_one_client cs → IsIn a cs → IsIn b cs → a.number ≡ b.number → a.id ≡ b.id
 one_id [] a b one here there same = absurd here
 one_id (x ∷ xs) a b one (inl e) (inl f) same = ap (λ (r : ClientRow). r.id) (sym e ∙ f)
 one_id (x ∷ xs) a b one (inr e) (inr f) same = one_id xs a b one.1 e f same
@@ -282,7 +282,7 @@ module _ (last : ℕ) (l : NfsLists) (o : ClientRow) (here : IsIn o l.clients) (
     };
   }
 
-  own_gone : find (is_client_named o.id true) left.clients ≡ None
+  pub own_gone : find (is_client_named o.id true) left.clients ≡ None
   own_gone = find_gone_in (is_client_named o.id true) (λ (r : ClientRow). not (is_client o.number true r)) l.clients (λ r there named. ap not (its r there named))
     where
       its : (r : ClientRow) → IsIn r l.clients → is_client_named o.id true r ≡ true → is_client o.number true r ≡ true

@@ -11,7 +11,7 @@ use Rattle.xl_nfs_state.proofs.AnyLaws.{all_changed, all_left}
 use Rattle.xl_nfs_state.specs.Filed.{changed}
 use Rattle.xl_nfs_state.specs.Keys.{held_at as place_at, same_place}
 use Rattle.xl_nfs_state.specs.Rows.{with_standing, with_seqids}
-use Rattle.xl_nfs_state.specs.State.{NfsLists, delegated_on, hangs_on, is_client_named, is_kept, is_owner, is_stateid, is_under, is_whose, next_owner, with_clients, with_stateids, without, without_owner}
+use Rattle.xl_nfs_state.specs.State.{NfsLists, delegated_on, hangs_on, is_client_named, is_kept, is_open, is_owner, is_stateid, is_under, is_whose, next_owner, with_clients, with_stateids, without, without_owner}
 use Rattle.xl_nfs_state.specs.Verdict.{next_seqid}
 use Rattle.xl_nfs_state.specs.declared.client.ClientRow.{ClientRow}
 use Rattle.xl_nfs_state.specs.declared.owner.OwnerRow.{OwnerRow}
@@ -24,6 +24,7 @@ use Rattle.xl_nfs_state.specs.declared.stateid.StateidRow.{StateidRow}
 use Rattle.xl_nfs_state.specs.declared.stateid.Whose.TheVariants as whose
 use Rattle.xl_core.proofs.DeedLeaves.{found_in}
 use Rattle.xl_nfs_opens.specs.Closing.{locks_gone, next_seqids, failed_lists}
+use Rattle.xl_nfs_laws.specs.Orderly.{closes}
 use Rattle.xl_nfs_laws.specs.Delegated.{AreClients, AreSet, AreShut, IsShut, clients_apart, is_one_client, delegation_kept, delegation_numbered, is_open_still, number_confirmed, written_by}
 use Rattle.xl_nfs_opens.specs.Opens.{can_enter, entered, freed, open_seqids, refused_lists, stood}
 use Rattle.xl_nfs_opens.specs.Results.{spelled}
@@ -153,6 +154,12 @@ under_stays number (holders.Open by) e = absurd (true≢false (sym e))
 under_stays number (holders.Lock by under opener) e = absurd (true≢false (sym e))
 under_stays number (holders.Delegation write) e = refl
 
+-- nor is one an open
+not_open : (h : Holder) → is_some (written_by h) ≡ true → is_open h ≡ false
+not_open (holders.Open by) e = absurd (true≢false (sym e))
+not_open (holders.Lock by under opener) e = refl
+not_open (holders.Delegation write) e = refl
+
 -- nor one that a request closed
 pub gone_still : (last : ℕ) (closed : Option ℕ) (l : NfsLists) → IsShut last l.stateids closed → AreSet last l → AreStill last l (closed_gone closed l)
 gone_still last None l shut set = still_self last l set
@@ -162,7 +169,7 @@ gone_still last (Some number) l shut set =
     by : (r : StateidRow) → is_some (written_by r.holder) ≡ true → is_open_still (Some number) r ≡ true → (number == r.number || is_under number r.holder) ≡ false
     by r is still =
         elim (cases_Bool (number == r.number)) [
-          | inl same ↦ (let no : false ≡ true = rw is at (rw same at still) in absurd (true≢false (sym no)))
+          | inl same ↦ (let no : false ≡ true = rw (not_open r.holder is) at (rw same at still) in absurd (true≢false (sym no)))
           | inr other ↦ rw other (under_stays number r.holder is)
         ]
 
@@ -197,21 +204,45 @@ owner_still last number l set =
 
 -- ---- stateids that come, and that change
 
+-- nothing closed a number that wasn't given out
+pub not_closed : (last number : ℕ) (closed : Option ℕ) → IfSome closed (λ k. k ≤ last) → last < number → closes closed number ≡ false
+not_closed last number None h above = refl
+not_closed last number (Some k) h above =
+    elim (cases_Bool (k == number)) [
+      | inl e ↦ absurd (omega (arith, eqb-true k number e, h, above))
+      | inr e ↦ e
+    ]
+
+-- so a stateid of such a number is none that a request closed
+pub new_still : (last : ℕ) (r : StateidRow) (closed : Option ℕ) → IfSome closed (λ k. k ≤ last) → last < r.number → is_open_still closed r ≡ true
+new_still last r closed h above =
+    elim (cases_Bool (is_open r.holder)) [
+      | inl e ↦ rw e refl
+      | inr e ↦ rw e (ap not (not_closed last r.number closed h above))
+    ]
+
 -- an open comes, or locks
-pub comes_still : (last : ℕ) (r : StateidRow) (l : NfsLists) → r.number ≤ last → written_by r.holder ≡ None → AreSet last l → AreStill last l (with_stateids l (l.stateids ++ r ∷ []))
-comes_still last r l le none set = record {
+pub comes_still : (last : ℕ) (r : StateidRow) (l : NfsLists) → last < r.number → written_by r.holder ≡ None → AreSet last l → AreStill r.number l (with_stateids l (l.stateids ++ r ∷ []))
+comes_still last r l above none set = record {
   set = record {
-    given = all_append (λ (q : StateidRow). q.number ≤ last) l.stateids (r ∷ []) set.given (le, tt);
-    shut = all_weaker (λ (o : OwnerRow). IsShut last l.stateids o.seqids.closed) (λ (o : OwnerRow). IsShut last (l.stateids ++ r ∷ []) o.seqids.closed) l.owners (λ o h. record {
-      given = h.given;
-      other = all_append (λ (q : StateidRow). is_open_still o.seqids.closed q ≡ true) l.stateids (r ∷ []) h.other (rw none refl, tt);
+    given = all_append (λ (q : StateidRow). q.number ≤ r.number) l.stateids (r ∷ []) up.given (omega arith, tt);
+    shut = all_weaker (λ (o : OwnerRow). IsShut last l.stateids o.seqids.closed) (λ (o : OwnerRow). IsShut r.number (l.stateids ++ r ∷ []) o.seqids.closed) l.owners (λ o h. record {
+      given = raised o.seqids.closed h.given;
+      other = all_append (λ (q : StateidRow). is_open_still o.seqids.closed q ≡ true) l.stateids (r ∷ []) h.other (new_still last r o.seqids.closed h.given above, tt);
     }) set.shut;
-    clients = set.clients;
+    clients = up.clients;
   };
   rows = λ file number. ap (option_and_then (λ (q : StateidRow). written_by q.holder)) (behind file number l.stateids);
   names = λ id. refl;
 }
   where
+    up : AreSet r.number l
+    up = later_set last r.number l (omega (arith, above)) set
+
+    raised : (closed : Option ℕ) → IfSome closed (λ k. k ≤ last) → IfSome closed (λ k. k ≤ r.number)
+    raised None h = tt
+    raised (Some k) h = omega (arith, h, above)
+
     other : (file number : ℕ) → delegated_on number file r ≡ false
     other file number =
         elim (cases_Bool (delegated_on number file r)) [
@@ -234,7 +265,7 @@ entered_still last r l above none set =
     let free = freed_still last r.number l above set in
     let up : AreSet r.number m = later_set last r.number m (omega (arith, above)) free.set in
     elim (cases_Bool (can_enter r m)) [
-      | inl e ↦ rw e (still_then last r.number l m (with_stateids m (m.stateids ++ r ∷ [])) free (comes_still r.number r m (omega arith) none up))
+      | inl e ↦ rw e (still_then last r.number l m (with_stateids m (m.stateids ++ r ∷ [])) free (comes_still last r m above none free.set))
       | inr e ↦ rw e (still_then last r.number l m m free (still_self r.number m up))
     ]
 
@@ -271,7 +302,7 @@ pub none_shut : (last : ℕ) (ss : List StateidRow) (closed : Option ℕ) → cl
 none_shut last ss closed e = subst (λ (c : Option ℕ). IsShut last ss c) (sym e) (record { given = tt; other = all_from (λ r. is_open_still None r ≡ true) ss (λ r there. none r) })
   where
     none : (r : StateidRow) → is_open_still None r ≡ true
-    none r = elim (cases_Bool (is_some (written_by r.holder))) [ inl e ↦ rw e refl | inr e ↦ rw e refl ]
+    none r = elim (cases_Bool (is_open r.holder)) [ inl e ↦ rw e refl | inr e ↦ rw e refl ]
 
 kept_others : (owner : ℕ) (bytes : List ℕ) (l : NfsLists) → ((kept_for owner bytes l).owners ≡ l.owners) × ((kept_for owner bytes l).clients ≡ l.clients)
 kept_others owner bytes l =

@@ -123,9 +123,9 @@ new_locks s l b o r = record {
 abbrev pub can_join : CoreState → NfsLists → BothOwners → Opener → StateidRow → Bool
 can_join s l b o r = can_enter (new_locks s l b o r) (with_stateids (counted_new s l b o) (without (is_whose (whose.Stateid (s.counter + 1))) (counted_new s l b o).stateids))
 
--- What a LOCK under this open is answered is a new stateid, of the lock owner's locks on the open's file: it is there then, under
+-- What a LOCK under this open is answered is the stateid of the lock owner's locks on the open's file: it is there then, under
 -- the open, with its own seqid, isn't closed, and its owner is there.
-pub record AreNewLocks (r : StateidRow) (o : Opener) (told : Stateid) (done : Outcome) : Type 0 where
+pub record AreLocksUnder (r : StateidRow) (o : Opener) (told : Stateid) (done : Outcome) : Type 0 where
   pub row : StateidRow
   pub owner : OwnerRow
   pub opener : ℕ

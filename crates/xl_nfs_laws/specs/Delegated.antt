@@ -1,10 +1,10 @@
 -- That a client has a delegation on a file exactly if it has a cache there (RFC 7530 10.4): what the front remembers of
 -- each cache that the core holds.
-use Rattle.std.specs.Prelude.{◌≡◌, ◌≤◌, ℕ, Bool, true, not, ◌&&◌, ◌||◌, ◌==◌, bytes_eq, List, Option, Some, None, is_some, option_map, IfSome}
+use Rattle.std.specs.Prelude.{◌≡◌, ◌≤◌, ℕ, Bool, true, not, ◌&&◌, ◌||◌, ◌==◌, bytes_eq, List, Option, Some, None, option_map, IfSome}
 use Rattle.std.specs.List.{AllByRecursion, find}
 use Rattle.std.specs.Option.{option_and_then}
 use Rattle.xl_base.specs.Lists.{IsIn, Pairwise}
-use Rattle.xl_nfs_state.specs.State.{NfsLists, delegated_on, is_client_named}
+use Rattle.xl_nfs_state.specs.State.{NfsLists, delegated_on, is_client_named, is_open}
 use Rattle.xl_nfs_state.specs.declared.client.ClientRow.{ClientRow}
 use Rattle.xl_nfs_state.specs.declared.owner.OwnerRow.{OwnerRow}
 use Rattle.xl_nfs_state.specs.declared.stateid.Holder.{Holder}
@@ -60,11 +60,11 @@ pub record AreClients (last : ℕ) (clients : List ClientRow) : Type 0 where
   pub one : Pairwise is_one_client clients
   pub given : AllByRecursion (λ r. r.number ≤ last) clients
 
--- the stateid is no delegation that a request closed
+-- the stateid is of an open, or is none that a request closed
 abbrev pub is_open_still : Option ℕ → StateidRow → Bool
-is_open_still closed r = not (is_some (written_by r.holder) && closes closed r.number)
+is_open_still closed r = is_open r.holder || not (closes closed r.number)
 
--- what an owner's last request closed has a number that was given out, and is no delegation
+-- what an owner's last request closed has a number that was given out, and is an open: neither locks nor a delegation
 pub record IsShut (last : ℕ) (stateids : List StateidRow) (closed : Option ℕ) : Type 0 where
   pub given : IfSome closed (λ number. number ≤ last)
   pub other : AllByRecursion (λ r. is_open_still closed r ≡ true) stateids

@@ -18,4 +18,6 @@ pub mod OwnersStay
 pub mod AskedRequests
 pub mod OwnersRecorded
 pub mod OtherDeeds
+pub mod DoneAsTold
 pub mod AsTold
+pub mod Leased

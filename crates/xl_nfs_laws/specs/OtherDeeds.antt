@@ -4,7 +4,7 @@ use Rattle.xl_base.specs.declared.name.Party.{Party}
 use Rattle.xl_base.specs.declared.name.Protocol.{Protocol}
 use Rattle.xl_base.specs.declared.name.Protocol.TheVariants as protocols
 use Rattle.xl_names.specs.Names.{protocol_of}
-use Rattle.xl_core.specs.Deeds.{Deed, Asks, GivesBack, Acks, Ends, Closes, Lapses, Expires}
+use Rattle.xl_core.specs.Deeds.{Deed, Asks, GivesBack, Acks, Ends, Closes, Lapses, Renews, Expires}
 use Rattle.xl_core.specs.Told.{party_protocol}
 use Rattle.xl_core.specs.declared.ask.Who.{Who}
 use Rattle.xl_core.specs.declared.ask.Who.TheVariants as who
@@ -34,3 +34,10 @@ SparesNfs (Closes number party) = IfSome party (λ p. is_nfs_party p ≡ false)
 SparesNfs (Lapses cache) = ⊥
 SparesNfs (Expires client) = ⊥
 SparesNfs deed = Unit {0}
+
+-- it renews no lease, and neither does one end by it
+abbrev pub SparesLeases : Deed → Type 0
+SparesLeases (Renews client) = ⊥
+SparesLeases (Lapses cache) = ⊥
+SparesLeases (Expires client) = ⊥
+SparesLeases deed = Unit {0}

@@ -36,8 +36,9 @@ ghost use Rattle.xl_nfs_opens.specs.declared.opener.Opener.{Opener as LockOwner}
 ghost use Rattle.xl_nfs_opens.specs.declared.told.Told.TheVariants.{State};
 ghost use Rattle.xl_front_nfs.specs.FrontNfs.{nfs_reply};
 ghost use Rattle.xl_front_nfs.specs.State.{FrontNfs};
-ghost use Rattle.xl_nfs_laws.specs.AnsweredStateids.{AreNewLocks, IsAnswered, LockersCloseNothing, can_join, new_locks};
+ghost use Rattle.xl_nfs_laws.specs.AnsweredStateids.{AreLocksUnder, IsAnswered, LockersCloseNothing, can_join, new_locks};
 ghost use Rattle.xl_nfs_laws.specs.AsTold.{AreRequestTold};
+ghost use Rattle.xl_nfs_laws.specs.Delegated.{AreTied};
 ghost use Rattle.xl_nfs_laws.specs.Orderly.{IsOrderly};
 ghost use Rattle.xl_nfs_laws.specs.StateidNumbers.{AreGivenOut};
 
@@ -66,7 +67,7 @@ pub fn answered_locks_stand()
 /// is there from then on, of its owner's locks on the file, under the open. An owner's stateid that stands on the file already is
 /// the one that is used again, by its next seqid (RFC 7530 9.1.4, 16.10).
 pub fn first_locks_stand()
-    ensures comes { (n : ℕ) (s : CoreState) (l : NfsLists) (current : Option ℕ) (a : LockArgsItem) (x : NewLockerItem) (r : StateidRow) (owner : ℕ) (seqids : OwnerSeqids) (o : LockOwner) (told : Stateid) → checked s l current 12 x.open_seqid x.open_stateid ≡ Passed r owner seqids → locker_under r x.owner.owner (client_in s l x.owner.clientid) ≡ Some o → IsGood s → IsOrderly l → LockersCloseNothing l → AreGivenOut s.counter l → found_joined l r o x.lock_seqid ≡ Joins None → (carried n s l (join_checked s l current a x (checked s l current 12 x.open_seqid x.open_stateid))).0 ≡ State told → AreNewLocks r o told (carried n s l (join_checked s l current a x (checked s l current 12 x.open_seqid x.open_stateid))) }
+    ensures comes { (n : ℕ) (s : CoreState) (l : NfsLists) (current : Option ℕ) (a : LockArgsItem) (x : NewLockerItem) (r : StateidRow) (owner : ℕ) (seqids : OwnerSeqids) (o : LockOwner) (told : Stateid) → checked s l current 12 x.open_seqid x.open_stateid ≡ Passed r owner seqids → locker_under r x.owner.owner (client_in s l x.owner.clientid) ≡ Some o → IsGood s → IsOrderly l → LockersCloseNothing l → AreGivenOut s.counter l → found_joined l r o x.lock_seqid ≡ Joins None → (carried n s l (join_checked s l current a x (checked s l current 12 x.open_seqid x.open_stateid))).0 ≡ State told → AreLocksUnder r o told (carried n s l (join_checked s l current a x (checked s l current 12 x.open_seqid x.open_stateid))) }
     ensures again { (n : ℕ) (s : CoreState) (l : NfsLists) (current : Option ℕ) (a : LockArgsItem) (x : NewLockerItem) (r : StateidRow) (owner : ℕ) (seqids : OwnerSeqids) (o : LockOwner) (told : Stateid) → checked s l current 12 x.open_seqid x.open_stateid ≡ Passed r owner seqids → locker_under r x.owner.owner (client_in s l x.owner.clientid) ≡ Some o → (q : StateidRow) → found_joined l r o x.lock_seqid ≡ Joins (Some q) → (carried n s l (join_checked s l current a x (checked s l current 12 x.open_seqid x.open_stateid))).0 ≡ State told → told ≡ stateid_of (carried n s l (join_checked s l current a x (checked s l current 12 x.open_seqid x.open_stateid))).4 q.number (next_seqid q.standing.seqid) }
     ensures stood { (l : NfsLists) (r : StateidRow) (o : LockOwner) (seqid : ℕ) (w : OwnerRow) (q : StateidRow) (j : Option StateidRow) → IsOrderly l → LockersCloseNothing l → o.kind ≡ OfLocks → find (is_opener o) l.owners ≡ Some w → find (owned_on w.number r.file) l.stateids ≡ Some q → found_joined l r o seqid ≡ Joins j → j ≡ Some q }
 {}
@@ -74,8 +75,13 @@ pub fn first_locks_stand()
 /// So the reply to a COMPOUND has the results of its operations in order, up to the first that fails, and the stateids that they tell
 /// name what is there once each is done: that of an OPEN one open of the owner that it names, on the file that is the current one
 /// then, with the access and the deny that were asked, and a delegation that it tells the client's; that of an OPEN_CONFIRM,
-/// OPEN_DOWNGRADE, CLOSE, LOCKU or of a LOCK by a lock's stateid the one that was named, by its next seqid (RFC 7530 9.1.4, 14.2).
+/// OPEN_DOWNGRADE, CLOSE, LOCKU or of a LOCK by a lock's stateid the one that was named, by its next seqid; that of a LOCK under an
+/// open the one of its lock owner's locks there (RFC 7530 9.1.4, 14.2). And what else they say is done is done: each byte of a LOCK is
+/// its lock owner's, in its mode, and of a LOCKU free; of the open of a CLOSE neither its owner's share is left, nor a byte of an owner
+/// of locks under it, nor a stateid of these; a LOCKT is OK exactly if no range that is held stands against the lock, and tells the
+/// least if one does; after a DELEGRETURN its client has neither a delegation nor a cache on the file; the lease of a RENEW runs anew;
+/// and the owner of a RELEASE_LOCKOWNER holds no range and is forgotten (RFC 7530 9.5, 16.2, 16.6, 16.10 to 16.12, 16.28, 16.37).
 #[tactic(auto, using(crate::proofs::AsToldLaws::request_told))]
 pub fn replies_are_as_told()
-    ensures { (n : ℕ) (exports : Exports) (others : ℕ) (f : FrontNfs) (s : CoreState) (conn : ℕ) (r : RequestItem) → IsGood s → IsOrderly f.state → LockersCloseNothing f.state → AreGivenOut s.counter f.state → AreRequestTold n exports others f s conn r (sent_to conn (nfs_reply n exports others f s r)) }
+    ensures { (n : ℕ) (exports : Exports) (others : ℕ) (f : FrontNfs) (s : CoreState) (conn : ℕ) (r : RequestItem) → IsGood s → IsOrderly f.state → LockersCloseNothing f.state → AreTied s f.state → AreRequestTold n exports others f s conn r (sent_to conn (nfs_reply n exports others f s r)) }
 {}

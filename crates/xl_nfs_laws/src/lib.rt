@@ -6,6 +6,7 @@ pub mod answered_stateids;
 pub mod client_cases;
 pub mod delegations;
 pub mod downgrades;
+pub mod leases;
 pub mod lock_numbers;
 pub mod lock_order;
 pub mod lock_owners;
