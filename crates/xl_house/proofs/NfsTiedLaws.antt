@@ -26,6 +26,7 @@ use Rattle.xl_names.specs.Names.{number_of, protocol_of}
 use Rattle.xl_names.specs.declared.name.Name.{Name}
 use Rattle.xl_nlm.specs.Items as calls
 use Rattle.xl_nfs_state.specs.State.{NfsLists}
+use Rattle.xl_nfs_state.specs.declared.client.ClientRow.{ClientRow}
 use Rattle.xl_nfs_state.specs.declared.stateid.StateidRow.{StateidRow}
 use Rattle.xl_programs.specs.Programs.{RequestItem, IncomingItem, Unanswered, Refused, Asked, incoming_at}
 use Rattle.xl_programs.specs.declared.program.Program.{Program}
@@ -50,6 +51,7 @@ use Rattle.xl_core.specs.Decide.{ask, plea_of, way}
 use Rattle.xl_core.specs.Deeds.{Deed, Asks, GivesBack, Weakens, Acks, Cancels, Ends, Closes, Serves, Draws, Advances, Lapses, Renews, Expires, FailsStore, EndsGrace, all_done, all_told_of, done, given, tick_deeds, turned, AreFit, IsFitDeed}
 use Rattle.xl_core.specs.Frames.{who_expired}
 use Rattle.xl_core.specs.Good.{IsGood}
+use Rattle.xl_core.specs.Leases.{Lease}
 use Rattle.xl_core.specs.Settle.{cancel, close_open, give_back, gone, plea_again, settle, told_of_one, told_with, waits_with, way_again, weaken}
 use Rattle.xl_core.specs.State.{CoreState, started, step_begun}
 use Rattle.xl_core.specs.Ticks.{lapse, lapsed_by, renew, tick}
@@ -71,6 +73,7 @@ use Rattle.xl_front_nlm.specs.declared.grant.Grant.{Grant}
 use Rattle.xl_front_nfs.specs.FrontNfs.{nfs_step}
 use Rattle.xl_front_nfs.specs.State.{FrontNfs, empty_nfs_front, nfs_shown, nfs_tick}
 use Rattle.xl_nfs_opens.specs.Opens.{cache_held}
+use Rattle.xl_nfs_laws.proofs.LeaseLaws.{expired_leased, expires_leased, request_leased, start_leased, tick_leased}
 use Rattle.xl_nfs_laws.proofs.OtherDeedLaws.{lapsed_held, other_held}
 use Rattle.xl_nfs_laws.proofs.RequestDelegationLaws.{expire_tied, expired_tied, lapse_tied, request_tied, start_tied, tick_tied}
 use Rattle.xl_nfs_laws.proofs.RequestOrderLaws.{request_orderly, shown_orderly, tick_orderly}
@@ -78,8 +81,9 @@ use Rattle.xl_nfs_laws.proofs.StillDelegatedLaws.{later_set}
 use Rattle.xl_nfs_laws.proofs.OwnerStayLaws.{request_calm, shown_calm, start_calm, tick_calm}
 use Rattle.xl_nfs_laws.specs.AnsweredStateids.{LockersCloseNothing}
 use Rattle.xl_nfs_laws.specs.Delegated.{AreTied, AreTiedBut, delegation_held, delegation_kept, delegation_numbered, number_confirmed}
+use Rattle.xl_nfs_laws.specs.Leased.{AreLeased, AreLeasedBut, has_lease, is_confirmed}
 use Rattle.xl_nfs_laws.specs.Orderly.{IsOrderly}
-use Rattle.xl_nfs_laws.specs.OtherDeeds.{is_nfs, is_nfs_party, is_nfs_who, SparesNfs}
+use Rattle.xl_nfs_laws.specs.OtherDeeds.{is_nfs, is_nfs_party, is_nfs_who, SparesLeases, SparesNfs}
 use Rattle.xl_front_smb.specs.Owners.{IsAskedBy, IsHolderOn, IsLeaseOf, IsOwn, IsPartyIn}
 use Rattle.xl_smb_laws.proofs.RequestOwn as smb_own
 use Rattle.xl_smb_locks.specs.Levels.{party_by}
@@ -94,6 +98,7 @@ use Rattle.xl_house.specs.Shown.{IsShown}
 use Rattle.xl_house.specs.State.{Whole, as_found, kind_of, most_connections, nfs_opens, rooms_of, smb_opens, start_of, times_of}
 use Rattle.xl_house.specs.Telling.{all_shown, settled, shown_by, showing, turns_sent}
 use Rattle.xl_house.specs.Tied.{IsTied}
+use Rattle.xl_house.specs.Timed.{leases_left, without_some}
 use Rattle.xl_house.specs.declared.layers.Fronts.{Fronts}
 use Rattle.xl_house.proofs.DoneLaws.{IsRow, each_event, own_row, program_row}
 use Rattle.xl_house.proofs.ForgettingLaws.{expire_tells, in_either}
@@ -101,6 +106,7 @@ use Rattle.xl_house.proofs.MachineLaws.{begin_free, heard_good, step_free, step_
 use Rattle.xl_house.proofs.SettleLaws.{turned_good}
 use Rattle.xl_house.proofs.ShownLaws.{all_shown_good, shown_one}
 use Rattle.xl_house.proofs.SteadyLaws.{begun_counts, deed_counts}
+use Rattle.xl_house.proofs.TimedLaws.{Running, deed_times}
 use Rattle.xl_house.proofs.TurnLaws.{of_turns}
 
 -- ---- front and core, while these clients have expired of which the front wasn't told yet
@@ -109,6 +115,7 @@ record AreTogether (gone : List (List ℕ)) (f : Fronts) (s : CoreState) : Type 
   orderly : IsOrderly f.nfs.state
   calm : LockersCloseNothing f.nfs.state
   tied : AreTiedBut gone s f.nfs.state
+  leased : AreLeasedBut gone s f.nfs.state
 
 tied_so : (s : CoreState) (l : NfsLists) → AreTied s l → AreTiedBut [] s l
 tied_so s l tied = record { set = tied.set; left = λ id there file. absurd there; delegated = λ id apart file. tied.delegated id file }
@@ -121,6 +128,22 @@ but_as gone more s l on back tied = record {
   set = tied.set;
   left = λ id there file. tied.left id (back id there) file;
   delegated = λ id apart file. tied.delegated id (λ there. apart (on id there)) file;
+}
+
+leased_so : (s : CoreState) (l : NfsLists) → AreLeased s l → AreLeasedBut [] s l
+leased_so s l leased = record { over = λ id there. absurd there; leased = λ id apart. leased id }
+
+leased_none : (s : CoreState) (l : NfsLists) → AreLeasedBut [] s l → AreLeased s l
+leased_none s l leased = λ id. leased.leased id (λ never. never)
+
+leased_as : (gone more : List (List ℕ)) (s : CoreState) (l : NfsLists) → ((id : List ℕ) → IsIn id gone → IsIn id more) → ((id : List ℕ) → IsIn id more → IsIn id gone) → AreLeasedBut gone s l → AreLeasedBut more s l
+leased_as gone more s l on back leased = record { over = λ id there. leased.over id (back id there); leased = λ id apart. leased.leased id (λ there. apart (on id there)) }
+
+-- where the leases are what they were
+leased_on : (gone : List (List ℕ)) (s t : CoreState) (l : NfsLists) → t.leases ≡ s.leases → AreLeasedBut gone s l → AreLeasedBut gone t l
+leased_on gone s t l same leased = record {
+  over = λ id there. ap (λ (ls : List Lease). has_lease ls id) same ∙ leased.over id there;
+  leased = λ id apart. ap (λ (ls : List Lease). has_lease ls id) same ∙ leased.leased id apart;
 }
 
 -- where each client has the delegations that it had, and numbers went on
@@ -142,6 +165,23 @@ other_tied n gone s l d good fit spares tied = held_on gone s (done n s d) l (de
 others_tied : (n : ℕ) (gone : List (List ℕ)) (s : CoreState) (l : NfsLists) (ds : List Deed) → IsGood s → AreFit n s ds → AllByRecursion SparesNfs ds → AreTiedBut gone s l → AreTiedBut gone (all_done n s ds) l
 others_tied n gone s l [] good fit spares tied = tied
 others_tied n gone s l (d ∷ ds) good fit spares tied = others_tied n gone (done n s d) l ds (deed_good n s d good fit.0) fit.1 spares.1 (other_tied n gone s l d good fit.0 spares.0 tied)
+
+-- others renew nobody
+spared_leases : (s : CoreState) (d : Deed) (leases : List Lease) → SparesLeases d → leases_left s d leases ≡ leases
+spared_leases s (Renews client) leases spares = absurd spares
+spared_leases s (Expires client) leases spares = absurd spares
+spared_leases s (Lapses cache) leases spares = absurd spares
+spared_leases s d leases spares = refl
+
+leases_are_left : (n : ℕ) (s : CoreState) (d : Deed) → IsGood s → IsFitDeed s d → (done n s d).leases ≡ leases_left s d s.leases
+leases_are_left n s d good fit = ap (λ (x : Running). x.0) (deed_times n s d good fit)
+
+other_leased : (n : ℕ) (gone : List (List ℕ)) (s : CoreState) (l : NfsLists) (d : Deed) → IsGood s → IsFitDeed s d → SparesLeases d → AreLeasedBut gone s l → AreLeasedBut gone (done n s d) l
+other_leased n gone s l d good fit spares leased = leased_on gone s (done n s d) l (leases_are_left n s d good fit ∙ spared_leases s d s.leases spares) leased
+
+others_leased : (n : ℕ) (gone : List (List ℕ)) (s : CoreState) (l : NfsLists) (ds : List Deed) → IsGood s → AreFit n s ds → AllByRecursion SparesLeases ds → AreLeasedBut gone s l → AreLeasedBut gone (all_done n s ds) l
+others_leased n gone s l [] good fit spares leased = leased
+others_leased n gone s l (d ∷ ds) good fit spares leased = others_leased n gone (done n s d) l ds (deed_good n s d good fit.0) fit.1 spares.1 (other_leased n gone s l d good fit.0 spares.0 leased)
 
 -- ---- deeds of the clock
 
@@ -200,6 +240,36 @@ clocks_tied n now gone s l (d ∷ ds) may good fit tied =
     subst (λ (ids : List (List ℕ)). AreTiedBut (ids ++ gone) (all_done n t ds) l) (sym (expired_both (given n s d).1 (all_told_of n t ds)))
     (but_as (ys ++ (xs ++ gone)) ((xs ++ ys) ++ gone) (all_done n t ds) l (λ id h. onward_in id xs ys gone h) (λ id h. back_in id xs ys gone h)
     (clocks_tied n now (xs ++ gone) t l ds may.1 (deed_good n s d good fit.0) fit.1 (clock_tied n now gone s l d may.0 good fit.0 tied)))
+
+-- the same of leases
+abbrev Ran : ℕ → List (List ℕ) → CoreState → NfsLists → Deed → Type 0
+Ran n gone s l d = AreLeasedBut (who_expired (given n s d).1 ++ gone) (done n s d) l
+
+lapsed_leased : (n : ℕ) (gone : List (List ℕ)) (s : CoreState) (l : NfsLists) (cache : Claim) → IsGood s → IsFitDeed s (Lapses cache) → (o : Option (List ℕ)) → client_by s.names cache.party ≡ o → AreLeasedBut gone s l → Ran n gone s l (Lapses cache)
+lapsed_leased n gone s l cache good fit None whose leased =
+    subst (λ (ids : List (List ℕ)). AreLeasedBut (ids ++ gone) (done n s (Lapses cache)) l) (sym (lapse_calm s cache whose))
+    (leased_on gone s (done n s (Lapses cache)) l (leases_are_left n s (Lapses cache) good fit ∙ ap (λ (o : Option (List ℕ)). without_some o s.leases) whose) leased)
+lapsed_leased n gone s l cache good fit (Some id) whose leased =
+    subst (λ (ids : List (List ℕ)). AreLeasedBut (ids ++ gone) (done n s (Lapses cache)) l) (sym (lapse_tells s cache id whose))
+    (expires_leased gone s (done n s (Lapses cache)) l id (leases_are_left n s (Lapses cache) good fit ∙ ap (λ (o : Option (List ℕ)). without_some o s.leases) whose) leased)
+
+clock_leased : (n : ℕ) (now : Moment) (gone : List (List ℕ)) (s : CoreState) (l : NfsLists) (d : Deed) → may_do (Tick now) d ≡ true → IsGood s → IsFitDeed s d → AreLeasedBut gone s l → Ran n gone s l d
+clock_leased n now gone s l (Lapses cache) may good fit leased = lapsed_leased n gone s l cache good fit (client_by s.names cache.party) refl leased
+clock_leased n now gone s l (Expires id) may good fit leased = subst (λ (ids : List (List ℕ)). AreLeasedBut (ids ++ gone) (done n s (Expires id)) l) (sym (expire_tells s id)) (expires_leased gone s (done n s (Expires id)) l id (leases_are_left n s (Expires id) good fit) leased)
+clock_leased n now gone s l (Advances moment) may good fit leased = other_leased n gone s l (Advances moment) good fit tt leased
+clock_leased n now gone s l (FailsStore stable) may good fit leased = other_leased n gone s l (FailsStore stable) good fit tt leased
+clock_leased n now gone s l EndsGrace may good fit leased = other_leased n gone s l EndsGrace good fit tt leased
+clock_leased n now gone s l d may good fit leased = absurd (true≢false (sym may))
+
+clocks_leased : (n : ℕ) (now : Moment) (gone : List (List ℕ)) (s : CoreState) (l : NfsLists) (ds : List Deed) → AllByRecursion (λ d. may_do (Tick now) d ≡ true) ds → IsGood s → AreFit n s ds → AreLeasedBut gone s l → AreLeasedBut (who_expired (all_told_of n s ds) ++ gone) (all_done n s ds) l
+clocks_leased n now gone s l [] may good fit leased = leased
+clocks_leased n now gone s l (d ∷ ds) may good fit leased =
+    let t = done n s d in
+    let xs = who_expired (given n s d).1 in
+    let ys = who_expired (all_told_of n t ds) in
+    subst (λ (ids : List (List ℕ)). AreLeasedBut (ids ++ gone) (all_done n t ds) l) (sym (expired_both (given n s d).1 (all_told_of n t ds)))
+    (leased_as (ys ++ (xs ++ gone)) ((xs ++ ys) ++ gone) (all_done n t ds) l (λ id h. onward_in id xs ys gone h) (λ id h. back_in id xs ys gone h)
+    (clocks_leased n now (xs ++ gone) t l ds may.1 (deed_good n s d good fit.0) fit.1 (clock_leased n now gone s l d may.0 good fit.0 leased)))
 
 -- ---- by these alone clients expire
 
@@ -315,6 +385,7 @@ moved gone f g s t same is b = record {
   calm = subst (λ (l : NfsLists). LockersCloseNothing l) (sym same) b.calm;
   tied = subst (λ (l : NfsLists). AreTiedBut gone t l) (sym same)
       (held_on gone s t f.nfs.state is.rises (λ id file. ap (λ (x : CoreState). delegation_held x id file) is.parts ∙ same_held s t.counter id file) b.tied);
+  leased = subst (λ (l : NfsLists). AreLeasedBut gone t l) (sym same) (leased_on gone s t f.nfs.state (ap (λ (x : CoreState). x.leases) is.parts) b.leased);
 }
 
 begun_front : (exports : Exports) (f : Fronts) (s : CoreState) (cache : Claim) (to : Option CacheKind) (call : Option ℕ) (p : Protocol) → (shown_by exports f s (Begun cache to call) p).1.nfs.state ≡ f.nfs.state
@@ -342,7 +413,7 @@ effect_tied exports f s (Served party id answer) told b =
     (let r = showing exports f s (Served party id answer) in moved (who_expired told) f r.1 s r.2 (served_front exports f s party id answer (party_protocol party)) (shown_one exports f s (Served party id answer)) b)
 effect_tied exports f s (Cancelled party id) told b =
     (let r = showing exports f s (Cancelled party id) in moved (who_expired told) f r.1 s r.2 (cancelled_front exports f s party id (party_protocol party)) (shown_one exports f s (Cancelled party id)) b)
-effect_tied exports f s (Expired id) told b = record { orderly = shown_orderly f.nfs (Expired id) b.orderly; calm = shown_calm f.nfs (Expired id) b.calm; tied = expired_tied s (who_expired told) f.nfs id b.tied }
+effect_tied exports f s (Expired id) told b = record { orderly = shown_orderly f.nfs (Expired id) b.orderly; calm = shown_calm f.nfs (Expired id) b.calm; tied = expired_tied s (who_expired told) f.nfs id b.tied; leased = expired_leased s (who_expired told) f.nfs id b.tied.set b.leased }
 
 all_shown_tied : (exports : Exports) (f : Fronts) (s : CoreState) (told : List Effect) → AreTogether (who_expired told) f s → (let r = all_shown exports f s told in AreTogether [] r.1 r.2)
 all_shown_tied exports f s [] b = b
@@ -356,7 +427,14 @@ turn_tied n f s t told good e b =
     let same : given n s d ≡ (None, told, t) = ap (λ (o : Option (List Effect × CoreState)). turned s o) e in
     let tied : AreTiedBut (who_expired (given n s d).1) (done n s d) f.nfs.state =
     subst (λ (ids : List (List ℕ)). AreTiedBut ids (done n s d) f.nfs.state) (sym (deed_calm n s d good tt tt)) (other_tied n [] s f.nfs.state d good tt tt b.tied) in
-    record { orderly = b.orderly; calm = b.calm; tied = subst (λ (x : Option Answer × List Effect × CoreState). AreTiedBut (who_expired x.1) x.2 f.nfs.state) same tied }
+    let leased : AreLeasedBut (who_expired (given n s d).1) (done n s d) f.nfs.state =
+    subst (λ (ids : List (List ℕ)). AreLeasedBut ids (done n s d) f.nfs.state) (sym (deed_calm n s d good tt tt)) (other_leased n [] s f.nfs.state d good tt tt b.leased) in
+    record {
+      orderly = b.orderly;
+      calm = b.calm;
+      tied = subst (λ (x : Option Answer × List Effect × CoreState). AreTiedBut (who_expired x.1) x.2 f.nfs.state) same tied;
+      leased = subst (λ (x : Option Answer × List Effect × CoreState). AreLeasedBut (who_expired x.1) x.2 f.nfs.state) same leased;
+    }
 
 settled_tied : (n : ℕ) (exports : Exports) (f : Fronts) (s : CoreState) → IsGood s → AreTogether [] f s → (let r = settled n exports f s in AreTogether [] r.1 r.2)
 unfolding settled
@@ -411,6 +489,31 @@ refusal_spares : (hosts : List (List ℕ)) (o : Option Grant) → AllByRecursion
 refusal_spares hosts None = tt
 refusal_spares hosts (Some grant) = (refl, tt)
 
+-- nor do they renew a lease, or end one
+of_spares : (s : CoreState) (client : Name) (d : Deed) → is_nfs (protocol_of client) ≡ false → IsOf s client d → SparesLeases d
+of_spares s client (Renews id) plain own = absurd (true≢false (ap (λ (c : Name). is_nfs (protocol_of c)) (sym own) ∙ plain))
+of_spares s client (Lapses cache) plain own = absurd own
+of_spares s client (Expires id) plain own = absurd own
+of_spares s client d plain own = tt
+
+some_spares : (s : CoreState) (o : Option Name) (d : Deed) → ((client : Name) → o ≡ Some client → is_nfs (protocol_of client) ≡ false) → IsOfSome s o d → SparesLeases d
+some_spares s None d plain own = absurd own
+some_spares s (Some client) d plain own = of_spares s client d (plain client refl) own
+
+nlm_leases : (n : ℕ) (exports : Exports) (f : FrontState) (s : CoreState) (r : RequestItem) → IsGood s → AllByRecursion SparesLeases (nlm_deeds n exports f s r)
+nlm_leases n exports f s r good =
+    at_each (λ t d. IsOfSome t (nlm_client r) d) SparesLeases n s (nlm_deeds n exports f s r) (λ t d own. some_spares t (nlm_client r) d (λ client is. call_other (call_in r) client is) own) (nlm.step_own n exports f s r good)
+
+refusal_leases : (hosts : List (List ℕ)) (o : Option Grant) → AllByRecursion SparesLeases (refusal_deeds hosts o)
+refusal_leases hosts None = tt
+refusal_leases hosts (Some grant) = (tt, tt)
+
+own_leases : (names : List Name) (conn : ℕ) (l : Lists) (last : ℕ) (d : Deed) → IsOwn names conn l last d → SparesLeases d
+own_leases names conn l last (Renews id) own = absurd own
+own_leases names conn l last (Lapses cache) own = absurd own
+own_leases names conn l last (Expires id) own = absurd own
+own_leases names conn l last d own = tt
+
 -- nor is an open of SMB, or a lease
 opener_other : (client : List ℕ) (number : ℕ) (lease : Option (List ℕ)) → is_nfs_who (party_by client number lease) ≡ false
 opener_other client number None = refl
@@ -450,8 +553,8 @@ abbrev GivesTied : Given → Type 0
 GivesTied g = AreTogether (who_expired g.1) g.2 g.3
 
 -- a row that leaves NFSv4's front, by deeds of others
-others_row : (n : ℕ) (exports : Exports) (f : Fronts) (s : CoreState) (event : Event) (o : Own) → IsGood s → IsRow n exports f s event o → o.given.2.nfs ≡ f.nfs → AllByRecursion SparesNfs o.deeds → AreTogether [] f s → GivesTied o.given
-others_row n exports f s event o good row same spares b =
+others_row : (n : ℕ) (exports : Exports) (f : Fronts) (s : CoreState) (event : Event) (o : Own) → IsGood s → IsRow n exports f s event o → o.given.2.nfs ≡ f.nfs → AllByRecursion SparesNfs o.deeds → AllByRecursion SparesLeases o.deeds → AreTogether [] f s → GivesTied o.given
+others_row n exports f s event o good row same spares leases b =
     let l = f.nfs.state in
     let fits = row.takes good in
     let calm = deeds_calm n s o.deeds good fits (all_weaker SparesNfs IsCalm o.deeds spared_calm spares) in
@@ -459,14 +562,19 @@ others_row n exports f s event o good row same spares b =
     subst (λ (ids : List (List ℕ)). AreTiedBut ids (all_done n s o.deeds) l) (sym calm) (others_tied n [] s l o.deeds good fits spares b.tied) in
     let left : AreTiedBut (who_expired o.given.1) o.given.3 l =
     subst (λ (told : List Effect). AreTiedBut (who_expired told) o.given.3 l) (sym row.tells) (subst (λ (t : CoreState). AreTiedBut (who_expired (all_told_of n s o.deeds)) t l) (sym row.does) tied) in
+    let run : AreLeasedBut (who_expired (all_told_of n s o.deeds)) (all_done n s o.deeds) l =
+    subst (λ (ids : List (List ℕ)). AreLeasedBut ids (all_done n s o.deeds) l) (sym calm) (others_leased n [] s l o.deeds good fits leases b.leased) in
+    let leased : AreLeasedBut (who_expired o.given.1) o.given.3 l =
+    subst (λ (told : List Effect). AreLeasedBut (who_expired told) o.given.3 l) (sym row.tells) (subst (λ (t : CoreState). AreLeasedBut (who_expired (all_told_of n s o.deeds)) t l) (sym row.does) run) in
     record {
       orderly = subst (λ (g : FrontNfs). IsOrderly g.state) (sym same) b.orderly;
       calm = subst (λ (g : FrontNfs). LockersCloseNothing g.state) (sym same) b.calm;
       tied = subst (λ (g : FrontNfs). AreTiedBut (who_expired o.given.1) o.given.3 g.state) (sym same) left;
+      leased = subst (λ (g : FrontNfs). AreLeasedBut (who_expired o.given.1) o.given.3 g.state) (sym same) leased;
     }
 
 program_tied : (n : ℕ) (exports : Exports) (f : Fronts) (s : CoreState) (number : ℕ) (r : RequestItem) (program : Program) → IsGood s → AreTogether [] f s → GivesTied (program_own n exports f s number r program).given
-program_tied n exports f s number r Nlm good b = others_row n exports f s (Message number []) (program_own n exports f s number r Nlm) good (program_row n [] exports f s number r Nlm) refl (nlm_spares n exports f.nlm s r good) b
+program_tied n exports f s number r Nlm good b = others_row n exports f s (Message number []) (program_own n exports f s number r Nlm) good (program_row n [] exports f s number r Nlm) refl (nlm_spares n exports f.nlm s r good) (nlm_leases n exports f.nlm s r good) b
 program_tied n exports f s number r Nfs good b =
     let o = program_own n exports f s number r Nfs in
     let row = program_row n [] exports f s number r Nfs in
@@ -476,6 +584,7 @@ program_tied n exports f s number r Nfs good b =
       orderly = request_orderly n exports (smb_opens f) f.nfs s number r b.orderly;
       calm = request_calm n exports (smb_opens f) f.nfs s number r b.orderly b.calm;
       tied = subst (λ (ids : List (List ℕ)). AreTiedBut ids q.3 q.2.state) (sym calm) (tied_so q.3 q.2.state (request_tied n exports (smb_opens f) f.nfs s number r good b.orderly (but_none s f.nfs.state b.tied)));
+      leased = subst (λ (ids : List (List ℕ)). AreLeasedBut ids q.3 q.2.state) (sym calm) (leased_so q.3 q.2.state (request_leased n exports (smb_opens f) f.nfs s number r good b.orderly (but_none s f.nfs.state b.tied) (leased_none s f.nfs.state b.leased)));
     }
 
 record_tied : (n : ℕ) (exports : Exports) (f : Fronts) (s : CoreState) (number : ℕ) (incoming : IncomingItem) → IsGood s → AreTogether [] f s → GivesTied (record_own n exports f s number incoming).given
@@ -488,19 +597,19 @@ message_tied n exports f s None number bytes good b row = b
 message_tied n exports f s (Some Rpc) number bytes good b row = record_tied n exports f s number (incoming_at bytes) good b
 message_tied n exports f s (Some Smb) number bytes good b row =
     let o = message_own n exports f s (Some Smb) number bytes in
-    others_row n exports f s (Message number bytes) o good row refl (all_weaker (IsOwn s.names number f.smb.state s.counter) SparesNfs o.deeds (λ d own. own_other s.names number f.smb.state s.counter d own) (smb_own.step_own n exports (nfs_opens f) f.smb s number bytes)) b
+    others_row n exports f s (Message number bytes) o good row refl (all_weaker (IsOwn s.names number f.smb.state s.counter) SparesNfs o.deeds (λ d own. own_other s.names number f.smb.state s.counter d own) (smb_own.step_own n exports (nfs_opens f) f.smb s number bytes)) (all_weaker (IsOwn s.names number f.smb.state s.counter) SparesLeases o.deeds (λ d own. own_leases s.names number f.smb.state s.counter d own) (smb_own.step_own n exports (nfs_opens f) f.smb s number bytes)) b
 
 ended_tied : (n : ℕ) (exports : Exports) (f : Fronts) (s : CoreState) (kind : Option Kind) (number : ℕ) → IsGood s → AreTogether [] f s → IsRow n exports f s (End number) (end_own f s kind number) → GivesTied (end_own f s kind number).given
 ended_tied n exports f s None number good b row = b
 ended_tied n exports f s (Some Rpc) number good b row = b
 ended_tied n exports f s (Some Smb) number good b row =
     let o = end_own f s (Some Smb) number in
-    others_row n exports f s (End number) o good row refl (all_weaker (IsOwn s.names number f.smb.state s.counter) SparesNfs o.deeds (λ d own. own_other s.names number f.smb.state s.counter d own) (smb_own.end_own f.smb s number)) b
+    others_row n exports f s (End number) o good row refl (all_weaker (IsOwn s.names number f.smb.state s.counter) SparesNfs o.deeds (λ d own. own_other s.names number f.smb.state s.counter d own) (smb_own.end_own f.smb s number)) (all_weaker (IsOwn s.names number f.smb.state s.counter) SparesLeases o.deeds (λ d own. own_leases s.names number f.smb.state s.counter d own) (smb_own.end_own f.smb s number)) b
 
 begun_tied : (f : Fronts) (s : CoreState) (place : ℕ) (kind : Kind) (room : Bool) → AreTogether [] f s → AreTogether [] (if room then begun_by f place kind else f) s
 begun_tied f s place kind false b = b
 begun_tied f s place Rpc true b = b
-begun_tied f s place Smb true b = record { orderly = b.orderly; calm = b.calm; tied = b.tied }
+begun_tied f s place Smb true b = record { orderly = b.orderly; calm = b.calm; tied = b.tied; leased = b.leased }
 
 ticked_tied : (n : ℕ) (s : Whole) (now : Moment) → IsGood s.core → AreTogether [] s.front s.core → GivesTied (own_of n s (Tick now)).given
 ticked_tied n s now good b =
@@ -512,17 +621,20 @@ ticked_tied n s now good b =
     let first : AreTiedBut [] s.core l = tied_so s.core l (tick_tied s.core f q.1.clock good (but_none s.core f.state b.tied)) in
     let tied : AreTiedBut (who_expired (all_told_of n s.core ds)) (all_done n s.core ds) l =
     subst (λ (ids : List (List ℕ)). AreTiedBut ids (all_done n s.core ds) l) (append-nil (who_expired (all_told_of n s.core ds))) (clocks_tied n now [] s.core l ds (row.may good) good (row.takes good) first) in
+    let run : AreLeasedBut (who_expired (all_told_of n s.core ds)) (all_done n s.core ds) l =
+    subst (λ (ids : List (List ℕ)). AreLeasedBut ids (all_done n s.core ds) l) (append-nil (who_expired (all_told_of n s.core ds))) (clocks_leased n now [] s.core l ds (row.may good) good (row.takes good) (tick_leased [] s.core f q.1.clock b.leased)) in
     record {
       orderly = tick_orderly f q.1.clock b.orderly;
       calm = tick_calm f q.1.clock b.calm;
       tied = subst (λ (told : List Effect). AreTiedBut (who_expired told) q.1 l) (sym row.tells) (subst (λ (t : CoreState). AreTiedBut (who_expired (all_told_of n s.core ds)) t l) (sym row.does) tied);
+      leased = subst (λ (told : List Effect). AreLeasedBut (who_expired told) q.1 l) (sym row.tells) (subst (λ (t : CoreState). AreLeasedBut (who_expired (all_told_of n s.core ds)) t l) (sym row.does) run);
     }
 
 given_tied : (n : ℕ) (s : Whole) (event : Event) → IsGood s.core → AreTogether [] s.front s.core → GivesTied (own_of n s event).given
 given_tied n s (Open kind) good b = begun_tied s.front s.core s.place kind (nat_lt (length s.connections) most_connections) b
 given_tied n s (Message number bytes) good b = message_tied n s.exports s.front s.core (kind_of s.connections number) number bytes good b (own_row n s (Message number bytes))
 given_tied n s (End number) good b = ended_tied n s.exports s.front s.core (kind_of s.connections number) number good b (own_row n s (End number))
-given_tied n s (Called number bytes) good b = others_row n s.exports s.front s.core (Called number bytes) (own_of n s (Called number bytes)) good (own_row n s (Called number bytes)) refl (refusal_spares s.front.nlm.hosts _) b
+given_tied n s (Called number bytes) good b = others_row n s.exports s.front s.core (Called number bytes) (own_of n s (Called number bytes)) good (own_row n s (Called number bytes)) refl (refusal_spares s.front.nlm.hosts _) (refusal_leases s.front.nlm.hosts _) b
 given_tied n s (Tick now) good b = ticked_tied n s now good b
 given_tied n s Restart good b = b
 
@@ -539,20 +651,29 @@ begun_held s id file = refl
 pub begun_up : (s : CoreState) → s.counter ≤ (step_begun s).counter
 begun_up s = omega (arith, (begun_counts s).counter)
 
+begun_leases : (s : CoreState) → (step_begun s).leases ≡ s.leases
+unfolding step_begun
+begun_leases s = refl
+
 begun_together : (f : Fronts) (s : CoreState) → AreTogether [] f s → AreTogether [] f (step_begun s)
-begun_together f s b = record { orderly = b.orderly; calm = b.calm; tied = held_on [] s (step_begun s) f.nfs.state (begun_up s) (begun_held s) b.tied }
+begun_together f s b = record { orderly = b.orderly; calm = b.calm; tied = held_on [] s (step_begun s) f.nfs.state (begun_up s) (begun_held s) b.tied; leased = leased_on [] s (step_begun s) f.nfs.state (begun_leases s) b.leased }
 
 together : (s : Whole) → IsNfsTied s → AreTogether [] s.front s.core
 together s tied = record {
   orderly = tied.orderly;
   calm = tied.lockers;
   tied = tied_so s.core s.front.nfs.state (record { set = record { given = tied.numbers; shut = tied.closed; clients = tied.clients }; delegated = tied.delegations });
+  leased = leased_so s.core s.front.nfs.state tied.leases;
 }
+
+-- what a message meets
+pub found_tied : (s : Whole) → IsNfsTied s → AreTied (as_found s).core s.front.nfs.state
+found_tied s tied = but_none (step_begun s.core) s.front.nfs.state (begun_together s.front s.core (together s tied)).tied
 
 apart : (s : Whole) → AreTogether [] s.front s.core → IsNfsTied s
 apart s b =
     let tied = but_none s.core s.front.nfs.state b.tied in
-    record { orderly = b.orderly; lockers = b.calm; numbers = tied.set.given; closed = tied.set.shut; clients = tied.set.clients; delegations = tied.delegated }
+    record { orderly = b.orderly; lockers = b.calm; numbers = tied.set.given; closed = tied.set.shut; clients = tied.set.clients; leases = leased_none s.core s.front.nfs.state b.leased; delegations = tied.delegated }
 
 step_ties : (n : ℕ) (s : Whole) (event : Event) → is_restart event ≡ false → IsFree s → IsNfsTied s → IsNfsTied (step n s event).next
 step_ties n s event other free tied =
@@ -570,6 +691,8 @@ started_tied s stable clock times core front =
       calm = subst (λ (g : FrontNfs). LockersCloseNothing g.state) (sym front) start_calm;
       tied = tied_so s.core s.front.nfs.state
           (subst (λ (g : FrontNfs). AreTied s.core g.state) (sym front) (subst (λ (c : CoreState). AreTied c empty_nfs_front.state) (sym core) (start_tied stable clock times)));
+      leased = leased_so s.core s.front.nfs.state
+          (subst (λ (g : FrontNfs). AreLeased s.core g.state) (sym front) (subst (λ (c : CoreState). AreLeased c empty_nfs_front.state) (sym core) (start_leased stable clock times)));
     })
 
 restart_ties : (n : ℕ) (s : Whole) → IsNfsTied (step n s Restart).next
@@ -615,3 +738,11 @@ none_kept l id file none = ap (λ (ss : List StateidRow). option_and_then (deleg
 
 pub delegation_lost_in : (n : ℕ) (s t : Whole) (e : Entry) (id : List ℕ) (file : ℕ) (write : Bool) → delegation_held t.core id file ≡ Some write → t.front.nfs.state.stateids ≡ [] → IsTied n s e t → ⊥
 delegation_lost_in n s t e id file write held none tied = none_some (sym (none_kept t.front.nfs.state id file none) ∙ sym (tied.delegations id file) ∙ held)
+
+-- ---- machines that keep only one of a client's record and its lease
+
+pub lease_lost_in : (n : ℕ) (s t : Whole) (e : Entry) (id : List ℕ) → is_confirmed t.front.nfs.state.clients id ≡ true → t.core.leases ≡ [] → IsTied n s e t → ⊥
+lease_lost_in n s t e id sure none tied = true≢false (sym sure ∙ sym (tied.leases id) ∙ ap (λ (ls : List Lease). has_lease ls id) none)
+
+pub client_lost_in : (n : ℕ) (s t : Whole) (e : Entry) (id : List ℕ) → has_lease t.core.leases id ≡ true → t.front.nfs.state.clients ≡ [] → IsTied n s e t → ⊥
+client_lost_in n s t e id has none tied = true≢false (sym has ∙ tied.leases id ∙ ap (λ (cs : List ClientRow). is_confirmed cs id) none)

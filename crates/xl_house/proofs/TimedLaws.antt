@@ -77,7 +77,7 @@ abbrev clock_by : List Deed → Moment → Moment
 clock_by [] clock = clock
 clock_by (d ∷ ds) clock = clock_by ds (clock_left d clock)
 
-deed_times : (n : ℕ) (s : CoreState) (d : Deed) → IsGood s → IsFitDeed s d → times_in (done n s d) ≡ (leases_left s d s.leases, clock_left d s.clock)
+pub deed_times : (n : ℕ) (s : CoreState) (d : Deed) → IsGood s → IsFitDeed s d → times_in (done n s d) ≡ (leases_left s d s.leases, clock_left d s.clock)
 unfolding give_back weaken ack cancel end_party close_open drawn advanced renew
 deed_times n s (Asks left a) good fit =
     let r = ask n left s a in

@@ -479,7 +479,8 @@ impl<K: Keeper> House<K> {
     ///   CREATE of SMB are of the open and on the file that they name;
     /// - owed: a grant that its client refuses is given up;
     /// - meant: what the reply to a request of NLM, or to a LOCK, CREATE or CLOSE of SMB, says is done is done, and the stateids that a
-    ///   reply of NFSv4 tells name what is there, but for that of a lock owner's first LOCK under an open;
+    ///   reply of NFSv4 tells name what is there; what its OPEN, OPEN_DOWNGRADE, CLOSE, LOCK, LOCKU, DELEGRETURN, RENEW and
+    ///   RELEASE_LOCKOWNER say is done is done, and its LOCKT is answered by what is held;
     /// - caused: the deeds are those that the event may cause;
     /// - replied: each call of ONC RPC has one reply, on its own connection and with its own xid;
     /// - told: what is sent follows from the deeds and their answers;
@@ -487,7 +488,7 @@ impl<K: Keeper> House<K> {
     ///   only the message is replied to;
     /// - served: each request of SMB that waits has its waiter and each waiter its request, and a granted one has its open;
     /// - tied: each stateid of NFSv4 is its owner's, under a number of its own that was given out, and each client of NFSv4 has on each
-    ///   file just the delegation that its cache there is;
+    ///   file just the delegation that its cache there is, and a lease exactly if its record is confirmed;
     /// - orderly: nothing is sent to a connection before its opening or after its end;
     /// - most: it has at most 1,048,576 entries.
     ///

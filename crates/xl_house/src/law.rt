@@ -1,5 +1,6 @@
 //! Laws of the house. The functions do nothing.
-ghost use Rattle.std.specs.Prelude.{◌≡◌, ℕ, nat_lt, Bool, true, false, List, [], ◌∷◌, Option, Some, None, ◌==◌, find};
+ghost use Rattle.std.specs.Prelude.{◌≡◌, ℕ, nat_lt, Bool, true, false, List, [], ◌∷◌, Option, Some, None, is_some, ◌==◌, find};
+ghost use Rattle.std.specs.List.{list_any};
 ghost use Rattle.xl_base.specs.Lists.{IsIn};
 ghost use Rattle.xl_base.specs.Stable.{is_kept, is_recordable, is_recorded};
 ghost use Rattle.xl_base.specs.declared.event.Event.TheVariants.{Message, Tick, Called, Restart};
@@ -8,7 +9,9 @@ ghost use Rattle.xl_base.specs.declared.event.Out.{Out};
 ghost use Rattle.xl_base.specs.declared.journal.Entry.{Entry};
 ghost use Rattle.xl_base.specs.declared.journal.Exports.{Exports};
 ghost use Rattle.xl_base.specs.declared.name.Owner.{Owner};
+ghost use Rattle.xl_base.specs.declared.name.Owner.TheVariants.{Name as ByName};
 ghost use Rattle.xl_base.specs.declared.name.Party.{Party};
+ghost use Rattle.xl_base.specs.declared.name.Protocol.TheVariants.{Nfs};
 ghost use Rattle.xl_base.specs.declared.stable.Recorded.{Recorded};
 ghost use Rattle.xl_cache.specs.BreakPlans.{is_running, is_obstacle};
 ghost use Rattle.xl_grace.specs.Grace.{Running, is_known};
@@ -20,7 +23,7 @@ ghost use Rattle.xl_matrix.specs.declared.claim.Rwd.{Rwd};
 ghost use Rattle.xl_wait.specs.declared.waiter.Rooms.{Rooms};
 ghost use Rattle.xl_wait.specs.declared.waiter.Waiter.{Waiter};
 ghost use Rattle.xl_core.specs.BreakAnswers.{may_be_left};
-ghost use Rattle.xl_core.specs.Causes.{asks_claims};
+ghost use Rattle.xl_core.specs.Causes.{asks_claims, stands_against};
 ghost use Rattle.xl_core.specs.Deeds.{Asks, Weakens, Acks, Serves, Draws, all_done, given};
 ghost use Rattle.xl_core.specs.Dues.{IsPutOff};
 ghost use Rattle.xl_core.specs.Leases.{Lease, ended};
@@ -77,11 +80,27 @@ ghost use Rattle.xl_nlm.specs.Items.{CallItem};
 ghost use Rattle.xl_front_nlm.specs.Asking.{reclaims, IsAskFor};
 ghost use Rattle.xl_nfs.specs.Ops.{OpItem};
 ghost use Rattle.xl_nfs.specs.declared.basics.Stateid.{Stateid};
-ghost use Rattle.xl_nfs_state.specs.State.{NfsLists};
+ghost use Rattle.xl_names.specs.Names.{number_of};
+ghost use Rattle.xl_names.specs.declared.name.Name.TheVariants.{NfsShare};
+ghost use Rattle.xl_table.specs.Relock.{shares_of};
+ghost use Rattle.xl_nfs.specs.Basics.{OwnerItem};
+ghost use Rattle.xl_nfs.specs.Locks.{LockTestArgsItem, NewLockerItem};
+ghost use Rattle.xl_nfs_state.specs.State.{NfsLists, delegated_on, is_owner, is_owner_named};
+ghost use Rattle.xl_nfs_state.specs.declared.client.ClientRow.{ClientRow};
+ghost use Rattle.xl_nfs_state.specs.declared.owner.OwnerKind.TheVariants.{Lock as OfLocks};
+ghost use Rattle.xl_nfs_state.specs.declared.owner.OwnerRow.{OwnerRow};
+ghost use Rattle.xl_nfs_state.specs.declared.stateid.Holder.TheVariants.{Open as OfOpen};
+ghost use Rattle.xl_nfs_state.specs.declared.stateid.StateidRow.{StateidRow};
+ghost use Rattle.xl_nfs_opens.specs.Closing.{opener_by};
 ghost use Rattle.xl_nfs_opens.specs.Plans.{Outcome};
+ghost use Rattle.xl_nfs_opens.specs.declared.opener.Opener.{Opener as NfsOpener};
+ghost use Rattle.xl_nfs_opens.specs.declared.told.Told.TheVariants.{Free};
 ghost use Rattle.xl_nfs_laws.specs.AnsweredStateids.{IsAnswered};
+ghost use Rattle.xl_nfs_laws.specs.DoneAsTold.{IsClosed, IsFirstTold, IsGivenBack, IsLockTestTold, IsNamed, IsReleased, IsRenewed};
+ghost use Rattle.xl_nfs_laws.specs.LockLaws.{test_claim};
 ghost use Rattle.xl_nfs_laws.specs.AskedRequests.{says_reclaim, IsItsAsk};
 ghost use Rattle.xl_nfs_laws.specs.Delegated.{delegation_held};
+ghost use Rattle.xl_nfs_laws.specs.Leased.{has_lease, is_confirmed};
 ghost use Rattle.xl_house.specs.Awaited.{IsServed};
 ghost use Rattle.xl_house.specs.Done.{deeds};
 ghost use Rattle.xl_house.specs.Fitting.{IsFitting};
@@ -158,12 +177,24 @@ pub fn hollow_machines_are_refused()
     ensures nfs_always_reclaims { (files : List (List ℕ)) (current : Option ℕ) (op : OpItem) (left : Rooms) (a : Ask) → says_reclaim op ≡ false → a.reclaim ≡ true → IsItsAsk files current op left a → ⊥ }
 {}
 
-/// A machine that forgets the stateids while a client of NFSv4 has a cache has no entry after which rows and claims are tied; and one
-/// that does so as it tells a stateid tells none of NFSv4 rightly.
-#[tactic(auto, using(crate::proofs::NfsTiedLaws::delegation_lost_in, crate::proofs::MeantLaws::answered_lost_is))]
+/// A machine that forgets the stateids while a client of NFSv4 has a cache has no entry after which rows and claims are tied; nor has
+/// one that forgets the leases while a client's record is confirmed, or the records while a client has a lease; and one that forgets
+/// the stateids as it tells one tells none of NFSv4 rightly, nor that of a LOCK under an open. Nor is what is told done by one that
+/// keeps the share of an open that a CLOSE closes, each delegation at a DELEGRETURN, or the lock owner of a RELEASE_LOCKOWNER, that
+/// loses all leases at a RENEW, or that answers each LOCKT OK while a range that is held stands against the lock.
+#[tactic(auto, using(crate::proofs::NfsTiedLaws::delegation_lost_in, crate::proofs::NfsTiedLaws::lease_lost_in, crate::proofs::NfsTiedLaws::client_lost_in, crate::proofs::MeantLaws::answered_lost_is))]
 pub fn machines_that_lose_rows_are_refused()
     ensures delegation_lost { (n : ℕ) (s t : Whole) (e : Entry) (id : List ℕ) (file : ℕ) (write : Bool) → delegation_held t.core id file ≡ Some write → t.front.nfs.state.stateids ≡ [] → IsTied n s e t → ⊥ }
+    ensures lease_lost { (n : ℕ) (s t : Whole) (e : Entry) (id : List ℕ) → is_confirmed t.front.nfs.state.clients id ≡ true → t.core.leases ≡ [] → IsTied n s e t → ⊥ }
+    ensures client_lost { (n : ℕ) (s t : Whole) (e : Entry) (id : List ℕ) → has_lease t.core.leases id ≡ true → t.front.nfs.state.clients ≡ [] → IsTied n s e t → ⊥ }
     ensures answered_lost { (s : CoreState) (l : NfsLists) (asked told : Stateid) (closed : Bool) (done : Outcome) → done.3.stateids ≡ [] → IsAnswered s l asked told closed done → ⊥ }
+    ensures first_lost { (s : CoreState) (l : NfsLists) (x : NewLockerItem) (told : Stateid) (done : Outcome) → done.3.stateids ≡ [] → IsFirstTold s l x told done → ⊥ }
+    ensures share_kept { (s : CoreState) (l : NfsLists) (stateid : Stateid) (r : StateidRow) (owner number : ℕ) (o : NfsOpener) (share : Rwd × Rwd) (done : Outcome) → IsNamed s l stateid r → r.holder ≡ OfOpen owner → opener_by l r.client owner ≡ Some o → number_of (NfsShare o.id o.owner) done.4.names ≡ Some number
+        → shares_of r.file (ByName Nfs number) done.4.claims ≡ share ∷ [] → IsClosed s l stateid done → ⊥ }
+    ensures delegation_kept { (s : CoreState) (l : NfsLists) (stateid : Stateid) (done : Outcome) → ((client file : ℕ) → is_some (find (delegated_on client file) done.3.stateids) ≡ true) → IsGivenBack s l stateid done → ⊥ }
+    ensures renewal_lost { (s : CoreState) (l : NfsLists) (clientid : ℕ) (done : Outcome) → done.4.leases ≡ [] → IsRenewed s l clientid done → ⊥ }
+    ensures owner_kept { (s : CoreState) (l : NfsLists) (a : OwnerItem) (o : OwnerRow) (done : Outcome) → ((client : ℕ) → find (is_owner_named client OfLocks a.owner) l.owners ≡ Some o) → is_some (find (is_owner o.number) done.3.owners) ≡ true → IsReleased s l a done → ⊥ }
+    ensures always_free { (l : NfsLists) (a : LockTestArgsItem) (c : ClientRow) (file last : ℕ) (done : Outcome) → ((o : NfsOpener) → list_any (stands_against (test_claim done.4 o file a.kind a.offset last)) done.4.claims ≡ true) → done.0 ≡ Free → IsLockTestTold l a c file last done → ⊥ }
 {}
 
 /// An entry tells nobody rightly by a machine that begins the break of an open's oplock and sends no notice to the connection that

@@ -608,7 +608,8 @@ pub fn run<
     // as its mark. One of a LOCK or a CREATE of SMB is of the open and on the file that it names.
     // owed: if a client refuses a lock whose grant it was sent, just that is unlocked.
     // meant: what the reply to a request of NLM, or to a LOCK, CREATE or CLOSE of SMB, says is done is done; and the stateids that a
-    // reply of NFSv4 tells name what is there once its operation is done, but for that of a lock owner's first LOCK under an open.
+    // reply of NFSv4 tells name what is there once its operation is done. What its OPEN, OPEN_DOWNGRADE, CLOSE, LOCK, LOCKU, DELEGRETURN,
+    // RENEW and RELEASE_LOCKOWNER say is done is done, and its LOCKT is answered by what is held.
     // caused: an event does only what such an event may do, and only for the clients that it names.
     // replied: each call of ONC RPC that a record is has one reply, on its own connection and with its own xid.
     // told: what is sent follows from what the event did and what it was answered.
