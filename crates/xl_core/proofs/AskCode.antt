@@ -24,8 +24,8 @@ use Rattle.xl_core.specs.declared.parts.Parts.{Parts}
 use Rattle.xl_core.proofs.TurnCode.{unrecorded_new}
 use Rattle.xl_core.proofs.StoreLaws.{SameStores, goes_on_same, goes_on_then, hands_same, hands_then, may_be_before}
 use Rattle.std.specs.List.{AllByRecursion}
-use Rattle.xl_core.specs.Blockers.{in_front_of, IsInLine, IsKnown}
-use Rattle.xl_core.specs.Judge.{front_by, those_before}
+use Rattle.xl_core.specs.InFront.{in_front_of, IsInLine, IsKnown, front_by}
+use Rattle.xl_core.specs.Judge.{those_before}
 use Rattle.xl_core.specs.Standings.{stands}
 use Rattle.xl_core.specs.declared.blockers.Front.{Front}
 use Rattle.xl_core.specs.declared.blockers.Front.TheVariants.{Everybody}

@@ -14,7 +14,8 @@ use Rattle.xl_table.specs.Held.{is_cache, is_range}
 use Rattle.xl_table.specs.Relock.{holds_range, is_range_by}
 use Rattle.xl_wait.specs.Waiting.{first_file, is_file, waiting_on}
 use Rattle.xl_wait.specs.declared.waiter.Waiter.{Waiter}
-use Rattle.xl_core.specs.Blockers.{is_blocked_by, is_against, ranges_of, ranges_of_all, ranges_ahead, first_claim, first_of, range_ahead, before_number, in_front_of, ends_at, IsInLine}
+use Rattle.xl_core.specs.Blockers.{is_blocked_by, is_against, ranges_of, ranges_of_all, ranges_ahead, first_claim, first_of, range_ahead, before_number}
+use Rattle.xl_core.specs.InFront.{in_front_of, ends_at, IsInLine}
 use Rattle.xl_core.specs.BreaksBegun.{with_break, once_broken, breaks_begun}
 use Rattle.xl_core.specs.Good.{are_apart}
 use Rattle.xl_core.specs.Leases.{moment_after}

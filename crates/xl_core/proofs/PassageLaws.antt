@@ -12,7 +12,8 @@ use Rattle.xl_table.specs.Least.{least}
 use Rattle.xl_wait.specs.declared.waiter.Waiter.{Waiter}
 use Rattle.xl_core.specs.State.{CoreState}
 use Rattle.xl_core.specs.BreaksBegun.{once_broken, plan_then, breaks_begun}
-use Rattle.xl_core.specs.Blockers.{held_blockers, is_barred, range_ahead, first_of, blocker, is_in_line, is_stopped, first_broken, cache_in, cache_against, passage_by, passage_of, IsKnown}
+use Rattle.xl_core.specs.Blockers.{held_blockers, is_barred, range_ahead, first_of, blocker, is_in_line, is_stopped, first_broken, cache_in, cache_against, passage_by, passage_of}
+use Rattle.xl_core.specs.InFront.{IsKnown}
 use Rattle.xl_core.specs.Good.{holds_back, is_held_up}
 use Rattle.xl_core.specs.Judge.{stopped, kept_off, check_held, check_caches, stop_by, or_else}
 use Rattle.xl_core.specs.Leases.{moment_after}

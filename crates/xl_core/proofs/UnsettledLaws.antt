@@ -18,7 +18,8 @@ use Rattle.xl_wait.specs.Waiting.{first_file, is_file, waits_on, waiting_on}
 use Rattle.xl_wait.specs.declared.waiter.Waiter.{Waiter}
 use Rattle.xl_core.specs.State.{CoreState, Aside}
 use Rattle.xl_core.proofs.AsideLaws.{with_aside}
-use Rattle.xl_core.specs.Blockers.{before_number, IsInLine}
+use Rattle.xl_core.specs.Blockers.{before_number}
+use Rattle.xl_core.specs.InFront.{IsInLine}
 use Rattle.xl_core.specs.declared.blockers.Front.TheVariants.{Before}
 use Rattle.xl_core.proofs.TurnLaws.{called_in}
 use Rattle.xl_core.specs.Good.{IsGood, IsWaiter, IsPled, are_apart, is_held_up, of_first, holds_up}

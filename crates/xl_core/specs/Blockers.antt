@@ -1,6 +1,6 @@
 -- What stands against an ask: held shares and ranges, ranges that others wait for who came earlier, and caches, whose breaks may make
 -- way.
-use Rattle.std.specs.Prelude.{◌≡◌, ℕ, Bool, true, false, not, ◌&&◌, ◌||◌, ◌==◌, if◌then◌else◌, List, [], ◌∷◌, ◌++◌, Option, Some, None, is_some}
+use Rattle.std.specs.Prelude.{ℕ, Bool, not, ◌&&◌, ◌||◌, ◌==◌, if◌then◌else◌, List, [], ◌∷◌, ◌++◌, Option, Some, None, is_some}
 use Rattle.std.specs.List.{filter, list_any}
 use Rattle.xl_cache.specs.BreakPlans.{is_final, planned}
 use Rattle.xl_cache.specs.declared.break_plan.BreakPlan.{BreakPlan}
@@ -15,8 +15,6 @@ use Rattle.xl_table.specs.Relock.{is_range_by}
 use Rattle.xl_wait.specs.Waiting.{waiting_on}
 use Rattle.xl_wait.specs.declared.waiter.Waiter.{Waiter}
 use Rattle.xl_core.specs.State.{CoreState}
-use Rattle.xl_core.specs.declared.blockers.Front.{Front}
-use Rattle.xl_core.specs.declared.blockers.Front.TheVariants.{Nobody, Everybody, Before}
 use Rattle.xl_core.specs.declared.blockers.Passage.{Passage}
 use Rattle.xl_core.specs.declared.blockers.Passage.TheVariants.{Barred, Open}
 
@@ -120,34 +118,10 @@ passage_by None plan = Open plan
 unfoldable pub passage_of : List Waiter → CoreState → Claim → Passage
 passage_of earlier s ask = passage_by (blocker earlier s ask) (planned ask s.claims)
 
--- so stands the way of the first of these behind these waiters, if that is known
-abbrev pub IsKnown : List Waiter → Option Passage → CoreState → List Claim → Type 0
-IsKnown earlier (Some passage) s (c ∷ cs) = passage ≡ passage_of earlier s c
-IsKnown earlier _ s cs = Unit {0}
-
--- ---- in front of whom one stands
-
 -- those of these before the first of this number
 abbrev pub before_number : ℕ → List Waiter → List Waiter
 before_number id [] = []
 before_number id (w ∷ ws) = if w.id == id then [] else w ∷ before_number id ws
-
--- of these those who stand in front
-abbrev pub in_front_of : Front → List Waiter → List Waiter
-in_front_of Nobody ws = []
-in_front_of Everybody ws = ws
-in_front_of (Before id) ws = before_number id ws
-
--- they end before the waiter of this number
-abbrev pub ends_at : Front → ℕ → Bool
-ends_at Nobody id = true
-ends_at Everybody id = false
-ends_at (Before own) id = id == own
-
--- who stands in front of this claim on its file is found in the file's queue: the one of this number, if one is named, waits there
--- too
-abbrev pub IsInLine : Front → List Waiter → Claim → Type 0
-IsInLine front ws c = waiting_on c.file (in_front_of front ws) ≡ in_front_of front (waiting_on c.file ws)
 
 -- what the answer to a test names: ranges that are held alone (CORE-4)
 unfoldable pub test_blockers : CoreState → Claim → List Claim

@@ -99,9 +99,9 @@ wanted s a = unrecorded (stores_name a) (asker_as a) s.stable
 
 -- Why a share or a lock is, if n stores of the step succeed. What grace lets in and nothing held blocks, nor a range that is asked
 -- for in front of it, is granted, if no limit is passed, and its client is recorded or can be. While grace runs a request of SMB waits,
--- and all else but a reclaim is told its end; a reclaim is told that the record lacks its client, or that no grace runs. What something blocks waits, if it may and no
--- limit is passed; else of what blocks it for good the least that is held is answered, or if none is the first range that is waited
--- for, or if nothing does a cache in its way; of a reclaim anything held that blocks it.
+-- and all else but a reclaim is told its end; a reclaim is told that the record lacks its client, or that no grace runs. What
+-- something blocks waits, if it may and no limit is passed; else of what blocks it for good the least that is held is answered, or
+-- if none is the first range that is waited for, or if nothing does a cache in its way; of a reclaim anything held that blocks it.
 abbrev pub IsClaimDue : ℕ → Rooms → CoreState → Ask → Claim → Answer → Type 0
 IsClaimDue n left s a claim (Granted c) =
     (c ≡ claim) × (enters (stands s a) ≡ true) × IsFree s a claim × IsRoom (limits_of_grant left s a claim) × (may_record n s (wanted s a) ≡ true)
@@ -174,8 +174,8 @@ IsElementDue s claim extent _ = ⊥
 
 -- Why several claims of which none waits are answered so, behind these waiters: each is judged once those before it are held. The
 -- first that something blocks for good is answered with the least that is held and does, or else the first range of those who wait;
--- the first that a cache keeps off, with that; the first that passes a limit, with the least limit. If there is no such the answer is the last one. So many names are kept then, and
--- so many bytes are in the record that is stored first (CORE-14).
+-- the first that a cache keeps off, with that; the first that passes a limit, with the least limit. If there is no such the answer
+-- is the last one. So many names are kept then, and so many bytes are in the record that is stored first (CORE-14).
 abbrev pub IsEachBehind : List Waiter → Rooms → Rooms → ℕ → ℕ → Answer → List Claim → CoreState → Answer → Type 0
 IsEachBehind earlier left rows bytes kept last [] s answer = answer ≡ last
 IsEachBehind earlier left rows bytes kept last (c ∷ cs) s answer =
@@ -271,9 +271,9 @@ abbrev pub asks_share : Act → Bool
 asks_share (Share access deny) = true
 asks_share _ = false
 
--- An ask that is neither granted nor let wait changes nothing, except that a store may have failed. One that is granted changes only what its owner has on
--- its file: a share for a share, ranges for a range, and its party's cache there if it wishes for one. One that waits
--- changes no claim. No other cache changes, no waiter goes, and each name keeps its number.
+-- An ask that is neither granted nor let wait changes nothing, except that a store may have failed. One that is granted changes
+-- only what its owner has on its file: a share for a share, ranges for a range, and its party's cache there if it wishes for one.
+-- One that waits changes no claim. No other cache changes, no waiter goes, and each name keeps its number.
 pub record IsOwn (s : CoreState) (a : Ask) (answer : Answer) (new : CoreState) : Type 0 where
   pub claims : ((claim : Claim) → answer ≡ Granted claim → ⊥) → new.claims ≡ s.claims
   pub waiters : ((number : ℕ) → answer ≡ Queued number → ⊥) → new.waiters ≡ s.waiters

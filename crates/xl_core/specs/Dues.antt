@@ -108,8 +108,8 @@ pub data IsWanted (s : CoreState) (stable : Stable) : Type 0 where
   Shortened : is_over s.grace s.clock ≡ true → stable ≡ shortened s.grace s.stable → IsWanted s stable
 
 -- What comes in turn with n stores that succeed. An expiry waits for its store if the record has the client, and so does the end of
--- grace; a store fails only if it is wanted and no more succeeds (RECORD-10). Whatever is due or has ended ahead of what a deed takes stands so
--- at the end as well: nothing is passed over whose turn is to come.
+-- grace; a store fails only if it is wanted and no more succeeds (RECORD-10). Whatever is due or has ended ahead of what a deed
+-- takes stands so at the end as well: nothing is passed over whose turn is to come.
 abbrev pub IsInTurn : ℕ → CoreState → CoreState → Deed → Type 0
 IsInTurn n s t (Lapses cache) = (may_lapse n s cache ≡ true) × AllByRecursion (λ c. IsIn c (due t)) (ahead (same_claims cache) (due s))
 IsInTurn n s t (Expires client) = (may_expire n s client ≡ true) × AllByRecursion (λ id. IsIn id (ended t.clock t.leases)) (ahead (bytes_eq client) (ended s.clock s.leases))

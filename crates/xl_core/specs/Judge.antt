@@ -17,8 +17,6 @@ use Rattle.xl_core.specs.State.{CoreState}
 use Rattle.xl_table.specs.Least.{least}
 pub use Rattle.xl_core.specs.Blockers.{first_of}
 use Rattle.xl_core.specs.Blockers.{blocker, is_stopped, is_in_line, cache_in, cache_against}
-use Rattle.xl_core.specs.declared.blockers.Front.{Front}
-use Rattle.xl_core.specs.declared.blockers.Front.TheVariants.{Nobody}
 use Rattle.xl_core.specs.declared.blockers.Passage.{Passage}
 use Rattle.xl_core.specs.declared.blockers.Passage.TheVariants.{Barred, Open}
 use Rattle.xl_core.specs.Limits.{grant_limits, first_passed}
@@ -202,10 +200,6 @@ record_name n p asked s = recorded_by n (to_record p.unrecorded asked) s
 abbrev pub those_before : Standing → List Waiter → List Waiter
 those_before Reclaims earlier = []
 those_before _ earlier = earlier
-
-abbrev pub front_by : Standing → Front → Front
-front_by Reclaims front = Nobody
-front_by _ front = front
 
 -- all claims are held, and only now
 unfoldable pub enter_all : List Claim → CoreState → Ruled

@@ -4,6 +4,7 @@ pub mod Askers
 pub mod Standings
 pub mod Stores
 pub mod Blockers
+pub mod InFront
 pub mod Limits
 pub mod Judge
 pub mod Ways

@@ -48,7 +48,8 @@ pub struct Ask {
     pub wish: Sequence<CacheKind>,
     /// The connection that a late answer goes to; None if a call of its own carries it.
     pub conn: Option<u64>,
-    /// Whether the asker waits if something blocks it for good: a held share or range that no break moves, or a range that one in front waits for.
+    /// Whether the asker waits if something blocks it for good: a held share or range that no break moves, or a range that one in
+    /// front waits for.
     pub blocking: bool,
     /// Whether it waits if a cache keeps it off, for the answer to the break; else it is answered with that cache (MS-SMB2
     /// 3.3.5.9, RFC 7530 10.4.4).
@@ -72,7 +73,8 @@ pub enum Answer {
     /// wish got: that is seen in the table.
     Granted(Claim),
     /// This claim blocks it. Of held ranges it is the least by first byte, then last byte (an empty range first), then exclusive before
-    /// shared, then the owner's text; of shares the least by the owner's text; if nothing held does, the first range that one in front waits for.
+    /// shared, then the owner's text; of shares the least by the owner's text; if nothing held does, the first range that one in
+    /// front waits for.
     Conflict(Claim),
     /// It waits under this number.
     Queued(u32),

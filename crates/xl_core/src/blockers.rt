@@ -2,17 +2,17 @@
 ghost use Rattle.std.specs.Prelude.{◌≡◌, ◌&&◌, [], None, IfOk};
 ghost use Rattle.std.specs.List.{filter, list_any};
 ghost use Rattle.xl_table.specs.Flat.{blocks};
-ghost use Rattle.xl_table.specs.Held.{is_range};
 ghost use Rattle.xl_table.specs.Relock.{is_range_by};
 ghost use Rattle.xl_wait.specs.Waiting.{waiting_on};
-ghost use Rattle.xl_core.specs.Blockers.{is_blocked_by, waits_for_asker, is_against, ends_at, ranges_of, ranges_of_all, range_ahead, first_claim, first_broken, cache_in, in_front_of, passage_of, IsInLine};
+ghost use Rattle.xl_core.specs.Blockers.{is_blocked_by, waits_for_asker, is_against, ranges_of, ranges_of_all, range_ahead, first_claim, first_broken, cache_in, passage_of};
+ghost use Rattle.xl_core.specs.InFront.{ends_at, in_front_of, IsInLine};
 ghost use Rattle.xl_core.specs.Whole.{state_of};
 
 use crate::parts::Parts;
 use std::alloc::{AllocError, Global};
 use xl_base::{Owner, Sequence};
 use xl_cache::{BreakPlan, final_blockers, plan_breaks};
-use xl_matrix::{CacheKind, Claim, What, compatible, same_owner};
+use xl_matrix::{CacheKind, Claim, compatible, is_a_range, same_owner};
 use xl_table::least_of;
 use xl_wait::Waiter;
 
@@ -36,17 +36,11 @@ pub(crate) enum Passage {
     Open(BreakPlan),
 }
 
-fn is_range(claim: &Claim) -> bool
-    ensures { result ≡ is_range claim.now.what }
-{
-    matches!(claim.what, What::Range(_, _))
-}
-
 /// Whether the claim is a range of this owner.
 fn is_range_by(owner: Owner, claim: &Claim) -> bool
     ensures { result ≡ is_range_by owner claim.now }
 {
-    same_owner(claim.owner, owner) && is_range(claim)
+    same_owner(claim.owner, owner) && is_a_range(claim.what)
 }
 
 /// Whether one of these claims is.
@@ -122,7 +116,7 @@ fn waits_for_asker(
 fn is_against(ask: &Claim, asked: &Claim) -> bool
     ensures { result ≡ is_against ask.now asked.now }
 {
-    is_range(asked) && !same_owner(asked.owner, ask.owner) && !compatible(ask, asked)
+    is_a_range(asked.what) && !same_owner(asked.owner, ask.owner) && !compatible(ask, asked)
 }
 
 /// The first such of these.
@@ -200,7 +194,7 @@ pub(crate) fn range_ahead(
     requires line { IsInLine front parts.now.queue ask.now }
     ensures { IfOk result (λ r. r ≡ range_ahead (in_front_of front parts.now.queue) (state_of parts.now) ask.now) }
 {
-    if !is_range(ask) {
+    if !is_a_range(ask.what) {
         return Ok(None);
     }
     let first = first_in_front(alloc, parts, front, ask)?;

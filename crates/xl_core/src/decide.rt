@@ -8,7 +8,7 @@ ghost use Rattle.xl_table.specs.Held.{is_range, has_one_party, IsShareOrLock, Is
 ghost use Rattle.xl_table.specs.Relock.{most_claims};
 ghost use Rattle.xl_core.specs.Askers.{both_entered, asked_whats, asked_claims, IsFitAct, IsFit, IsOrdered, is_client, may_hold, may_hold_all};
 ghost use Rattle.xl_core.specs.Decide.{plea_of, waiter_of, waiting, claims_asked, tested, beside_of, is_back, unlocked_bytes, unlocked_one, unlocked, wish_asked, decided, way, before_wish, does_wish, wish_after, ask};
-ghost use Rattle.xl_core.specs.Blockers.{IsKnown};
+ghost use Rattle.xl_core.specs.InFront.{IsKnown};
 ghost use Rattle.xl_core.specs.Good.{IsGood};
 ghost use Rattle.xl_core.specs.Judge.{IsRow};
 ghost use Rattle.xl_core.specs.State.{MayBe, GoesOn};

@@ -89,8 +89,8 @@ pub fn breaks_are_over_at_their_deadline()
     ensures unstored { (stable : Stable) (times : Times) → is_recorded (client_name []) stable.names ≡ true → let r = tick 0 (with_claims stable times (broken_delegation ∷ its_share ∷ [])) (record { 0 = 7 }) in (r.1.claims ≡ broken_delegation ∷ its_share ∷ []) × (r.0 ≡ []) }
 {}
 
-/// A machine that answers that a lock is granted and keeps nothing doesn't meet the law of places, at a start with a record without names and for a lock
-/// of one byte; nor does one that drops a waiter at another's test meet the law of those who wait.
+/// A machine that answers that a lock is granted and keeps nothing doesn't meet the law of places, at a start with a record without
+/// names and for a lock of one byte; nor does one that drops a waiter at another's test meet the law of those who wait.
 #[tactic(auto, using(crate::proofs::HollowLaws::nothing_kept, crate::proofs::HollowLaws::waiter_dropped))]
 pub fn hollow_machines_are_refused()
     ensures kept { (n epoch : ℕ) (clock : Moment) (times : Times) (t : CoreState) → t.claims ≡ [] → IsChangedBy n (started (unnamed epoch) clock times) (Asks all_room smallest_lock ∷ []) t → ⊥ }

@@ -103,8 +103,8 @@ pub fn answers_have_causes()
     ensures least { (names : List Name) (claims : List Claim) (c : Claim) → least names claims ≡ Some c → IsIn c claims × AllByRecursion (λ d. range_before names d c ≡ false) claims }
 {}
 
-/// A share or a lock that grace lets in, that nothing held blocks, nor, unless it is a reclaim, the range of one who waits, and that passes
-/// no limit is granted, if its client is recorded or can be. What is granted is
+/// A share or a lock that grace lets in, that nothing held blocks, nor, unless it is a reclaim, the range of one who waits, and
+/// that passes no limit is granted, if its client is recorded or can be. What is granted is
 /// held then, whatever the owner had in the range before, or shared, united with the share that an NFSv4 owner had; what is
 /// unlocked no more.
 pub fn free_asks_are_granted()
@@ -141,8 +141,9 @@ pub fn nobody_is_forgotten()
 {}
 
 /// Who gives a claim back takes that claim out, and no other. Who cancels takes no claim with it, and of the waiters only the
-/// one of this number, whose party and number the one effect names. A party that ends takes its own claims and waiters, and no others. An SMB open that is closed takes its
-/// own share, its ranges and its waiters, and the caches of the party that goes with it, and no others.
+/// one of this number, whose party and number the one effect names. A party that ends takes its own claims and waiters, and no
+/// others. An SMB open that is closed takes its own share, its ranges and its waiters, and the caches of the party that goes with
+/// it, and no others.
 pub fn only_a_party_leaves()
     ensures cancelled { (s : CoreState) (id : ℕ) → ((cancel s id).1.claims ≡ s.claims) × ((cancel s id).1.waiters ≡ cancelled id s.waiters) }
     ensures named { (s : CoreState) (id : ℕ) (w : Waiter) → IsGood s → IsIn w s.waiters → w.id ≡ id → (cancel s id).0 ≡ Cancelled w.party id ∷ [] }

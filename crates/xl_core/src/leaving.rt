@@ -127,6 +127,7 @@ fn waits_as(number: u32, waiter: &Waiter) -> bool
 }
 
 /// Whether a waiter waits no more once this one leaves.
+#[inline(always)]
 pub(crate) fn waits_with(leaver: Leaver, waiter: &Waiter) -> bool
     ensures { result ≡ waits_with leaver waiter.now }
 {

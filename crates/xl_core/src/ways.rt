@@ -4,7 +4,8 @@ ghost use Rattle.std.specs.Prelude.{◌≡◌, ◌∷◌, ◌+◌, ◌<◌, ◌�
 ghost use Rattle.xl_base.specs.Limits.{numbers_left};
 ghost use Rattle.xl_matrix.specs.declared.claim.Claim.{Claim};
 ghost use Rattle.xl_table.specs.Relock.{most_claims};
-ghost use Rattle.xl_core.specs.Blockers.{in_front_of, passage_of, IsInLine, IsKnown};
+ghost use Rattle.xl_core.specs.Blockers.{passage_of};
+ghost use Rattle.xl_core.specs.InFront.{in_front_of, IsInLine, IsKnown};
 ghost use Rattle.xl_core.specs.Good.{IsGood};
 ghost use Rattle.xl_core.specs.Ways.{begins_some, made_way};
 ghost use Rattle.xl_core.specs.Whole.{state_of};

@@ -15,7 +15,8 @@ WaitsForItself w = AllByRecursion (λ c. c.party ≡ w.party) w.asked
 -- The core's state is good: any two claims may be held together by the matrix, an owner has one share and a party one
 -- cache on a file, each POSIX owner's ranges are sorted maximal runs. Nobody is forgotten: each waiter is held up, by
 -- something that blocks what it asks for first, for good if it waits for that, be it held or a range that one in front of it waits
--- for, and else by caches whose breaks all run; or by the grace that runs. Who may reclaim then is whom the record has. No store of a step is left to tell of.
+-- for, and else by caches whose breaks all run; or by the grace that runs. Who may reclaim then is whom the record has. No store of
+-- a step is left to tell of.
 pub record IsFree (s : Whole) : Type 0 where
   pub good : IsGood s.core
   pub settled : IsSettled s.core

@@ -111,8 +111,9 @@ IsOnTimeBy n s (Tick now) t = IsOnTime n s now t
 IsOnTimeBy n s event t = Unit {0}
 
 -- Each deed is given what is due to it, in the state that those before it left: an ask that grace lets in, that nothing held
--- stands against, nor, unless it is a reclaim, the range of one who waits, and for which there is room is granted, if its client is recorded or can be; each answer has its cause, and each
--- turn is that of the first waiter who isn't held up. And a reading of the clock does what is due by then.
+-- stands against, nor, unless it is a reclaim, the range of one who waits, and for which there is room is granted, if its client is
+-- recorded or can be; each answer has its cause, and each turn is that of the first waiter who isn't held up. And a reading of the
+-- clock does what is due by then.
 abbrev pub IsComplete : Law
 IsComplete n s e t = AreDue n (found s) (deeds n s e.event) × IsOnTimeBy n s e.event t
 

@@ -18,8 +18,8 @@ abbrev pub IsMeantByNlm : ℕ → Whole → ℕ → List ℕ → Type 0
 IsMeantByNlm n s number bytes = kind_of s.connections number ≡ Some Rpc → (r : RequestItem) → incoming_at bytes ≡ Asked r → r.program ≡ Nlm
     → (let o = own_of n (as_found s) (Message number bytes) in nlm.AreAsTold s.exports s.front.nlm (as_found s).core number r o.replies (all_done n (as_found s).core o.deeds))
 
--- that to a request of NFSv4 has the results of its operations in order, the stateids that they tell name what is there then, and what else
--- they say is done is done
+-- that to a request of NFSv4 has the results of its operations in order, the stateids that they tell name what is there then, and
+-- what else they say is done is done
 abbrev pub IsMeantByNfs : ℕ → Whole → ℕ → List ℕ → Type 0
 IsMeantByNfs n s number bytes = kind_of s.connections number ≡ Some Rpc → (r : RequestItem) → incoming_at bytes ≡ Asked r → r.program ≡ Nfs
     → (let o = own_of n (as_found s) (Message number bytes) in nfs.AreRequestTold n s.exports (smb_opens s.front) s.front.nfs (as_found s).core number r o.replies)

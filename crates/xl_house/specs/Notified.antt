@@ -47,8 +47,8 @@ AreTurnNews n exports f s (t ∷ ts) outs =
 
 -- ---- replies
 
--- what is sent to a message by the connection that it came by, in its frames: one reply to a call of ONC RPC, on the same connection and
--- with its xid; and for a message of SMB the final replies to those whom it cancels, and its own
+-- what is sent to a message by the connection that it came by, in its frames: one reply to a call of ONC RPC, on the same
+-- connection and with its xid; and for a message of SMB the final replies to those whom it cancels, and its own
 abbrev pub AreRepliesBy : ℕ → Exports → Fronts → CoreState → List Deed → Option Kind → ℕ → List ℕ → List Out → Type 0
 AreRepliesBy n exports f s ds None conn bytes outs = outs ≡ []
 AreRepliesBy n exports f s ds (Some Rpc) conn bytes outs = (plain : List Out) × (outs ≡ map (framed Rpc) plain) × IsRecordReplied conn (incoming_at bytes) plain

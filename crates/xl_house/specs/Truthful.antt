@@ -38,10 +38,10 @@ abbrev pub crashed : ℕ → ℕ → Moment → Whole → Event → Whole
 crashed k n now s event =
     record { exports = s.exports; place = 0; connections = []; front = no_fronts; core = started (raised (record_left k n s event)) now (times_of s.exports) }
 
--- What a crash makes of the record, in the step of an event of whose stores n would have succeeded, once its first k stores were made: a
--- name comes into it, and a mark beside it, only by a monitored ask of its client with that mark in that step, which reclaims nothing;
--- it goes only as its client expires in it, or at the end of a grace in which it reclaimed nothing; and while it stays a kept mark goes
--- only by such an ask with another.
+-- What a crash makes of the record, in the step of an event of whose stores n would have succeeded, once its first k stores were
+-- made: a name comes into it, and a mark beside it, only by a monitored ask of its client with that mark in that step, which
+-- reclaims nothing; it goes only as its client expires in it, or at the end of a grace in which it reclaimed nothing; and while it
+-- stays a kept mark goes only by such an ask with another.
 pub record IsRecordCut (k n : ℕ) (s : Whole) (event : Event) : Type 0 where
   pub comes : (name : Recorded) → IsIn name (record_left k n s event).names → IsIn name s.core.stable.names ⊎ AnyAt (λ u d. IsMonitored name n u d) n (found s) (deeds n s event)
   pub goes : (name : Recorded) → is_recorded name s.core.stable.names ≡ true → is_recorded name (record_left k n s event).names ≡ false → AnyAt (λ u d. IsOver name u d) n (found s) (deeds n s event)

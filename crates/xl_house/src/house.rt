@@ -469,17 +469,17 @@ impl<K: Keeper> House<K> {
     ///   answers, gives it back, ends or expires, or the deadline passes;
     /// - broken: a break begins only of a cache in the way of what was asked, and its answer is awaited;
     /// - caches_kept: each cache stays, at its kind or a greater one, unless a deed ends it or the entry tells that it is gone;
-    /// - complete: what grace let in and neither what is held nor the range of one who waits stands against was granted, and what was due by
-    ///   a reading of the clock was done, except what waits for a store that failed;
+    /// - complete: what grace let in and neither what is held nor the range of one who waits stands against was granted, and what
+    ///   was due by a reading of the clock was done, except what waits for a store that failed;
     /// - fit: each deed is one that may be done where it is done;
     /// - wished: a wish got one of its choices, the least kind with one of them and what its party had, or nothing;
     /// - asking: an ask of a request of NLM is on the file that it names, a reclaim if it says so, with the state that it names as its
     ///   mark, and within the room for hosts; those of an operation of NFSv4 are for what it says, on the file of its current handle or
-    ///   that it claims there, a reclaim if it says so, and of a confirmed client with its verifier as their mark; those of a LOCK and a
-    ///   CREATE of SMB are of the open and on the file that they name;
+    ///   that it claims there, a reclaim if it says so, and of a confirmed client with its verifier as their mark; those of a LOCK
+    ///   and a CREATE of SMB are of the open and on the file that they name;
     /// - owed: a grant that its client refuses is given up;
-    /// - meant: what the reply to a request of NLM, or to a LOCK, CREATE or CLOSE of SMB, says is done is done, and the stateids that a
-    ///   reply of NFSv4 tells name what is there; what its OPEN, OPEN_DOWNGRADE, CLOSE, LOCK, LOCKU, DELEGRETURN, RENEW and
+    /// - meant: what the reply to a request of NLM says is done is done, and of SMB that to a LOCK, CREATE, CLOSE, LOGOFF,
+    ///   TREE_DISCONNECT, OPLOCK_BREAK or CANCEL; the stateids that a reply of NFSv4 tells name what is there, what its OPEN, OPEN_DOWNGRADE, CLOSE, LOCK, LOCKU, DELEGRETURN, RENEW and
     ///   RELEASE_LOCKOWNER say is done is done, and its LOCKT is answered by what is held;
     /// - caused: the deeds are those that the event may cause;
     /// - replied: each call of ONC RPC has one reply, on its own connection and with its own xid;

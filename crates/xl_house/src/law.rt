@@ -229,9 +229,9 @@ pub fn machines_that_recover_wrongly_are_refused()
     ensures turned_away { (n number : ℕ) (bytes : List ℕ) (s : Whole) (left : Rooms) (a : Ask) (answer : Answer) → deeds n s (Message number bytes) ≡ Asks left a ∷ [] → Reclaims (found s) a → (ask n left (found s) a).0 ≡ answer → turns_away answer ≡ true → AreLetIn n s (Message number bytes) → ⊥ }
 {}
 
-/// The record lasts. Where a monitored ask that is no reclaim is granted, its client is recorded from then on, through whatever entries and
-/// restarts, until it expires or a grace ends in which it reclaimed nothing; and the mark that it came with is kept until one of these,
-/// or until such an ask of the same name comes with another.
+/// The record lasts. Where a monitored ask that is no reclaim is granted, its client is recorded from then on, through whatever
+/// entries and restarts, until it expires or a grace ends in which it reclaimed nothing; and the mark that it came with is kept
+/// until one of these, or until such an ask of the same name comes with another.
 #[tactic(auto, using(crate::proofs::LastingLaws::names_last, crate::proofs::LastingLaws::marks_last))]
 pub fn granted_clients_stay_recorded()
     ensures named { (head : Head) (es : List Entry) (name : Recorded) → IsLegal (start_of head) es → IsToStay (λ n u d. IsOver name u d) name (start_of head) es → is_recorded name (replay (start_of head) es).core.stable.names ≡ true }
@@ -239,9 +239,9 @@ pub fn granted_clients_stay_recorded()
 {}
 
 /// Truthful reclaims never collide, whatever happens from a start on, restarts and crashes too: while grace runs, if each reclaim since
-/// the server started told the truth, none is turned away by what is held, nor for want of its name and mark in the record or of a grace that
-/// runs. A reclaim tells the truth if the record has its client, with a mark that agrees, and what it asks for lies within what the client held, by names,
-/// just before the server stopped; or if grace ran then, before that began.
+/// the server started told the truth, none is turned away by what is held, nor for want of its name and mark in the record or of a
+/// grace that runs. A reclaim tells the truth if the record has its client, with a mark that agrees, and what it asks for lies
+/// within what the client held, by names, just before the server stopped; or if grace ran then, before that began.
 #[tactic(auto, using(crate::proofs::TruthfulLaws::never_collide))]
 pub fn truthful_reclaims_never_collide()
     ensures { (head : Head) (before : Before) (more : List Happening) → WereHeld before → NeverCollide before (start_of head) more }

@@ -1,5 +1,5 @@
--- What the results of a COMPOUND say is done is done: the stateids that they tell name what is there then, and what is locked, given back,
--- renewed or released is so (RFC 7530 9.1.4, 9.5, 14.2, 16.2, 16.6, 16.10 to 16.12, 16.16, 16.18, 16.19, 16.28, 16.37).
+-- What the results of a COMPOUND say is done is done: the stateids that they tell name what is there then, and what is locked,
+-- given back, renewed or released is so (RFC 7530 9.1.4, 9.5, 14.2, 16.2, 16.6, 16.10 to 16.12, 16.16, 16.18, 16.19, 16.28, 16.37).
 use Rattle.std.specs.Prelude.{◌≡◌, ◌==◌, ℕ, Bool, true, false, List, [], ◌∷◌, Option, Some, IfSome}
 use Rattle.xl_base.specs.declared.event.Out.{Out}
 use Rattle.xl_base.specs.declared.journal.Exports.{Exports}
@@ -30,8 +30,8 @@ use Rattle.xl_nfs_laws.specs.Orderly.{IsDelegated, IsKnown}
 -- ---- an operation
 
 -- The stateid that an OPEN of this client is told names one open then: of the owner that it names, on the file that is the current one,
--- with the access and the deny that were asked, and not closed. A delegation that it is told is the client's there, who has that cache. And
--- that owner has one share on the file, with that access and that deny.
+-- with the access and the deny that were asked, and not closed. A delegation that it is told is the client's there, who has that
+-- cache. And that owner has one share on the file, with that access and that deny.
 pub record IsOpenTold (s : CoreState) (c : ClientRow) (a : OpenArgsItem) (stateid : Stateid) (delegation : Option (Stateid × Bool)) (done : Outcome) : Type 0 where
   pub known : IsKnown (opener_of c a) a stateid done
   pub delegated : IfSome delegation (λ given. IsDelegated (opener_of c a) given.0 given.1 done)
@@ -39,9 +39,10 @@ pub record IsOpenTold (s : CoreState) (c : ClientRow) (a : OpenArgsItem) (statei
 
 -- So it is of each stateid that an operation is told, in this core and these lists, and what was done: by OPEN_CONFIRM,
 -- OPEN_DOWNGRADE, CLOSE, LOCK and LOCKU it is the one that they name, by its next seqid, of the same owner, client and file; closed by
--- a CLOSE alone. An OPEN_DOWNGRADE leaves its open the access and the deny that it asks for. A LOCK under an open is told that of its lock owner's locks there. What a LOCK is told to lock is held in its mode, what a
--- LOCKU is told to unlock isn't, and a CLOSE that is told so leaves nothing of its open. A LOCKT is answered by what is held. DELEGRETURN,
--- RENEW and RELEASE_LOCKOWNER that are OK are done.
+-- a CLOSE alone. An OPEN_DOWNGRADE leaves its open the access and the deny that it asks for. A LOCK under an open is told that of
+-- its lock owner's locks there. What a LOCK is told to lock is held in its mode, what a LOCKU is told to unlock isn't, and a CLOSE
+-- that is told so leaves nothing of its open. A LOCKT is answered by what is held. DELEGRETURN, RENEW and RELEASE_LOCKOWNER that
+-- are OK are done.
 abbrev pub IsAsTold : CoreState → NfsLists → OpItem → Outcome → Type 0
 IsAsTold s l (Open a) done = (stateid : Stateid) (flags : ℕ) (delegation : Option (Stateid × Bool)) (c : ClientRow) → done.0 ≡ Opened stateid flags delegation → client_in s l a.owner.clientid ≡ Some c → IsOpenTold s c a stateid delegation done
 IsAsTold s l (OpenConfirm a) done = (told : Stateid) → done.0 ≡ State told → IsAnswered s l a.stateid told false done

@@ -1,5 +1,5 @@
--- What a request asks for is its own (RFC 7530 9.6.2, 16.2, 16.10 to 16.12, 16.16): each operation asks for what it says, on the file that
--- it names by the current handle, and reclaims only if it says so. It asks as a confirmed client, with its verifier.
+-- What a request asks for is its own (RFC 7530 9.6.2, 16.2, 16.10 to 16.12, 16.16): each operation asks for what it says, on the
+-- file that it names by the current handle, and reclaims only if it says so. It asks as a confirmed client, with its verifier.
 use Rattle.std.specs.Prelude.{◌≡◌, ℕ, Bool, true, false, List, [], ◌∷◌, ◌++◌, Option, Some}
 use Rattle.std.specs.List.{AllByRecursion, find}
 use Rattle.std.specs.Option.{option_and_then}

@@ -1,5 +1,5 @@
--- What operations that are OK have done: the share of an open, locks that are held or free, what a CLOSE, a DELEGRETURN and a RELEASE_LOCKOWNER leave nothing
--- of, and a lease that runs anew (RFC 7530 9.5, 16.2, 16.6, 16.10 to 16.12, 16.28, 16.37).
+-- What operations that are OK have done: the share of an open, locks that are held or free, what a CLOSE, a DELEGRETURN and a
+-- RELEASE_LOCKOWNER leave nothing of, and a lease that runs anew (RFC 7530 9.5, 16.2, 16.6, 16.10 to 16.12, 16.28, 16.37).
 use Rattle.std.specs.Prelude.{◌≡◌, ◌↔◌, ◌≤◌, ℕ, true, false, bytes_eq, [], ◌∷◌, Some, None, option_map}
 use Rattle.std.specs.List.{find}
 use Rattle.xl_base.specs.Lists.{IsIn}
@@ -58,7 +58,8 @@ HasShare s o a done = (file : ℕ) → done.1 ≡ Some file → IsShared (rights
 
 -- ---- OPEN_DOWNGRADE
 
--- The open that was named has just the access and the deny that were asked, and so has its owner's share on the file, if that had these.
+-- The open that was named has just the access and the deny that were asked, and so has its owner's share on the file, if that had
+-- these.
 pub record IsDowngraded (s : CoreState) (l : NfsLists) (a : OpenDowngradeArgs) (done : Outcome) : Type 0 where
   pub access : (r : StateidRow) → IsNamed s l a.stateid r → option_map (λ (x : StateidRow). x.standing.access) (find (is_stateid r.number) done.3.stateids) ≡ Some a.access
   pub deny : (r : StateidRow) → IsNamed s l a.stateid r → option_map (λ (x : StateidRow). x.standing.deny) (find (is_stateid r.number) done.3.stateids) ≡ Some a.deny
@@ -67,8 +68,8 @@ pub record IsDowngraded (s : CoreState) (l : NfsLists) (a : OpenDowngradeArgs) (
 
 -- ---- LOCK and LOCKU
 
--- The LOCK named an open by its stateid, and by its clientid the open's client. What it is told is the stateid of the lock owner's locks on
--- the open's file, which are under the open from then on.
+-- The LOCK named an open by its stateid, and by its clientid the open's client. What it is told is the stateid of the lock owner's
+-- locks on the open's file, which are under the open from then on.
 pub record IsFirstTold (s : CoreState) (l : NfsLists) (x : NewLockerItem) (told : Stateid) (done : Outcome) : Type 0 where
   pub opened : StateidRow
   pub client : ClientRow
@@ -82,8 +83,8 @@ abbrev pub IsLockTold : CoreState → NfsLists → LockerItem → Stateid → Ou
 IsLockTold s l (Known x) told done = IsAnswered s l x.stateid told false done
 IsLockTold s l (New x) told done = IsFirstTold s l x told done
 
--- The range has a last byte. The owner of the locks that were named holds each of its bytes then, in the mode that was asked; at each other
--- byte, of each other owner and on each other file it is as before.
+-- The range has a last byte. The owner of the locks that were named holds each of its bytes then, in the mode that was asked; at
+-- each other byte, of each other owner and on each other file it is as before.
 pub record AreKnownLocked (s : CoreState) (l : NfsLists) (stateid : Stateid) (a : LockArgsItem) (done : Outcome) : Type 0 where
   pub row : StateidRow
   pub owner : Opener
@@ -119,8 +120,8 @@ pub record AreUnlocked (s : CoreState) (l : NfsLists) (a : UnlockArgs) (done : O
 
 -- ---- LOCKT
 
--- A LOCKT of this client on this file, up to this last byte, has each status exactly for its cause: it is OK exactly if no range that is
--- held stands against the lock, and DENIED exactly if one does; and then it tells the least of those that do.
+-- A LOCKT of this client on this file, up to this last byte, has each status exactly for its cause: it is OK exactly if no range
+-- that is held stands against the lock, and DENIED exactly if one does; and then it tells the least of those that do.
 pub record IsLockTestTold (l : NfsLists) (a : LockTestArgsItem) (c : ClientRow) (file last : ℕ) (done : Outcome) : Type 0 where
   pub told : (status : NfsStatus) → (status_of done.0 ≡ status) ↔ IsTestTold done.4 (test_ask (locker_of c a.owner.owner) file a.kind a.offset last) (test_claim done.4 (locker_of c a.owner.owner) file a.kind a.offset last) status
   pub denied : (held : HeldLock) → done.0 ≡ Denied held → IsTestDenial done.4 l (test_claim done.4 (locker_of c a.owner.owner) file a.kind a.offset last) held
@@ -136,8 +137,8 @@ pub record IsClosed (s : CoreState) (l : NfsLists) (stateid : Stateid) (done : O
 
 -- ---- DELEGRETURN
 
--- The stateid named a delegation of the current file, by its own seqid. That stateid isn't there any more, nor has its client a delegation
--- on the file, nor a cache.
+-- The stateid named a delegation of the current file, by its own seqid. That stateid isn't there any more, nor has its client a
+-- delegation on the file, nor a cache.
 pub record IsGivenBack (s : CoreState) (l : NfsLists) (stateid : Stateid) (done : Outcome) : Type 0 where
   pub row : StateidRow
   pub file : ℕ
@@ -155,8 +156,8 @@ pub record IsRenewed (s : CoreState) (l : NfsLists) (clientid : ℕ) (done : Out
   pub named : client_in s l clientid ≡ Some client
   pub lease : find (λ e. bytes_eq client.id e.0) done.4.leases ≡ Some (client.id, moment_after s.clock s.times.lease)
 
--- The clientid is of a confirmed client. Its lock owner holds no byte of any file, and is forgotten: the owner isn't there any more, no stateid hangs
--- on it, and no result is kept for it.
+-- The clientid is of a confirmed client. Its lock owner holds no byte of any file, and is forgotten: the owner isn't there any
+-- more, no stateid hangs on it, and no result is kept for it.
 pub record IsReleased (s : CoreState) (l : NfsLists) (a : OwnerItem) (done : Outcome) : Type 0 where
   pub client : ClientRow
   pub named : client_in s l a.clientid ≡ Some client

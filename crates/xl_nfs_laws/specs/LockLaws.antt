@@ -81,12 +81,12 @@ AreFree o file first last s t = AreBytes (unlock_claim s o file first last) firs
 
 -- ---- why a LOCK or a LOCKT is answered so
 
--- OK if grace lets the lock in, neither what is held nor, unless it reclaims, the range of one who waits stands against it, there is room for it, and its client is recorded or can be, if n
--- stores of the step succeed; DENIED if something stands against it for good, and RECLAIM_CONFLICT if anything does against a
--- reclaim; DELAY if a cache keeps it off, and RESOURCE if a limit is passed, that of the record too; GRACE while grace runs, for
--- what is no reclaim, and NO_GRACE for a reclaim while none runs; RECLAIM_BAD for a reclaim of a client that isn't recorded, or is
--- with another verifier; and SERVERFAULT if it would be OK, but the store fails that records its client. Nothing else is answered
--- (RFC 7530 9.6.2).
+-- OK if grace lets the lock in, neither what is held nor, unless it reclaims, the range of one who waits stands against it, there
+-- is room for it, and its client is recorded or can be, if n stores of the step succeed; DENIED if something stands against it for
+-- good, and RECLAIM_CONFLICT if anything does against a reclaim; DELAY if a cache keeps it off, and RESOURCE if a limit is passed,
+-- that of the record too; GRACE while grace runs, for what is no reclaim, and NO_GRACE for a reclaim while none runs; RECLAIM_BAD
+-- for a reclaim of a client that isn't recorded, or is with another verifier; and SERVERFAULT if it would be OK, but the store
+-- fails that records its client. Nothing else is answered (RFC 7530 9.6.2).
 abbrev pub IsLockTold : ℕ → CoreState → Ask → Claim → NfsStatus → Type 0
 IsLockTold n s a claim statuses.Ok = IsClaimDue n all_rooms s a claim (answers.Granted claim)
 IsLockTold n s a claim statuses.Denied = (a.reclaim ≡ false) × ((c : Claim) × IsClaimDue n all_rooms s a claim (answers.Conflict c))

@@ -25,7 +25,8 @@ pub record IsLocksOf (s : CoreState) (l : NfsLists) (stateid : Stateid) (r : Sta
   pub holder : r.holder ≡ holders.Lock w under opener
   pub owner : find (is_owner w) l.owners ≡ Some o
 
--- the locks are on the current file and not closed, and the seqid is the one after their owner's last, whose requests have come this far
+-- the locks are on the current file and not closed, and the seqid is the one after their owner's last, whose requests have come
+-- this far
 pub record IsNextOn (s : CoreState) (l : NfsLists) (current : Option ℕ) (seqid : ℕ) (stateid : Stateid) (r : StateidRow) (w : ℕ) (seqids : SeqidState) : Type 0 where
   pub row : OwnerRow
   pub locks : IsLocksOf s l stateid r w row

@@ -44,11 +44,12 @@ pub fn granted_locks_are_held()
 
 /// A LOCK whose checks passed is answered with each status exactly if that has its cause, once the breaks of the
 /// caches in its way began: OK if grace lets it in, neither what is held nor the range of one who waits stands against it, no limit is
-/// passed, and its client is recorded or can be; DENIED if something stands against it for good, and RECLAIM_CONFLICT if anything does against a reclaim;
-/// DELAY if a cache keeps it off, RESOURCE at a limit; GRACE in grace if it doesn't reclaim, NO_GRACE out of grace if it does,
-/// RECLAIM_BAD if it reclaims and its client isn't recorded, or is with another verifier; SERVERFAULT if the store fails that
-/// records its client; and no other (RFC 7530 9.6.2). If there is no room for its owner, RESOURCE, and nothing changes (RFC 7530
-/// 16.10). DENIED gives a claim that stands against the lock, with its owner: the least that is held, or else the first range of those who wait.
+/// passed, and its client is recorded or can be; DENIED if something stands against it for good, and RECLAIM_CONFLICT if anything
+/// does against a reclaim; DELAY if a cache keeps it off, RESOURCE at a limit; GRACE in grace if it doesn't reclaim, NO_GRACE out
+/// of grace if it does, RECLAIM_BAD if it reclaims and its client isn't recorded, or is with another verifier; SERVERFAULT if the
+/// store fails that records its client; and no other (RFC 7530 9.6.2). If there is no room for its owner, RESOURCE, and nothing
+/// changes (RFC 7530 16.10). DENIED gives a claim that stands against the lock, with its owner: the least that is held, or else the
+/// first range of those who wait.
 pub fn lock_statuses_have_causes()
     ensures known { (n : ℕ) (s : CoreState) (l : NfsLists) (current : Option ℕ) (a : LockArgsItem) (r : StateidRow) (owner : ℕ) (seqids : OwnerSeqids) (seqid last : ℕ) (o : LockOwner) (status : Status) → (status_of (carried n s l (lock_by_owner l current a r owner seqids seqid last (Some o))).0 ≡ status) ↔ IsLockTold n (lock_way s o r.file a.kind a.reclaim a.offset last) (lock_ask o r.file a.kind a.reclaim a.offset last) (lock_claim s o r.file a.kind a.offset last) status }
     ensures first { (n : ℕ) (s : CoreState) (l : NfsLists) (current : Option ℕ) (a : LockArgsItem) (b : Owners) (o : LockOwner) (r : StateidRow) (q : Option StateidRow) (last : ℕ) (status : Status) → is_room_for o l ≡ true → (status_of (carried n s l (join_to l current a b o r q (Ok last))).0 ≡ status) ↔ IsLockTold n (lock_way s o r.file a.kind a.reclaim a.offset last) (lock_ask o r.file a.kind a.reclaim a.offset last) (lock_claim s o r.file a.kind a.offset last) status }

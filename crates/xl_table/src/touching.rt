@@ -4,7 +4,7 @@ ghost use Rattle.std.specs.List.{list_any, prefix_len};
 ghost use Rattle.xl_matrix.specs.Owners.{posix};
 ghost use Rattle.xl_base.specs.Lists.{Pairwise};
 ghost use Rattle.xl_table.specs.Files.{joined, IsFiled};
-ghost use Rattle.xl_table.specs.Held.{IsKept, is_range, most_claims};
+ghost use Rattle.xl_table.specs.Held.{IsKept, most_claims};
 ghost use Rattle.xl_table.specs.Order.{goes_first};
 ghost use Rattle.xl_table.specs.Pages.{paged, AreFull, passes, is_met, is_met_there};
 ghost use Rattle.xl_table.specs.Relock.{holds_byte, is_range_of, holds_range};
@@ -19,7 +19,7 @@ use crate::pages::{count_both, first_failing};
 use crate::relock::meets;
 use crate::section::{group_of, group_places};
 use xl_base::Owner;
-use xl_matrix::{Claim, What, is_posix, same_owner};
+use xl_matrix::{Claim, What, is_a_range, is_posix, same_owner};
 
 /// Where those of an owner's ranges on a file begin and end that have a byte of the range, or lie right beside it.
 pub(crate) fn touched_places(
@@ -43,19 +43,13 @@ pub(crate) fn touched_places(
     count_both(pages, near, Mark::Beginning(last), &front)
 }
 
-fn is_range(what: What) -> bool
-    ensures { result ≡ is_range what }
-{
-    matches!(what, What::Range(_, _))
-}
-
 /// Whether the claim is a range of the owner on the file, and has a byte of the range.
 fn is_met(file: u32, owner: Owner, first: u64, last: u64, claim: &Claim) -> bool
     ensures { result ≡ is_met file owner first last claim.now }
 {
     claim.file == file
         && same_owner(claim.owner, owner)
-        && is_range(claim.what)
+        && is_a_range(claim.what)
         && meets(first, last, claim.what)
 }
 

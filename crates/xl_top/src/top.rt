@@ -538,8 +538,8 @@ pub fn run<
     // `serve` served the exports that the input names if the status is 0, 3 or 7: until each lane ended or had its turns, or until the
     // journal was full, which it is at 7. The entries are what the lanes, the first one's clock and the callers entered, and no others;
     // each link was sent what they send to it, and the calls that they ask for were made. At 5 nobody was served: the keeper failed at
-    // the start, and holds what it held. The capture of the journal was written at 0, and at 5 and 7 unless the sink failed; a beginning
-    // of it was written at 3, 5, 6 and 7. At 4 the line is the first bad one.
+    // the start, and holds what it held. The capture of the journal was written at 0, and at 5 and 7 unless the sink failed; a
+    // beginning of it was written at 3, 5, 6 and 7. At 4 the line is the first bad one.
     ensures exported { (s : TheServing) → job (map string_bytes words.now) ≡ Some (Job.Serve s) → (all : List ℕ) → I.left input.old ≡ Some all → is_exported result.status ≡ true → exported (capped all) ≡ Ok result.journal.head.exports }
     ensures exported_bad { (s : TheServing) → job (map string_bytes words.now) ≡ Some (Job.Serve s) → (all : List ℕ) → I.left input.old ≡ Some all → result.status ≡ 4 → exported (capped all) ≡ Err result.line }
     ensures started { (s : TheServing) → job (map string_bytes words.now) ≡ Some (Job.Serve s) → is_exported result.status ≡ true → result.journal.head.start ≡ record { 0 = 0 } }
@@ -595,9 +595,10 @@ pub fn run<
     // range is turned away by a cache of which no break runs.
     // caches_kept: each cache stays, at its kind or a greater one, unless it is given back, its break is answered or over, its party
     // ends or expires, or it was for reading alone and the event tells that it is gone.
-    // complete: a lock or a share that grace lets in is granted if nothing held stands against it, nor, unless it is a reclaim, the range of
-    // one who waits, no limit is passed, and its client is recorded or can be; if something does, it is refused or waits. A reading of the clock ends each break and lets each client expire
-    // that is due by then, except what waits for a store that failed.
+    // complete: a lock or a share that grace lets in is granted if nothing held stands against it, nor, unless it is a reclaim, the
+    // range of one who waits, no limit is passed, and its client is recorded or can be; if something does, it is refused or waits.
+    // A reading of the clock ends each break and lets each client expire that is due by then, except what waits for a store that
+    // failed.
     // fit: what is given back is held, a share that is made weaker has no more than before, no more is left of a cache than its
     // break leaves, and breaks and leases end only once their time has come.
     // wished: a wish gets one of its choices, or the least kind in which one of them and what its party had lie, and nothing if
@@ -607,9 +608,10 @@ pub fn run<
     // current handle or that it claims there, a reclaim exactly if it says so, and in the name of a confirmed client, with its verifier
     // as its mark. One of a LOCK or a CREATE of SMB is of the open and on the file that it names.
     // owed: if a client refuses a lock whose grant it was sent, just that is unlocked.
-    // meant: what the reply to a request of NLM, or to a LOCK, CREATE or CLOSE of SMB, says is done is done; and the stateids that a
-    // reply of NFSv4 tells name what is there once its operation is done. What its OPEN, OPEN_DOWNGRADE, CLOSE, LOCK, LOCKU, DELEGRETURN,
-    // RENEW and RELEASE_LOCKOWNER say is done is done, and its LOCKT is answered by what is held.
+    // meant: what the reply to a request of NLM says is done is done, and of SMB that to a LOCK, CREATE, CLOSE, LOGOFF,
+    // TREE_DISCONNECT, OPLOCK_BREAK or CANCEL; and the stateids that a reply of NFSv4 tells name what is there once its operation
+    // is done. What its OPEN, OPEN_DOWNGRADE, CLOSE, LOCK, LOCKU,
+    // DELEGRETURN, RENEW and RELEASE_LOCKOWNER say is done is done, and its LOCKT is answered by what is held.
     // caused: an event does only what such an event may do, and only for the clients that it names.
     // replied: each call of ONC RPC that a record is has one reply, on its own connection and with its own xid.
     // told: what is sent follows from what the event did and what it was answered.
@@ -644,7 +646,8 @@ pub fn run<
 
     // After each entry no two stateids of NFSv4 have one number, and each has one that was given out, stands in a place of its own, and
     // is its owner's, who is its client's; an open is closed exactly if its owner's last request closed it. No two confirmed clients
-    // have one number or one id string, and each client has on each file just the delegation that its cache there is.
+    // have one number or one id string, each client has on each file just the delegation that its cache there is, and a lease
+    // exactly if its record is confirmed.
     ensures tied { Always IsTied (start_of result.journal.head) result.journal.entries }
 {
     let Ok(room) = Vec::with_capacity(alloc, outside.lanes.len()) else {

@@ -1,6 +1,6 @@
 use Rattle.std.proofs.Common.{◌≡◌, drop}
 use Rattle.xl_wait.specs.Waiting.{waiting_on}
-use Rattle.xl_core.specs.Blockers.{in_front_of}
+use Rattle.xl_core.specs.InFront.{in_front_of}
 use Rattle.xl_core.proofs.LineLaws.{first_range}
 use Rattle.xl_core.proofs.blockers.first_in_front.Given as goal
 

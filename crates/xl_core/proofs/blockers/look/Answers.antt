@@ -1,5 +1,5 @@
 use Rattle.std.proofs.Common.{sym, ◌∙◌}
-use Rattle.xl_core.specs.Blockers.{in_front_of}
+use Rattle.xl_core.specs.InFront.{in_front_of}
 use Rattle.xl_core.specs.Whole.{state_of}
 use Rattle.xl_core.proofs.PassageLaws.{final_so, barred_so, behind_so, looked_open}
 use Rattle.xl_core.proofs.blockers.look.Goals as goal

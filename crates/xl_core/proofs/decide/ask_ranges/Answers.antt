@@ -1,6 +1,6 @@
 use Rattle.std.proofs.Common.{◌≡◌, IfOk, List, [], sym, subst, ◌∙◌}
 use Rattle.xl_matrix.specs.declared.claim.Claim.{Claim}
-use Rattle.xl_core.specs.Blockers.{IsKnown}
+use Rattle.xl_core.specs.InFront.{IsKnown}
 use Rattle.xl_core.specs.Decide.{claims_asked}
 use Rattle.xl_core.specs.State.{MayBe}
 use Rattle.xl_core.specs.Whole.{state_of}

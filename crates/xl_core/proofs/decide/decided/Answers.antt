@@ -1,7 +1,7 @@
 use Rattle.std.proofs.Common.{◌≡◌, Bool, List, [], IfOk, map, ap, sym, subst, ◌∙◌}
 use Rattle.xl_matrix.specs.declared.claim.Extent.{Extent}
 use Rattle.xl_core.specs.Askers.{range_what, asked_whats, asked_claims}
-use Rattle.xl_core.specs.Blockers.{IsKnown}
+use Rattle.xl_core.specs.InFront.{IsKnown}
 use Rattle.xl_core.specs.Decide.{Answered, claims_asked}
 use Rattle.xl_core.specs.State.{MayBe}
 use Rattle.xl_core.specs.Whole.{state_of}

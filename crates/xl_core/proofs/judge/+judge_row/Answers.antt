@@ -2,7 +2,7 @@ use Rattle.std.proofs.Common.{rules, Ok, List, ap, subst, sym}
 use Rattle.std.specs.List.{AllByRecursion}
 use Rattle.xl_matrix.specs.declared.claim.Claim.{Claim}
 use Rattle.xl_wait.specs.declared.waiter.Waiter.{Waiter}
-use Rattle.xl_core.specs.Blockers.{in_front_of, IsInLine}
+use Rattle.xl_core.specs.InFront.{in_front_of, IsInLine}
 use Rattle.xl_core.specs.Whole.{state_of}
 use Rattle.xl_core.proofs.DoorLaws.{head_rest, none_left, rest_row, rest_alone, came_behind, came_last, back_state, ahead_state}
 use Rattle.xl_core.proofs.LineLaws.{rest_line}

@@ -2,7 +2,7 @@ use Rattle.std.proofs.Common.{◌≡◌, [], Option, IfOk, sym, subst, ◌∙◌
 use Rattle.std.specs.Option.{IfSome}
 use Rattle.xl_core.specs.Judge.{Ruled}
 use Rattle.xl_core.specs.State.{MayBe}
-use Rattle.xl_core.specs.Blockers.{in_front_of}
+use Rattle.xl_core.specs.InFront.{in_front_of}
 use Rattle.xl_core.specs.Whole.{state_of}
 use Rattle.xl_core.specs.declared.judge.Ruling.{Ruling}
 use Rattle.xl_core.specs.declared.judge.Ruling.TheVariants.{Gets, Waits}

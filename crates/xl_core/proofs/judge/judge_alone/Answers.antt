@@ -1,5 +1,5 @@
 use Rattle.std.proofs.Common.{[], ◌∷◌, Some, ap, ◌∙◌}
-use Rattle.xl_core.specs.Blockers.{in_front_of}
+use Rattle.xl_core.specs.InFront.{in_front_of}
 use Rattle.xl_core.specs.Whole.{state_of}
 use Rattle.xl_core.proofs.RowLaws.{row_gets, row_waits, row_few, stop_one}
 use Rattle.xl_core.proofs.judge.judge_alone.Goals as goal

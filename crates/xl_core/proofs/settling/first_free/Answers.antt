@@ -1,6 +1,6 @@
 use Rattle.std.proofs.Common.{refl, sym, ◌∙◌}
 use Rattle.std.specs.List.{AllByRecursion}
-use Rattle.xl_core.specs.Blockers.{IsInLine}
+use Rattle.xl_core.specs.InFront.{IsInLine}
 use Rattle.xl_core.specs.Whole.{state_of}
 use Rattle.xl_core.specs.declared.blockers.Front.TheVariants.{Before}
 use Rattle.xl_core.proofs.UnsettledLaws.{called_on_from, next_of}

@@ -1,6 +1,6 @@
 use Rattle.std.proofs.Common.{◌≡◌, drop}
 use Rattle.std.specs.List.{AllByRecursion}
-use Rattle.xl_core.specs.Blockers.{IsInLine}
+use Rattle.xl_core.specs.InFront.{IsInLine}
 use Rattle.xl_core.specs.Settle.{first_free}
 use Rattle.xl_core.specs.Unsettled.{AreUp}
 use Rattle.xl_core.specs.Whole.{state_of}

@@ -1,7 +1,7 @@
 use Rattle.std.proofs.Common.{List, subst, sym, ◌∙◌}
 use Rattle.std.specs.List.{AllByRecursion}
 use Rattle.xl_wait.specs.declared.waiter.Waiter.{Waiter}
-use Rattle.xl_core.specs.Blockers.{IsInLine}
+use Rattle.xl_core.specs.InFront.{IsInLine}
 use Rattle.xl_core.specs.Unsettled.{AreUp, AreHeldUp}
 use Rattle.xl_core.specs.Whole.{state_of}
 use Rattle.xl_core.specs.declared.blockers.Front.TheVariants.{Before}

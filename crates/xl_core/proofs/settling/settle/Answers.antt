@@ -3,7 +3,8 @@ use Rattle.std.specs.Option.{IfSome}
 use Rattle.std.specs.List.{AllByRecursion}
 use Rattle.xl_matrix.specs.declared.claim.Claim.{Claim}
 use Rattle.xl_table.specs.Held.{has_one_party}
-use Rattle.xl_core.specs.Blockers.{before_number, IsInLine, IsKnown}
+use Rattle.xl_core.specs.Blockers.{before_number}
+use Rattle.xl_core.specs.InFront.{IsInLine, IsKnown}
 use Rattle.xl_core.specs.declared.blockers.Front.TheVariants.{Before}
 use Rattle.xl_core.proofs.UnsettledLaws.{called_front, called_line, free_is_called}
 use Rattle.xl_core.specs.Judge.{IsRow, judged}

@@ -1,5 +1,6 @@
 use Rattle.std.proofs.Common.{◌≡◌, List, subst, sym, ◌∙◌}
-use Rattle.xl_core.specs.Blockers.{in_front_of, passage_of}
+use Rattle.xl_core.specs.Blockers.{passage_of}
+use Rattle.xl_core.specs.InFront.{in_front_of}
 use Rattle.xl_core.specs.declared.blockers.Passage.TheVariants.{Open}
 use Rattle.xl_wait.specs.declared.waiter.Waiter.{Waiter}
 use Rattle.xl_core.specs.Whole.{state_of}

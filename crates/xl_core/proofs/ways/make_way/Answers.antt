@@ -1,6 +1,6 @@
 use Rattle.std.proofs.Common.{List, ap, sym, ◌∙◌}
 use Rattle.xl_matrix.specs.declared.claim.Claim.{Claim}
-use Rattle.xl_core.specs.Blockers.{in_front_of}
+use Rattle.xl_core.specs.InFront.{in_front_of}
 use Rattle.xl_core.specs.Whole.{state_of}
 use Rattle.xl_core.specs.Ways.{made_way}
 use Rattle.xl_core.proofs.DoorLaws.{head_rest}

@@ -1,5 +1,5 @@
 use Rattle.std.proofs.Common.{sym, ◌∙◌}
-use Rattle.xl_core.specs.Blockers.{in_front_of}
+use Rattle.xl_core.specs.InFront.{in_front_of}
 use Rattle.xl_core.specs.Whole.{state_of}
 use Rattle.xl_core.proofs.PassageLaws.{quiet_so, way_barred}
 use Rattle.xl_core.proofs.ways.make_way_of.Goals as goal
