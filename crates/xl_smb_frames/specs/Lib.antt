@@ -1,0 +1,4 @@
+pub mod Frames
+pub mod Steps
+pub mod Answers
+pub mod Waking
