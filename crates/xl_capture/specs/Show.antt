@@ -17,7 +17,8 @@ use Rattle.xl_nlm.specs.Items.{CallItem}
 use Rattle.xl_nfs.specs.Compounds.{CompoundHeadItem, compound_head_at}
 use Rattle.xl_nfs.specs.Ops.{OpItem, NotSupported, Illegal, op_number, op_at}
 use Rattle.xl_smb.specs.Bodies.{number_of_fault}
-use Rattle.xl_smb.specs.Heads.{command_of}
+use Rattle.xl_smb.specs.Compounds.{own_bytes}
+use Rattle.xl_smb.specs.Heads.{command_of, head_of}
 use Rattle.xl_smb.specs.Messages.{MessageItem, Call, Reply, Told, message_at}
 use Rattle.xl_smb.specs.declared.fault.SmbBad.{SmbBad}
 use Rattle.xl_smb.specs.declared.head.SmbHead.{SmbHead}
@@ -160,9 +161,17 @@ abbrev pub message_told : Result MessageItem SmbBad → List ℕ
 message_told (Ok m) = message_text m
 message_told (Err fault) = bad_text (number_of_fault fault)
 
+abbrev pub first_by : List ℕ → Result SmbHead SmbBad → List ℕ
+first_by frame (Ok h) = own_bytes h.next_command frame
+first_by frame (Err fault) = frame
+
+-- the first of several messages in one frame; all bytes if its NextCommand leads to no other (SHOW-5)
+unfoldable pub first_message : List ℕ → List ℕ
+first_message frame = first_by frame (head_of frame)
+
 -- a message of SMB
 abbrev pub smb_text : List ℕ → List ℕ
-smb_text bytes = message_told (message_at bytes)
+smb_text frame = message_told (message_at (first_message frame))
 
 -- ---- lines
 

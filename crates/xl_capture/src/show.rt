@@ -5,9 +5,10 @@ ghost use Rattle.std.specs.Option.{is_none};
 ghost use Rattle.xl_base.specs.Results.{GivesUnless};
 ghost use Rattle.xl_rpc.specs.Calls.{shown_head};
 ghost use Rattle.xl_nfs.specs.Ops.{shown_op};
+ghost use Rattle.xl_smb.specs.Compounds.{leads_on, own_bytes};
 ghost use Rattle.xl_smb.specs.Messages.{shown as shown_message};
 ghost use Rattle.xl_capture.specs.Capture.{lines_of, bytes_of, bad_line, ReadsAs};
-ghost use Rattle.xl_capture.specs.Show.{show_lines, bad_text, whole_word, is_nlm_shown, nlm_word, is_unlisted, ops_from, more_ops, ops_text, compound_word, nfs_word, call_word, call_text, reply_text, is_one, is_reply, rpc_text, head_text, is_other, is_other_reply, message_text, smb_text, rpc_line, smb_line, show_words, show_line, shown};
+ghost use Rattle.xl_capture.specs.Show.{show_lines, bad_text, whole_word, is_nlm_shown, nlm_word, is_unlisted, ops_from, more_ops, ops_text, compound_word, nfs_word, call_word, call_text, reply_text, is_one, is_reply, rpc_text, head_text, is_other, is_other_reply, message_text, first_message, smb_text, rpc_line, smb_line, show_words, show_line, shown};
 ghost use Rattle.xl_nfs.specs.Compounds.{compound_head_at};
 
 use crate::capture::{
@@ -21,7 +22,7 @@ use xl_nfs::{NfsOp, next_op, operation, read_head};
 use xl_nlm::procedure;
 use xl_programs::{NFS, NFS_VERSION, NLM, NLM_VERSION};
 use xl_rpc::{Call, CallHead, Reply, RpcBad, Verdict, Xdr, read_call, read_reply};
-use xl_smb::{Command, SmbHead, SmbMessage};
+use xl_smb::{Command, SmbHead, SmbMessage, read_head as read_smb_head};
 
 /// Adds what is said of a message that can't be read.
 fn put_bad(text: &mut String, fault: u32) -> Result<(), AllocError>
@@ -283,11 +284,40 @@ fn put_message(alloc: Global, text: &mut String, message: &SmbMessage) -> Result
     Ok(())
 }
 
-/// Adds what is said of the bytes of a message of SMB.
+/// Whether NextCommand leads to another header in so many bytes.
+fn leads_on(way: u32, count: usize) -> bool
+    ensures { result ≡ leads_on way count }
+{
+    way % 8 == 0 && way >= 64 && count >= way as usize + 64
+}
+
+/// The bytes up to the next header, if NextCommand leads to one.
+fn own_bytes(way: u32, bytes: &[u8]) -> &[u8]
+    ensures { result.now ≡ own_bytes way bytes.now }
+{
+    if leads_on(way, bytes.len()) {
+        bytes.split_at(way as usize).0
+    } else {
+        bytes
+    }
+}
+
+/// The first of several messages in one frame.
+#[tactic(auto, unfolding(crate::specs::Show::first_message))]
+fn first_message(frame: &[u8]) -> &[u8]
+    ensures { result.now ≡ first_message frame.now }
+{
+    match read_smb_head(frame) {
+        Ok(head) => own_bytes(head.next_command, frame),
+        Err(_) => frame,
+    }
+}
+
+/// Adds what is said of the bytes of a message of SMB, or of the first of several.
 fn put_smb(alloc: Global, text: &mut String, bytes: &[u8]) -> Result<(), AllocError>
     ensures { OnOk result (string_bytes text.new ≡ string_bytes text.old ++ smb_text bytes.now) }
 {
-    match xl_smb::read(bytes) {
+    match xl_smb::read(first_message(bytes)) {
         Ok(message) => put_message(alloc, text, &message)?,
         Err(fault) => put_bad(text, fault.number())?,
     }
