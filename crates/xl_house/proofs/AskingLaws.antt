@@ -37,8 +37,10 @@ use Rattle.xl_smb_laws.proofs.AskedMessageLaws.{message_asks}
 use Rattle.xl_house.specs.Asking.{AreNlmAsks, AreNfsAsks, AreSmbAsks, IsAskingBy, IsAsking}
 use Rattle.xl_house.specs.Lawful.{Always}
 use Rattle.xl_house.specs.Own.{program_own, record_own, message_own}
-use Rattle.xl_house.specs.State.{Whole, as_found, nfs_opens, smb_opens, start_of}
+use Rattle.xl_house.specs.State.{Whole, nfs_opens, smb_opens, start_of}
 use Rattle.xl_house.specs.declared.layers.Fronts.{Fronts}
+use Rattle.xl_core.proofs.GoodLaws.{begun_good}
+use Rattle.xl_house.proofs.DoneLaws.{each_round}
 use Rattle.xl_house.proofs.EachEntry.{always}
 
 -- the asks of a plan of this call are its
@@ -111,10 +113,9 @@ program_right n exports f s conn r program call is e =
 
 nlm_asking : (n : ℕ) (s : Whole) (number : ℕ) (bytes : List ℕ) → AreNlmAsks n s number bytes
 nlm_asking n s number bytes = λ rpc r asked nlm call e.
-    let found = as_found s in
-    subst (λ (kind : Option Kind). Rights s.exports s.front call (message_own n s.exports s.front found.core kind number bytes).deeds) (sym rpc)
-    (subst (λ (incoming : IncomingItem). Rights s.exports s.front call (record_own n s.exports s.front found.core number incoming).deeds) (sym asked)
-    (program_right n s.exports s.front found.core number r r.program call nlm e))
+    subst (λ (kind : Option Kind). Rights s.exports s.front call (message_own n s.exports s.front s.core kind number bytes).deeds) (sym rpc)
+    (subst (λ (incoming : IncomingItem). Rights s.exports s.front call (record_own n s.exports s.front s.core number incoming).deeds) (sym asked)
+    (program_right n s.exports s.front s.core number r r.program call nlm e))
 
 -- of NFSv4
 abbrev NfsRights : ℕ → Exports → Fronts → CoreState → RequestItem → List Deed → Type 0
@@ -122,25 +123,24 @@ NfsRights n exports f s r ds = AreRequestAsks n exports (smb_opens f) f.nfs s r 
 
 nfs_asking : (n : ℕ) (s : Whole) (number : ℕ) (bytes : List ℕ) → AreNfsAsks n s number bytes
 nfs_asking n s number bytes = λ rpc r asked nfs.
-    let found = as_found s in
-    subst (λ (kind : Option Kind). NfsRights n s.exports s.front found.core r (message_own n s.exports s.front found.core kind number bytes).deeds) (sym rpc)
-    (subst (λ (incoming : IncomingItem). NfsRights n s.exports s.front found.core r (record_own n s.exports s.front found.core number incoming).deeds) (sym asked)
-    (subst (λ (p : Program). NfsRights n s.exports s.front found.core r (program_own n s.exports s.front found.core number r p).deeds) (sym nfs)
-    (request_asks n s.exports (smb_opens s.front) s.front.nfs found.core r)))
+    subst (λ (kind : Option Kind). NfsRights n s.exports s.front s.core r (message_own n s.exports s.front s.core kind number bytes).deeds) (sym rpc)
+    (subst (λ (incoming : IncomingItem). NfsRights n s.exports s.front s.core r (record_own n s.exports s.front s.core number incoming).deeds) (sym asked)
+    (subst (λ (p : Program). NfsRights n s.exports s.front s.core r (program_own n s.exports s.front s.core number r p).deeds) (sym nfs)
+    (request_asks n s.exports (smb_opens s.front) s.front.nfs s.core r)))
 
 -- of SMB
 smb_asking : (n : ℕ) (s : Whole) (number : ℕ) (bytes : List ℕ) → AreSmbAsks n s number bytes
 smb_asking n s number bytes = λ packet.
-    let core = (as_found s).core in
-    subst (λ (kind : Option Kind). AreMessageAsks s.exports.files s.front.smb.state core number bytes (message_own n s.exports s.front core kind number bytes).deeds) (sym packet)
-    (message_asks n s.exports (nfs_opens s.front) s.front.smb core number bytes)
+    subst (λ (kind : Option Kind). AreMessageAsks s.exports.files s.front.smb.state s.core number bytes (message_own n s.exports s.front s.core kind number bytes).deeds) (sym packet)
+    (message_asks n s.exports (nfs_opens s.front) s.front.smb s.core number bytes)
 
 asking_by : (n : ℕ) (s : Whole) (event : Event) → IsAskingBy n s event
 asking_by n s (Message number bytes) = (nlm_asking n s number bytes, nfs_asking n s number bytes, smb_asking n s number bytes)
 asking_by n s event = tt
 
 pub always_asking : (head : Head) (es : List Entry) → Always IsAsking (start_of head) es
-always_asking head es = always IsAsking (λ n s e free. asking_by n s e.event) head es
+always_asking head es =
+    always IsAsking (λ n s e free. each_round n s e.event (λ r. IsAskingBy n r.found r.cause) ((λ t good. asking_by n t e.event), (λ t conn message good. asking_by n t (Message conn message))) (begun_good s.core free.good)) head es
 
 -- ---- a machine that doesn't
 

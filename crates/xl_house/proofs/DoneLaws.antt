@@ -1,5 +1,5 @@
 -- What is done in a round leaves the core as its deeds do, and the core takes them; and so it is of an entry.
-use Rattle.std.proofs.Common.{◌≡◌, ℕ, Bool, true, false, inl, inr, List, [], ◌∷◌, ◌++◌, Option, Some, None, refl, sym, ap, subst, ◌∙◌, append_assoc, append-nil}
+use Rattle.std.proofs.Common.{◌≡◌, ℕ, zero, suc, Bool, true, false, inl, inr, List, [], ◌∷◌, ◌++◌, Option, Some, None, refl, sym, ap, subst, ◌∙◌, append_assoc, append-nil}
 use Rattle.std.specs.List.{AllByRecursion}
 use Rattle.xl_base.proofs.Members.{all_append}
 use Rattle.xl_base.specs.declared.event.Event.{Event}
@@ -29,7 +29,7 @@ use Rattle.xl_core.specs.Stores.{may_store}
 use Rattle.xl_grace.specs.Grace.{is_over}
 use Rattle.xl_core.specs.Ticks.{advanced, is_still_held, is_lease_over, may_expire}
 use Rattle.xl_core.proofs.TickLaws.{tick_done, tick_fits, tick_tells}
-use Rattle.xl_core.proofs.DeedLists.{done_append, fit_append}
+use Rattle.xl_core.proofs.DeedLists.{deeds_good, done_append, fit_append}
 use Rattle.xl_front_nlm.proofs.AnswerLaws.{answer_does, answer_takes, answer_tells}
 use Rattle.xl_front_nlm.proofs.DoesLaws.{step_does, step_own, step_replies, step_takes, step_tells}
 use Rattle.xl_front_nlm.proofs.GrantLaws.{telling_does, telling_takes}
@@ -41,10 +41,18 @@ use Rattle.xl_nfs_laws.proofs.RequestDeedLaws as nfs
 use Rattle.xl_nfs_laws.proofs.RequestOwn as nfs_own
 use Rattle.xl_smb_laws.proofs.RequestDeedLaws as smb
 use Rattle.xl_smb_laws.proofs.RequestOwn as smb_own
-use Rattle.xl_house.specs.Done.{Round, deeds_by, told_deeds, turn_deeds, turns_deeds, told_of, behind_own, round_deeds, round_outs, rounds_deeds, rounds_outs, round_of, rounds, deeds, messages}
+use Rattle.xl_house.specs.Done.{Round, deeds_by, told_deeds, turn_deeds, turns_deeds, told_of, behind_own, round_deeds, round_outs, rounds_deeds, round_told, begun_with, done_round, first_by, first_round, heard_outs, joined_by, joined_for, joined_from, messages, part_by, round_of, rounds, rounds_by, rounds_for, rounds_in, step_by, step_round, top_by, top_round, turn_outs, deeds}
 use Rattle.xl_house.specs.Journals.{is_restart}
 use Rattle.xl_house.specs.Lawful.{may_do, may_follow, IsCausedBy}
-use Rattle.xl_house.specs.Machine.{replied_by, telling, heard}
+use Rattle.xl_smb_frames.specs.Steps.{next_step}
+use Rattle.xl_smb_frames.specs.declared.frame.Frame.{Frame}
+use Rattle.xl_smb_frames.specs.declared.steps.Step.{Step}
+use Rattle.xl_smb_frames.specs.declared.steps.Step.TheVariants as step
+use Rattle.xl_house.specs.Machine.{Gone, Ground, advanced_by, advanced_for, begun_by, cancelled_in, found_in, frame_in, frames_begun, gone, gone_by, gone_further, gone_on, heard, heard_in, is_plain, part_done, part_in, paused_after, replied_by, run, sorted_in, steps_left, telling}
+use Rattle.xl_house.specs.Sifting.{brings_frame, is_smb, last_apart, popped, sifted}
+use Rattle.xl_smb_frames.specs.declared.frame.Paused.{Paused}
+use Rattle.xl_house.specs.declared.connections.Connection.{Connection}
+use Rattle.xl_house.specs.declared.frames.Going.{Going}
 use Rattle.xl_house.specs.Own.{Own, begun, idle, program_own, record_own, message_own, end_own, own_of}
 use Rattle.xl_house.specs.Owners.{AreRefusals, AreOf}
 use Rattle.xl_house.specs.State.{Whole, as_found, nfs_opens, smb_opens, kind_of, rooms_of}
@@ -267,8 +275,8 @@ heard_takes n s event good =
     (subst (λ (t : CoreState). AreFit n t told) (own_row n s event).does (told_fit n s.exports g.2 g.3 g.1))
 
 -- the core at the end of a round
-abbrev pub left_by : ℕ → Whole → Event → CoreState
-left_by n s event = (settled n s.exports (heard n s event).1 (heard n s event).2).2
+abbrev pub round_left : ℕ → Whole → Event → CoreState
+round_left n s event = (settled n s.exports (heard n s event).1 (heard n s event).2).2
 
 abbrev turns_behind : ℕ → Whole → Event → List Deed
 turns_behind n s event = turns_deeds s.exports (turns n s.exports (heard n s event).1 (heard n s event).2)
@@ -276,7 +284,7 @@ turns_behind n s event = turns_deeds s.exports (turns n s.exports (heard n s eve
 round_is : (n : ℕ) (s : Whole) (event : Event) → own_and_told n s event ++ turns_behind n s event ≡ round_deeds (round_of n s event)
 round_is n s event = append_assoc (own_of n s event).deeds (told_of s.exports (own_of n s event).given) (turns_behind n s event)
 
-round_does : (n : ℕ) (s : Whole) (event : Event) → left_by n s event ≡ all_done n s.core (round_deeds (round_of n s event))
+round_does : (n : ℕ) (s : Whole) (event : Event) → round_left n s event ≡ all_done n s.core (round_deeds (round_of n s event))
 round_does n s event =
     let h = heard n s event in
     let later = turns_behind n s event in
@@ -292,33 +300,204 @@ round_takes n s event good =
     subst (λ (ds : List Deed). AreFit n s.core ds) (round_is n s event)
     (fit_append n s.core (own_and_told n s event) later (heard_takes n s event good) (subst (λ (t : CoreState). AreFit n t later) (heard_does n s event) (turns_fit n s.exports h.1 h.2)))
 
--- ---- an entry has one round
+-- ---- the rounds of a frame's parts
+
+deeds_append : (rs qs : List Round) → rounds_deeds (rs ++ qs) ≡ rounds_deeds rs ++ rounds_deeds qs
+deeds_append [] qs = refl
+deeds_append (r ∷ rs) qs = ap (λ (ds : List Deed). round_deeds r ++ ds) (deeds_append rs qs) ∙ sym (append_assoc (round_deeds r) (rounds_deeds rs) (rounds_deeds qs))
+
+-- one round alone
+one_does : (n : ℕ) (s : Whole) (event : Event) → round_left n s event ≡ all_done n s.core (rounds_deeds (round_of n s event ∷ []))
+one_does n s event = round_does n s event ∙ ap (λ (ds : List Deed). all_done n s.core ds) (sym (append-nil (round_deeds (round_of n s event))))
+
+one_takes : (n : ℕ) (s : Whole) (event : Event) → IsGood s.core → AreFit n s.core (rounds_deeds (round_of n s event ∷ []))
+one_takes n s event good = subst (λ (ds : List Deed). AreFit n s.core ds) (sym (append-nil (round_deeds (round_of n s event)))) (round_takes n s event good)
+
+part_does : (n : ℕ) (at : Ground) (g : Gone) (f : Frame) (message : List ℕ) (smb : Bool) → (part_done n at g f message smb).2 ≡ all_done n g.2 (rounds_deeds (done_round n at g f.conn message smb))
+part_does n at g f message true = one_does n (found_in at g.1 g.2) (Message f.conn message)
+part_does n at g f message false = refl
+
+went_does : (n : ℕ) (at : Ground) (g : Gone) (f : Frame) (next : Step) → (gone_on n at g f next).2 ≡ all_done n g.2 (rounds_deeds (step_round n at g f next))
+went_does n at g f step.Ends = refl
+went_does n at g f (step.Replied reply) = refl
+went_does n at g f (step.Asked message) = part_does n at g f message (is_smb (kind_of at.1 f.conn))
+
+top_does : (n : ℕ) (at : Ground) (g : Gone) → (gone_further n at g).2 ≡ all_done n g.2 (rounds_deeds (top_round n at g (popped g.0.stack).0))
+unfolding gone_further
+top_does n at g = by (popped g.0.stack) where
+  by : (p : Option Frame × List Frame) → (advanced_by n at g p).2 ≡ all_done n g.2 (rounds_deeds (top_round n at g p.0))
+  by (None, rest) = refl
+  by (Some f, rest) = went_does n at (record g.0 { stack = rest }, g.1, g.2) f (next_step f)
+
+rounds_do : (fuel n : ℕ) (at : Ground) (g : Gone) → (advanced_for fuel n at g).2 ≡ all_done n g.2 (rounds_deeds (rounds_for fuel n at g))
+rounds_do zero n at g = refl
+rounds_do (suc fuel) n at g =
+    let first = top_round n at g (popped g.0.stack).0 in
+    let later = rounds_for fuel n at (gone_further n at g) in
+    rounds_do fuel n at (gone_further n at g)
+    ∙ ap (λ (t : CoreState). all_done n t (rounds_deeds later)) (top_does n at g)
+    ∙ sym (done_append n g.2 (rounds_deeds first) (rounds_deeds later))
+    ∙ ap (λ (ds : List Deed). all_done n g.2 ds) (sym (deeds_append first later))
+
+part_takes : (n : ℕ) (at : Ground) (g : Gone) (conn : ℕ) (message : List ℕ) (smb : Bool) → IsGood g.2 → AreFit n g.2 (rounds_deeds (done_round n at g conn message smb))
+part_takes n at g conn message true good = one_takes n (found_in at g.1 g.2) (Message conn message) good
+part_takes n at g conn message false good = tt
+
+step_takes_part : (n : ℕ) (at : Ground) (g : Gone) (f : Frame) (next : Step) → IsGood g.2 → AreFit n g.2 (rounds_deeds (step_round n at g f next))
+step_takes_part n at g f step.Ends good = tt
+step_takes_part n at g f (step.Replied reply) good = tt
+step_takes_part n at g f (step.Asked message) good = part_takes n at g f.conn message (is_smb (kind_of at.1 f.conn)) good
+
+top_takes : (n : ℕ) (at : Ground) (g : Gone) (top : Option Frame) → IsGood g.2 → AreFit n g.2 (rounds_deeds (top_round n at g top))
+top_takes n at g None good = tt
+top_takes n at g (Some f) good = step_takes_part n at g f (next_step f) good
+
+pub further_good : (n : ℕ) (at : Ground) (g : Gone) → IsGood g.2 → IsGood (gone_further n at g).2
+further_good n at g good =
+    let top = (popped g.0.stack).0 in
+    subst (λ (t : CoreState). IsGood t) (sym (top_does n at g)) (deeds_good n g.2 (rounds_deeds (top_round n at g top)) good (top_takes n at g top good))
+
+rounds_take : (fuel n : ℕ) (at : Ground) (g : Gone) → IsGood g.2 → AreFit n g.2 (rounds_deeds (rounds_for fuel n at g))
+rounds_take zero n at g good = tt
+rounds_take (suc fuel) n at g good =
+    let first = top_round n at g (popped g.0.stack).0 in
+    let later = rounds_for fuel n at (gone_further n at g) in
+    let takes : AreFit n g.2 (rounds_deeds first) = top_takes n at g (popped g.0.stack).0 good in
+    subst (λ (ds : List Deed). AreFit n g.2 ds) (sym (deeds_append first later))
+    (fit_append n g.2 (rounds_deeds first) (rounds_deeds later) takes
+    (subst (λ (t : CoreState). AreFit n t (rounds_deeds later)) (top_does n at g) (rounds_take fuel n at (gone_further n at g) (further_good n at g good))))
+
+-- ---- the rounds of an entry in which frames go on
+
+begun_does : (n : ℕ) (s : Whole) (event : Event) → (frames_begun n s event).2 ≡ all_done n s.core (rounds_deeds (first_round n s event))
+unfolding frames_begun
+begun_does n s event = by (brings_frame s.connections event) where
+  by : (brings : Bool) → (begun_by n s event brings).2 ≡ all_done n s.core (rounds_deeds (first_by n s event brings))
+  by true = refl
+  by false = one_does n s event
+
+begun_takes : (n : ℕ) (s : Whole) (event : Event) → IsGood s.core → AreFit n s.core (rounds_deeds (first_round n s event))
+begun_takes n s event good = by (brings_frame s.connections event) where
+  by : (brings : Bool) → AreFit n s.core (rounds_deeds (first_by n s event brings))
+  by true = tt
+  by false = one_takes n s event good
+
+pub frames_good : (n : ℕ) (s : Whole) (event : Event) → IsGood s.core → IsGood (frames_begun n s event).2
+frames_good n s event good = subst (λ (t : CoreState). IsGood t) (sym (begun_does n s event)) (deeds_good n s.core (rounds_deeds (first_round n s event)) good (begun_takes n s event good))
+
+in_does : (n : ℕ) (s : Whole) (event : Event) → (heard_in n s event).2 ≡ all_done n s.core (rounds_deeds (rounds_in n s event))
+unfolding heard_in run
+in_does n s event =
+    let g = frames_begun n s event in
+    let at : Ground = (s.exports, s.connections) in
+    let first = first_round n s event in
+    let later = rounds_for (steps_left g.0) n at g in
+    rounds_do (steps_left g.0) n at g
+    ∙ ap (λ (t : CoreState). all_done n t (rounds_deeds later)) (begun_does n s event)
+    ∙ sym (done_append n s.core (rounds_deeds first) (rounds_deeds later))
+    ∙ ap (λ (ds : List Deed). all_done n s.core ds) (sym (deeds_append first later))
+
+in_takes : (n : ℕ) (s : Whole) (event : Event) → IsGood s.core → AreFit n s.core (rounds_deeds (rounds_in n s event))
+in_takes n s event good =
+    let g = frames_begun n s event in
+    let at : Ground = (s.exports, s.connections) in
+    let first = first_round n s event in
+    let later = rounds_for (steps_left g.0) n at g in
+    let takes : AreFit n s.core (rounds_deeds first) = begun_takes n s event good in
+    subst (λ (ds : List Deed). AreFit n s.core ds) (sym (deeds_append first later))
+    (fit_append n s.core (rounds_deeds first) (rounds_deeds later) takes
+    (subst (λ (t : CoreState). AreFit n t (rounds_deeds later)) (begun_does n s event) (rounds_take (steps_left g.0) n at g (frames_good n s event good))))
+
+-- ---- the rounds of an entry
 
 -- what holds of each event but a restart, and of that, holds of each
 pub each_event : (P : Event → Type 0) → ((e : Event) → is_restart e ≡ false → P e) → P Restart → (e : Event) → P e
 each_event P other restart Restart = restart
 each_event P other restart event = other event refl
 
-pub rounds_are : (n : ℕ) (s : Whole) (event : Event) → is_restart event ≡ false → rounds n s event ≡ round_of n (as_found s) event ∷ []
+-- the core at the end of an entry
+abbrev pub left_by : ℕ → Whole → Event → CoreState
+left_by n s event = (gone n s event).2
+
+pub rounds_are : (n : ℕ) (s : Whole) (event : Event) → is_restart event ≡ false → rounds n s event ≡ rounds_by n (as_found s) event (is_plain s event)
 unfolding rounds
 rounds_are n s Restart other = absurd cc
 rounds_are n s event other = refl
 
--- what holds of no round, and of this one, holds of an entry's
-pub each_round : (P : List Round → Type 0) (n : ℕ) (s : Whole) (event : Event) → P [] → P (round_of n (as_found s) event ∷ []) → P (rounds n s event)
-unfolding rounds
-each_round P n s event none one = each_event (λ e. P (round_of n (as_found s) e ∷ []) → P (rounds n s e)) (λ e other is. subst P (sym (rounds_are n s e other)) is) (λ is. none) event one
-
-pub deeds_are : (n : ℕ) (s : Whole) (event : Event) → is_restart event ≡ false → deeds n s event ≡ round_deeds (round_of n (as_found s) event)
+pub deeds_are : (n : ℕ) (s : Whole) (event : Event) → is_restart event ≡ false → deeds n s event ≡ rounds_deeds (rounds_by n (as_found s) event (is_plain s event))
 unfolding deeds
-deeds_are n s event other = ap rounds_deeds (rounds_are n s event other) ∙ append-nil (round_deeds (round_of n (as_found s) event))
+deeds_are n s event other = ap rounds_deeds (rounds_are n s event other)
 
 -- the step is its deeds
+gone_does : (n : ℕ) (s : Whole) (event : Event) → (gone n s event).2 ≡ all_done n s.core (rounds_deeds (rounds_by n s event (is_plain s event)))
+unfolding gone
+gone_does n s event = by (is_plain s event) where
+  by : (plain : Bool) → (gone_by n s event plain).2 ≡ all_done n s.core (rounds_deeds (rounds_by n s event plain))
+  by true = one_does n s event
+  by false = in_does n s event
+
 pub left_is : (n : ℕ) (s : Whole) (event : Event) → is_restart event ≡ false → left_by n (as_found s) event ≡ all_done n (step_begun s.core) (deeds n s event)
-left_is n s event other = round_does n (as_found s) event ∙ ap (λ (ds : List Deed). all_done n (step_begun s.core) ds) (sym (deeds_are n s event other))
+left_is n s event other = gone_does n (as_found s) event ∙ ap (λ (ds : List Deed). all_done n (step_begun s.core) ds) (sym (deeds_are n s event other))
+
+gone_takes : (n : ℕ) (s : Whole) (event : Event) (plain : Bool) → IsGood s.core → AreFit n s.core (rounds_deeds (rounds_by n s event plain))
+gone_takes n s event true good = one_takes n s event good
+gone_takes n s event false good = in_takes n s event good
 
 pub deeds_taken : (n : ℕ) (s : Whole) (event : Event) → is_restart event ≡ false → IsGood (step_begun s.core) → AreFit n (step_begun s.core) (deeds n s event)
-deeds_taken n s event other good = subst (λ (ds : List Deed). AreFit n (step_begun s.core) ds) (sym (deeds_are n s event other)) (round_takes n (as_found s) event good)
+deeds_taken n s event other good = subst (λ (ds : List Deed). AreFit n (step_begun s.core) ds) (sym (deeds_are n s event other)) (gone_takes n (as_found s) event (is_plain s event) good)
+
+-- ---- what holds of the deeds of each round
+
+-- what holds of no deeds, of deeds behind others, and of each round in a good state, holds of those of an entry
+abbrev pub Rounds : ℕ → (CoreState → List Deed → Type 0) → Type 0
+Rounds n Q = ((u : CoreState) → Q u []) × ((u : CoreState) (ds es : List Deed) → Q u ds → Q (all_done n u ds) es → Q u (ds ++ es)) × ((s : Whole) (event : Event) → IsGood s.core → Q s.core (round_deeds (round_of n s event)))
+
+one_holds : (n : ℕ) (Q : CoreState → List Deed → Type 0) → Rounds n Q → (s : Whole) (event : Event) → IsGood s.core → Q s.core (rounds_deeds (round_of n s event ∷ []))
+one_holds n Q law s event good = subst (λ (ds : List Deed). Q s.core ds) (sym (append-nil (round_deeds (round_of n s event)))) (law.2 s event good)
+
+part_holds : (n : ℕ) (Q : CoreState → List Deed → Type 0) → Rounds n Q → (at : Ground) (g : Gone) (conn : ℕ) (message : List ℕ) (smb : Bool) → IsGood g.2 → Q g.2 (rounds_deeds (done_round n at g conn message smb))
+part_holds n Q law at g conn message true good = one_holds n Q law (found_in at g.1 g.2) (Message conn message) good
+part_holds n Q law at g conn message false good = law.0 g.2
+
+step_holds : (n : ℕ) (Q : CoreState → List Deed → Type 0) → Rounds n Q → (at : Ground) (g : Gone) (f : Frame) (next : Step) → IsGood g.2 → Q g.2 (rounds_deeds (step_round n at g f next))
+step_holds n Q law at g f step.Ends good = law.0 g.2
+step_holds n Q law at g f (step.Replied reply) good = law.0 g.2
+step_holds n Q law at g f (step.Asked message) good = part_holds n Q law at g f.conn message (is_smb (kind_of at.1 f.conn)) good
+
+top_holds : (n : ℕ) (Q : CoreState → List Deed → Type 0) → Rounds n Q → (at : Ground) (g : Gone) (top : Option Frame) → IsGood g.2 → Q g.2 (rounds_deeds (top_round n at g top))
+top_holds n Q law at g None good = law.0 g.2
+top_holds n Q law at g (Some f) good = step_holds n Q law at g f (next_step f) good
+
+steps_hold : (fuel n : ℕ) (Q : CoreState → List Deed → Type 0) → Rounds n Q → (at : Ground) (g : Gone) → IsGood g.2 → Q g.2 (rounds_deeds (rounds_for fuel n at g))
+steps_hold zero n Q law at g good = law.0 g.2
+steps_hold (suc fuel) n Q law at g good =
+    let first = top_round n at g (popped g.0.stack).0 in
+    let later = rounds_for fuel n at (gone_further n at g) in
+    subst (λ (ds : List Deed). Q g.2 ds) (sym (deeds_append first later))
+    (law.1 g.2 (rounds_deeds first) (rounds_deeds later) (top_holds n Q law at g (popped g.0.stack).0 good)
+    (subst (λ (t : CoreState). Q t (rounds_deeds later)) (top_does n at g) (steps_hold fuel n Q law at (gone_further n at g) (further_good n at g good))))
+
+begun_holds : (n : ℕ) (Q : CoreState → List Deed → Type 0) → Rounds n Q → (s : Whole) (event : Event) (brings : Bool) → IsGood s.core → Q s.core (rounds_deeds (first_by n s event brings))
+begun_holds n Q law s event true good = law.0 s.core
+begun_holds n Q law s event false good = one_holds n Q law s event good
+
+in_holds : (n : ℕ) (Q : CoreState → List Deed → Type 0) → Rounds n Q → (s : Whole) (event : Event) → IsGood s.core → Q s.core (rounds_deeds (rounds_in n s event))
+in_holds n Q law s event good =
+    let g = frames_begun n s event in
+    let at : Ground = (s.exports, s.connections) in
+    let first = first_round n s event in
+    let later = rounds_for (steps_left g.0) n at g in
+    subst (λ (ds : List Deed). Q s.core ds) (sym (deeds_append first later))
+    (law.1 s.core (rounds_deeds first) (rounds_deeds later) (begun_holds n Q law s event (brings_frame s.connections event) good)
+    (subst (λ (t : CoreState). Q t (rounds_deeds later)) (begun_does n s event) (steps_hold (steps_left g.0) n Q law at g (frames_good n s event good))))
+
+rounds_hold : (n : ℕ) (Q : CoreState → List Deed → Type 0) → Rounds n Q → (s : Whole) (event : Event) (plain : Bool) → IsGood s.core → Q s.core (rounds_deeds (rounds_by n s event plain))
+rounds_hold n Q law s event true good = one_holds n Q law s event good
+rounds_hold n Q law s event false good = in_holds n Q law s event good
+
+pub deeds_hold : (n : ℕ) (Q : CoreState → List Deed → Type 0) → Rounds n Q → (s : Whole) (event : Event) → is_restart event ≡ false → IsGood (step_begun s.core) → Q (step_begun s.core) (deeds n s event)
+deeds_hold n Q law s event other good =
+    subst (λ (ds : List Deed). Q (step_begun s.core) ds) (sym (deeds_are n s event other)) (rounds_hold n Q law (as_found s) event (is_plain s event) good)
 
 -- ---- causes
 
@@ -327,21 +506,140 @@ behind_follows r =
     let g = r.own.given in
     all_append (λ d. may_follow d ≡ true) (told_of r.found.exports g) (turns_deeds r.found.exports r.turns) (told_follow r.found.exports g.2 g.3 g.1) (turns_follow r.found.exports r.turns)
 
-pub round_caused : (n : ℕ) (s : Whole) (event : Event) → IsGood s.core → IsCausedBy n event (round_of n s event)
-round_caused n s event good = record { cause = refl; own = (own_row n s event).may good; clients = (own_row n s event).own good; behind = behind_follows (round_of n s event) }
+round_caused : (n : ℕ) (s : Whole) (event : Event) → IsGood s.core → IsCausedBy n event (round_of n s event)
+round_caused n s event good = record { cause = inl refl; own = (own_row n s event).may good; clients = (own_row n s event).own good; behind = behind_follows (round_of n s event) }
+
+part_caused : (n : ℕ) (s : Whole) (event : Event) (conn : ℕ) (message : List ℕ) → IsGood s.core → IsCausedBy n event (round_of n s (Message conn message))
+part_caused n s event conn message good =
+    let cause = Message conn message in
+    record { cause = inr (conn, message, refl); own = (own_row n s cause).may good; clients = (own_row n s cause).own good; behind = behind_follows (round_of n s cause) }
+
+-- ---- what holds of each round
+
+-- a restart has none
+pub restarts : (n : ℕ) (s : Whole) (P : Round → Type 0) → AllByRecursion P (rounds n s Restart)
+unfolding rounds
+restarts n s P = tt
+
+-- what holds of the round of the event, and of each part, in a good state, holds of each round of an entry
+abbrev pub EachRound : ℕ → Event → (Round → Type 0) → Type 0
+EachRound n event P = ((s : Whole) → IsGood s.core → P (round_of n s event)) × ((s : Whole) (conn : ℕ) (message : List ℕ) → IsGood s.core → P (round_of n s (Message conn message)))
+
+part_each : (n : ℕ) (event : Event) (P : Round → Type 0) → EachRound n event P → (at : Ground) (g : Gone) (conn : ℕ) (message : List ℕ) (smb : Bool) → IsGood g.2 → AllByRecursion P (done_round n at g conn message smb)
+part_each n event P law at g conn message true good = (law.1 (found_in at g.1 g.2) conn message good, tt)
+part_each n event P law at g conn message false good = tt
+
+step_each : (n : ℕ) (event : Event) (P : Round → Type 0) → EachRound n event P → (at : Ground) (g : Gone) (f : Frame) (next : Step) → IsGood g.2 → AllByRecursion P (step_round n at g f next)
+step_each n event P law at g f step.Ends good = tt
+step_each n event P law at g f (step.Replied reply) good = tt
+step_each n event P law at g f (step.Asked message) good = part_each n event P law at g f.conn message (is_smb (kind_of at.1 f.conn)) good
+
+top_each : (n : ℕ) (event : Event) (P : Round → Type 0) → EachRound n event P → (at : Ground) (g : Gone) (top : Option Frame) → IsGood g.2 → AllByRecursion P (top_round n at g top)
+top_each n event P law at g None good = tt
+top_each n event P law at g (Some f) good = step_each n event P law at g f (next_step f) good
+
+steps_each : (fuel n : ℕ) (event : Event) (P : Round → Type 0) → EachRound n event P → (at : Ground) (g : Gone) → IsGood g.2 → AllByRecursion P (rounds_for fuel n at g)
+steps_each zero n event P law at g good = tt
+steps_each (suc fuel) n event P law at g good =
+    all_append P (top_round n at g (popped g.0.stack).0) (rounds_for fuel n at (gone_further n at g)) (top_each n event P law at g (popped g.0.stack).0 good) (steps_each fuel n event P law at (gone_further n at g) (further_good n at g good))
+
+first_each : (n : ℕ) (event : Event) (P : Round → Type 0) → EachRound n event P → (s : Whole) (brings : Bool) → IsGood s.core → AllByRecursion P (first_by n s event brings)
+first_each n event P law s true good = tt
+first_each n event P law s false good = (law.0 s good, tt)
+
+rounds_each : (n : ℕ) (event : Event) (P : Round → Type 0) → EachRound n event P → (s : Whole) (plain : Bool) → IsGood s.core → AllByRecursion P (rounds_by n s event plain)
+rounds_each n event P law s true good = (law.0 s good, tt)
+rounds_each n event P law s false good =
+    let g = frames_begun n s event in
+    all_append P (first_round n s event) (rounds_for (steps_left g.0) n (s.exports, s.connections) g) (first_each n event P law s (brings_frame s.connections event) good) (steps_each (steps_left g.0) n event P law (s.exports, s.connections) g (frames_good n s event good))
+
+pub each_round : (n : ℕ) (s : Whole) (event : Event) (P : Round → Type 0) → EachRound n event P → IsGood (step_begun s.core) → AllByRecursion P (rounds n s event)
+each_round n s event P law good =
+    each_event (λ e. EachRound n e P → AllByRecursion P (rounds n s e)) (λ e other holds. subst (λ (rs : List Round). AllByRecursion P rs) (sym (rounds_are n s e other)) (rounds_each n e P holds (as_found s) (is_plain s e) good)) (λ holds. restarts n s P) event law
+
+pub rounds_caused : (n : ℕ) (s : Whole) (event : Event) → IsGood (step_begun s.core) → AllByRecursion (λ r. IsCausedBy n event r) (rounds n s event)
+rounds_caused n s event good = each_round n s event (λ r. IsCausedBy n event r) ((λ t well. round_caused n t event well), (λ t conn message well. part_caused n t event conn message well)) good
 
 -- ---- what is sent
 
-round_sends : (n : ℕ) (s : Whole) (event : Event) → (heard n s event).0 ++ (settled n s.exports (heard n s event).1 (heard n s event).2).0 ≡ round_outs (round_of n s event)
-unfolding heard settled
-round_sends n s event =
-    let g = (own_of n s event).given in
-    let kind = replied_by s event in
-    let told = telling s.exports g in
-    let last = (turns_sent s.exports told.1 told.2 (turns n s.exports told.1 told.2)).0 in
-    append_assoc told.0 (framed_by kind g.0) last ∙ ap (λ (outs : List Out). told.0 ++ (framed_by kind outs ++ last)) (own_row n s event).sends
+heard_sends : (n : ℕ) (s : Whole) (event : Event) → (heard n s event).0 ≡ heard_outs (round_of n s event)
+unfolding heard
+heard_sends n s event = ap (λ (outs : List Out). (telling s.exports (own_of n s event).given).0 ++ framed_by (replied_by s event) outs) (own_row n s event).sends
 
-pub all_sent : (n : ℕ) (s : Whole) (event : Event) → is_restart event ≡ false → (let found = as_found s in (heard n found event).0 ++ (settled n s.exports (heard n found event).1 (heard n found event).2).0 ≡ messages n s event)
+turns_send : (n : ℕ) (s : Whole) (event : Event) → (settled n s.exports (heard n s event).1 (heard n s event).2).0 ≡ turn_outs (round_of n s event)
+unfolding heard settled
+turns_send n s event = refl
+
+round_sends : (n : ℕ) (s : Whole) (event : Event) → (heard n s event).0 ++ (settled n s.exports (heard n s event).1 (heard n s event).2).0 ≡ round_outs (round_of n s event)
+round_sends n s event =
+    let r = round_of n s event in
+    let first = heard_sends n s event in
+    let later = turns_send n s event in
+    (λ i. first i ++ later i) ∙ append_assoc (round_told r).0 (framed_by (replied_by s event) r.own.replies) (turn_outs r)
+
+-- the replies of a frame
+
+part_sends : (n : ℕ) (at : Ground) (g : Gone) (f : Frame) (message : List ℕ) (smb : Bool) (rest : List Round) → part_by g.0 f smb (done_round n at g f.conn message smb ++ rest) ≡ ((part_done n at g f message smb).0, rest)
+part_sends n at g f message true rest =
+    let first = sym (heard_sends n (found_in at g.1 g.2) (Message f.conn message)) in
+    let later = sym (turns_send n (found_in at g.1 g.2) (Message f.conn message)) in
+    (λ i. (sorted_in (part_in g.0 f (last_apart (first i))) (sifted false (part_in g.0 f (last_apart (first i))).paused (later i)), rest))
+part_sends n at g f message false rest = refl
+
+step_sends : (n : ℕ) (at : Ground) (g : Gone) (f : Frame) (next : Step) (rest : List Round) → step_by at.1 g.0 f next (step_round n at g f next ++ rest) ≡ ((gone_on n at g f next).0, rest)
+step_sends n at g f step.Ends rest = refl
+step_sends n at g f (step.Replied reply) rest = refl
+step_sends n at g f (step.Asked message) rest = part_sends n at g f message (is_smb (kind_of at.1 f.conn)) rest
+
+top_sends : (n : ℕ) (at : Ground) (g : Gone) (rest : List Round) → top_by at.1 g.0 (popped g.0.stack) (top_round n at g (popped g.0.stack).0 ++ rest) ≡ ((gone_further n at g).0, rest)
+unfolding gone_further
+top_sends n at g rest = by (popped g.0.stack) where
+  by : (p : Option Frame × List Frame) → top_by at.1 g.0 p (top_round n at g p.0 ++ rest) ≡ ((advanced_by n at g p).0, rest)
+  by (None, others) = refl
+  by (Some f, others) = step_sends n at (record g.0 { stack = others }, g.1, g.2) f (next_step f) rest
+
+steps_send : (fuel n : ℕ) (at : Ground) (g : Gone) → (advanced_for fuel n at g).0 ≡ joined_for fuel at.1 (g.0, rounds_for fuel n at g)
+steps_send zero n at g = refl
+steps_send (suc fuel) n at g =
+    steps_send fuel n at (gone_further n at g)
+    ∙ ap (λ (j : Going × List Round). joined_for fuel at.1 j) (sym (top_sends n at g (rounds_for fuel n at (gone_further n at g))))
+
+begun_sends : (n : ℕ) (s : Whole) (event : Event) (brings : Bool) (rest : List Round) → begun_with s.paused event brings (first_by n s event brings ++ rest) ≡ ((begun_by n s event brings).0, rest)
+begun_sends n s event true rest = refl
+begun_sends n s event false rest =
+    let first = sym (heard_sends n s event) in
+    let later = sym (turns_send n s event) in
+    (λ i. (sorted_in (cancelled_in (sifted true (paused_after s.paused event) (first i))) (sifted false (cancelled_in (sifted true (paused_after s.paused event) (first i))).paused (later i)), rest))
+
+in_sends : (n : ℕ) (s : Whole) (event : Event) → (heard_in n s event).0.outs ≡ joined_by s event (rounds_in n s event) false
+unfolding heard_in run frames_begun
+in_sends n s event =
+    let at : Ground = (s.exports, s.connections) in
+    let brings = brings_frame s.connections event in
+    let g = begun_by n s event brings in
+    let later = rounds_for (steps_left g.0) n at g in
+    ap (λ (go : Going). go.outs) (steps_send (steps_left g.0) n at g)
+    ∙ ap (λ (j : Going × List Round). (joined_from s.connections j).outs) (sym (begun_sends n s event brings later))
+
+gone_sends : (n : ℕ) (s : Whole) (event : Event) → (gone n s event).0.outs ≡ joined_by s event (rounds_by n s event (is_plain s event)) (is_plain s event)
+unfolding gone
+gone_sends n s event = by (is_plain s event) where
+  by : (plain : Bool) → (gone_by n s event plain).0.outs ≡ joined_by s event (rounds_by n s event plain) plain
+  by true = round_sends n s event ∙ sym (append-nil (round_outs (round_of n s event)))
+  by false = in_sends n s event
+
+pub all_sent : (n : ℕ) (s : Whole) (event : Event) → is_restart event ≡ false → (gone n (as_found s) event).0.outs ≡ messages n s event
 unfolding messages
-all_sent n s event other =
-    round_sends n (as_found s) event ∙ sym (append-nil (round_outs (round_of n (as_found s) event))) ∙ ap rounds_outs (sym (rounds_are n s event other))
+all_sent n s event other = gone_sends n (as_found s) event ∙ ap (λ (rs : List Round). joined_by s event rs (is_plain s event)) (sym (rounds_are n s event other))
+
+-- a restart sends nothing
+none_joined : (fuel : ℕ) (cs : List Connection) (ps : List Paused) → (joined_for fuel cs (record { paused = ps; stack = []; outs = [] }, [])).outs ≡ []
+none_joined zero cs ps = refl
+none_joined (suc fuel) cs ps = none_joined fuel cs ps
+
+pub restart_sends : (n : ℕ) (s : Whole) → messages n s Restart ≡ []
+unfolding messages rounds
+restart_sends n s = by (is_plain s Restart) where
+  by : (plain : Bool) → joined_by s Restart [] plain ≡ []
+  by true = refl
+  by false = none_joined (steps_left (frame_in s.paused Restart)) s.connections s.paused

@@ -1,14 +1,14 @@
 -- Who waits, waits for itself. So nobody waits for a client once it expired, and its name doesn't come into the record again in that
 -- entry.
-use Rattle.std.proofs.Common.{◌≡◌, ℕ, Bool, true, false, not, ◌||◌, ◌==◌, inl, inr, ◌⊎◌, List, [], ◌∷◌, ◌++◌, Option, Some, None, IfSome, option_map, refl, sym, ap, subst, ◌∙◌}
+use Rattle.std.proofs.Common.{◌≡◌, ℕ, Bool, true, false, not, ◌&&◌, ◌||◌, ◌==◌, inl, inr, ◌⊎◌, List, [], ◌∷◌, ◌++◌, Option, Some, None, option_map, refl, sym, ap, subst, ◌∙◌}
 use Rattle.std.specs.Prelude.{bytes_eq}
 use Rattle.std.specs.List.{AllByRecursion, filter, list_any, slice_get}
 use Rattle.std.proofs.lemmas.Bool.{cases_Bool, both_ways, and_parts}
 use Rattle.std.proofs.lemmas.Option.{same_Some}
 use Rattle.std.proofs.lemmas.Slice.Eq.{bytes_eq-Decides}
-use Rattle.xl_base.proofs.Members.{all_in, all_append}
+use Rattle.xl_base.proofs.Members.{all_in, all_from, all_weaker, all_append}
 use Rattle.xl_base.specs.Lists.{IsIn}
-use Rattle.xl_base.specs.Stable.{Stable, same_protocol, same_name, is_recorded}
+use Rattle.xl_base.specs.Stable.{same_protocol, same_name, is_recorded}
 use Rattle.xl_base.specs.declared.event.Moment.{Moment}
 use Rattle.xl_base.specs.declared.name.Owner.{Owner}
 use Rattle.xl_base.specs.declared.name.Owner.TheVariants as owners
@@ -29,10 +29,10 @@ use Rattle.xl_wait.specs.declared.waiter.Waiter.{Waiter}
 use Rattle.xl_core.specs.Askers.{asked_claims, asked_whats, asking_party, party_named}
 use Rattle.xl_core.specs.BreakAnswers.{client_of}
 use Rattle.xl_core.specs.Decide.{waiter_of, ask}
-use Rattle.xl_core.specs.Deeds.{Deed, Asks, GivesBack, Weakens, Acks, Cancels, Ends, Serves, Draws, Advances, Lapses, Renews, Expires, Closes, FailsStore, EndsGrace, given, turned, done, all_done, all_told_of, IsFitDeed, AreFit, queue_with, queue_without, queue_without_party, queue_without_client, waits_after}
-use Rattle.xl_core.specs.Frames.{IsFrame, who_expired, calls_in}
+use Rattle.xl_core.specs.Deeds.{Deed, Asks, GivesBack, Weakens, Acks, Cancels, Ends, Serves, Draws, Advances, Lapses, Renews, Expires, Closes, FailsStore, EndsGrace, given, done, all_done, all_told_of, IsFitDeed, AreFit, queue_with, queue_without, queue_without_party, queue_without_client, waits_after, KeepNames}
+use Rattle.xl_core.specs.Frames.{who_expired}
 use Rattle.xl_core.specs.Good.{IsGood, IsKnown, IsPled, IsWaiter, agree, are_kept, is_lease_of}
-use Rattle.xl_core.specs.Settle.{settle, end_party, waits_for}
+use Rattle.xl_core.specs.Settle.{end_party, waits_for}
 use Rattle.xl_core.specs.Standings.{recorded_at, recorded_by, recorded_name}
 use Rattle.xl_core.specs.State.{CoreState, drawn}
 use Rattle.xl_core.specs.Stores.{client_name}
@@ -43,11 +43,12 @@ use Rattle.xl_core.specs.declared.ask.Ask.{Ask}
 use Rattle.xl_core.specs.declared.ask.Effect.{Effect}
 use Rattle.xl_core.specs.declared.ask.Effect.TheVariants.{Begun, Served, Cancelled, Expired}
 use Rattle.xl_core.proofs.AsideLaws.{failed_aside, grace_aside}
-use Rattle.xl_core.proofs.DeedLaws.{deed_good, deed_queues}
-use Rattle.xl_core.proofs.FrameLaws.{ended_expires, expired_both, turn_frame}
+use Rattle.xl_core.proofs.DeedLaws.{deed_good, deed_names, deed_queues}
+use Rattle.xl_core.proofs.FrameLaws.{ended_expires, expired_both}
 use Rattle.xl_core.proofs.PutOffLaws.{expired_is}
 use Rattle.xl_house.specs.Free.{WaitsForItself}
-use Rattle.xl_house.specs.Lawful.{may_follow}
+use Rattle.xl_house.specs.Recording.{IsMonitored}
+use Rattle.xl_house.proofs.PartLaws.{AreOfParts, IsOfPart}
 use Rattle.xl_house.proofs.MarkLaws.{like_in, recorded_of}
 use Rattle.xl_house.proofs.RecordingLaws.{deed_from}
 use Rattle.xl_house.proofs.StoringLaws.{is_clocked}
@@ -335,45 +336,81 @@ clock_clears n s (d ∷ ds) client clock good fit all there =
       | inr later ↦ clock_clears n t ds client clock.1 sound fit.1 (deed_waits WaitsForItself n s d good fit.0 (comes_for_itself s d) all) later
     ]
 
--- ---- the turns behind
+-- ---- the turns behind, and what the parts of frames do
 
-turned_names : (s : CoreState) (o : Option (List Effect × CoreState)) → IfSome o (λ r. IsFrame s r.0 r.1 (calls_in r.0) s.names []) → (turned s o).2.names ≡ s.names
-turned_names s None frame = refl
-turned_names s (Some r) frame = frame.names
+-- the party's name, if it has one, is kept
+abbrev IsNamedIn : List Name → Party → Type 0
+IsNamedIn names (parties.Name protocol number) = (name : Name) × (slice_get names number ≡ Some name)
+IsNamedIn names (parties.Open number) = Unit {0}
 
-follow_names : (n : ℕ) (s : CoreState) (d : Deed) → may_follow d ≡ true → IsGood s → (done n s d).names ≡ s.names
-follow_names n s (Serves left) follows good = turned_names s (settle n left s) (turn_frame n left s good)
-follow_names n s Draws follows good = drawn_names s
-follow_names n s d follows good = absurd (both_ways false refl follows)
+-- if the record may come to name who waits, that isn't this client
+abbrev pub IsUnrecorded : List Name → List ℕ → Waiter → Type 0
+IsUnrecorded names client w = w.monitored ≡ true → IsOther names client w × IsNamedIn names w.party
 
-follow_comes : (P : Waiter → Type 0) (s : CoreState) (d : Deed) → may_follow d ≡ true → MayCome P s d
-follow_comes P s (Asks left a) follows = absurd (both_ways false refl follows)
-follow_comes P s d follows = tt
+agreed : (protocol other : Protocol) (owner party : Option Name) → agree protocol other owner party ≡ true → (name : Name) × (party ≡ Some name)
+agreed protocol other (Some owner) (Some name) e = (name, refl)
+agreed protocol other None party e = absurd (both_ways false refl e)
+agreed protocol other (Some owner) None e = absurd (both_ways false refl e)
 
-drawn_stable : (s : CoreState) → (drawn s).stable ≡ s.stable
-unfolding drawn
-drawn_stable s = refl
+leased : (protocol : Protocol) (party : Option Name) → is_lease_of protocol party ≡ true → (name : Name) × (party ≡ Some name)
+leased protocol (Some name) e = (name, refl)
+leased protocol None e = absurd (both_ways false refl e)
 
--- a name of which nobody waits doesn't come into the record by a turn
-follow_forgets : (n : ℕ) (s : CoreState) (d : Deed) (client : List ℕ) → may_follow d ≡ true → IsGood s → IsFitDeed s d → AllByRecursion (IsOther s.names client) s.waiters → is_recorded (client_name client) s.stable.names ≡ false → is_recorded (client_name client) (done n s d).stable.names ≡ false
-follow_forgets n s (Serves left) client follows good fit all out =
-    elim (cases_Bool (is_recorded (client_name client) (done n s (Serves left)).stable.names)) [
+known_named : (names : List Name) (owner : Owner) (party : Party) → are_kept names owner party ≡ true → IsNamedIn names party
+known_named names owner (parties.Open number) kept = tt
+known_named names (owners.Name protocol at) (parties.Name other number) kept = agreed protocol other (slice_get names at) (slice_get names number) kept
+known_named names (owners.Open at) (parties.Name other number) kept = leased other (slice_get names number) kept
+
+-- as who waits is known
+waits_named : (s : CoreState) (w : Waiter) → IsGood s → IsIn w s.waiters → WaitsForItself w → IsNamedIn s.names w.party
+waits_named s w good there itself =
+    let is = all_in (IsWaiter s.names s.counter) w s.waiters good.waiters there in
+    let asks = first_asked w is.2 in
+    subst (λ (p : Party). IsNamedIn s.names p) (subst (λ (cs : List Claim). AllByRecursion (λ c. c.party ≡ w.party) cs) asks.2 itself).0
+    (known_named s.names asks.0.owner asks.0.party (subst (λ (cs : List Claim). AllByRecursion (IsKnown s.names) cs) asks.2 is.1).0.1)
+
+pub all_unrecorded : (s : CoreState) (client : List ℕ) → IsGood s → AllByRecursion WaitsForItself s.waiters → AllByRecursion (IsOther s.names client) s.waiters → AllByRecursion (IsUnrecorded s.names client) s.waiters
+all_unrecorded s client good itself other =
+    all_from (IsUnrecorded s.names client) s.waiters (λ w there monitored. (all_in (IsOther s.names client) w s.waiters other there, waits_named s w good there (all_in WaitsForItself w s.waiters itself there)))
+
+-- so it is still once more names are kept
+still_by : (old new : List Name) (client : List ℕ) (party : Party) → KeepNames old new → (same_name (recorded_at old party) (client_name client) ≡ true → ⊥) × IsNamedIn old party → (same_name (recorded_at new party) (client_name client) ≡ true → ⊥) × IsNamedIn new party
+still_by old new client (parties.Open number) keep is = is
+still_by old new client (parties.Name protocol number) keep is =
+    let after = keep number is.1.0 is.1.1 in
+    (λ e. is.0 (ap (λ (o : Option Name). same_name (recorded_by o) (client_name client)) (is.1.1 ∙ sym after) ∙ e), (is.1.0, after))
+
+still_unrecorded : (old new : List Name) (client : List ℕ) (ws : List Waiter) → KeepNames old new → AllByRecursion (IsUnrecorded old client) ws → AllByRecursion (IsUnrecorded new client) ws
+still_unrecorded old new client ws keep all = all_weaker (IsUnrecorded old client) (IsUnrecorded new client) ws (λ w is monitored. still_by old new client w.party keep (is monitored)) all
+
+-- who comes to wait by a part's deed is none whom the record may come to name
+part_comes : (s : CoreState) (d : Deed) (client : List ℕ) → IsOfPart d → MayCome (IsUnrecorded s.names client) s d
+part_comes s (Asks left a) client part = λ id monitored. absurd (both_ways (a.monitored && not a.reclaim) (ap (λ (b : Bool). b && not a.reclaim) part) monitored)
+part_comes s d client part = tt
+
+-- a name of which nobody waits doesn't come into the record by such a deed
+none_comes : (n : ℕ) (s : CoreState) (d : Deed) (client : List ℕ) (name : Recorded) → IsOfPart d → AllByRecursion (IsUnrecorded s.names client) s.waiters → same_name name (client_name client) ≡ true → IsMonitored name n s d → ⊥
+none_comes n s (Asks left a) client name part all same by = both_ways a.monitored part by.3
+none_comes n s (Serves left) client name part all same by = (all_in (IsUnrecorded s.names client) by.0 s.waiters all by.3 by.5).0 (ap (λ (x : Recorded). same_name x (client_name client)) by.7 ∙ same)
+none_comes n s d client name part all same by = absurd by
+
+part_forgets : (n : ℕ) (s : CoreState) (d : Deed) (client : List ℕ) → IsOfPart d → IsGood s → IsFitDeed s d → AllByRecursion (IsUnrecorded s.names client) s.waiters → is_recorded (client_name client) s.stable.names ≡ false → is_recorded (client_name client) (done n s d).stable.names ≡ false
+part_forgets n s d client part good fit all out =
+    elim (cases_Bool (is_recorded (client_name client) (done n s d).stable.names)) [
       | inr none ↦ none
       | inl came ↦
-          let held = recorded_of (client_name client) (done n s (Serves left)).stable.names came in
-          elim (deed_from n s (Serves left) held.0 good fit held.1) [
+          let held = recorded_of (client_name client) (done n s d).stable.names came in
+          elim (deed_from n s d held.0 good fit held.1) [
             | inl before ↦ absurd (both_ways (is_recorded (client_name client) s.stable.names) out (like_in (client_name client) held.0 s.stable.names before held.2))
-            | inr by ↦ absurd (all_in (IsOther s.names client) by.0 s.waiters all by.3 (ap (λ (x : Recorded). same_name x (client_name client)) by.7 ∙ held.2))
+            | inr by ↦ absurd (none_comes n s d client held.0 part all held.2 by)
           ]
     ]
-follow_forgets n s Draws client follows good fit all out = ap (λ (x : Stable). is_recorded (client_name client) x.names) (drawn_stable s) ∙ out
-follow_forgets n s d client follows good fit all out = absurd (both_ways false refl follows)
 
-pub turns_forget : (n : ℕ) (s : CoreState) (ds : List Deed) (client : List ℕ) → AllByRecursion (λ d. may_follow d ≡ true) ds → IsGood s → AreFit n s ds → AllByRecursion (IsOther s.names client) s.waiters → is_recorded (client_name client) s.stable.names ≡ false
+pub parts_forget : (n : ℕ) (s : CoreState) (ds : List Deed) (client : List ℕ) → AreOfParts ds → IsGood s → AreFit n s ds → AllByRecursion (IsUnrecorded s.names client) s.waiters → is_recorded (client_name client) s.stable.names ≡ false
     → is_recorded (client_name client) (all_done n s ds).stable.names ≡ false
-turns_forget n s [] client follow good fit all out = out
-turns_forget n s (d ∷ ds) client follow good fit all out =
+parts_forget n s [] client parts good fit all out = out
+parts_forget n s (d ∷ ds) client parts good fit all out =
     let t = done n s d in
-    turns_forget n t ds client follow.1 (deed_good n s d good fit.0) fit.1
-    (subst (λ (names : List Name). AllByRecursion (IsOther names client) t.waiters) (sym (follow_names n s d follow.0 good)) (deed_waits (IsOther s.names client) n s d good fit.0 (follow_comes (IsOther s.names client) s d follow.0) all))
-    (follow_forgets n s d client follow.0 good fit.0 all out)
+    parts_forget n t ds client parts.1 (deed_good n s d good fit.0) fit.1
+    (still_unrecorded s.names t.names client t.waiters (deed_names n s d good fit.0) (deed_waits (IsUnrecorded s.names client) n s d good fit.0 (part_comes s d client parts.0) all))
+    (part_forgets n s d client parts.0 good fit.0 all out)

@@ -1,6 +1,6 @@
 -- Machines that keep nothing, drop who waits, let go what is to be kept, stand still at a reading of the clock, or forget requests of
 -- SMB that wait, or their opens, don't meet the laws of an entry.
-use Rattle.std.proofs.Common.{◌≡◌, ◌⊎◌, inl, inr, ℕ, nat_lt, if◌then◌else◌, Bool, true, false, List, [], ◌∷◌, Option, Some, None, refl, sym, ap, subst, ◌∙◌, arith}
+use Rattle.std.proofs.Common.{◌≡◌, ◌⊎◌, inl, inr, ℕ, nat_lt, if◌then◌else◌, Bool, true, false, List, [], ◌∷◌, ◌++◌, Option, Some, None, refl, sym, ap, subst, ◌∙◌, arith}
 use Rattle.std.specs.Prelude.{nat_eq}
 use Rattle.std.specs.List.{AllByRecursion}
 use Rattle.std.specs.Map.{lookup}
@@ -50,11 +50,11 @@ use Rattle.xl_core.specs.declared.ask.Effect.TheVariants.{Served}
 use Rattle.xl_smb_laws.proofs.TiedLaws.{shareless_is}
 use Rattle.xl_smb_laws.specs.WaitingRequests.{IsKept as HasRequest}
 use Rattle.xl_front_smb.specs.Checks.{is_open_on}
-use Rattle.xl_house.specs.Awaited.{AreServed, HaveOpens, IsServed, OpenStands}
-use Rattle.xl_house.specs.Done.{Round, deeds}
+use Rattle.xl_house.specs.Awaited.{AreServed, HaveOpens, IsRoundServed, IsServed, OpenStands}
+use Rattle.xl_house.specs.Done.{Round, deeds, rounds, rounds_by}
 use Rattle.xl_house.specs.Free.{IsFree}
 use Rattle.xl_house.specs.Lawful.{found, IsLawful, IsWaiting, IsKept, IsComplete}
-use Rattle.xl_house.specs.Machine.{heard}
+use Rattle.xl_house.specs.Machine.{heard, is_plain}
 use Rattle.xl_house.specs.Own.{own_of}
 use Rattle.xl_house.specs.Recording.{AnyAt, IsMonitored, IsRecording, IsAdmittedBy, IsAdmitting}
 use Rattle.xl_house.specs.State.{Whole, as_found, rooms_of}
@@ -119,16 +119,30 @@ none_stands : (last : Lists) (row : Waiting) (claim : Claim) (r : Request) → o
 none_stands last row claim (request.Create made) none stands = none_some (sym none ∙ stands.1)
 none_stands last row claim request.Lock none stands = both_ways false refl (sym (ap (λ (o : Option Open). is_open_on row.place.connection o) none) ∙ stands)
 
-pub open_unmade_in : (n stores conn : ℕ) (bytes : List ℕ) (outs : List Out) (s t : Whole) (u : CoreState) (told : List Effect) (party : Party) (id number : ℕ) (claim : Claim) → IsFree s → (let h = heard n (as_found s) (Message conn bytes) in settle n (rooms_of h.1) h.2 ≡ Some (told, u))
+pub open_unmade_in : (n stores conn : ℕ) (bytes : List ℕ) (outs : List Out) (s t : Whole) (u : CoreState) (told : List Effect) (party : Party) (id number : ℕ) (claim : Claim) → IsFree s → is_plain s (Message conn bytes) ≡ true
+    → (let h = heard n (as_found s) (Message conn bytes) in settle n (rooms_of h.1) h.2 ≡ Some (told, u))
     → IsIn (Served party id (Granted claim)) told → claim.owner ≡ owners.Open number → open_of number t.front.smb.state ≡ None → IsServed n s (record { event = Message conn bytes; stores = stores; outs = outs }) t → ⊥
-open_unmade_in n stores conn bytes outs s t u told party id number claim free e here owner none served =
+open_unmade_in n stores conn bytes outs s t u told party id number claim free plain e here owner none served =
     let event = Message conn bytes in
     let h = heard n (as_found s) event in
     let last : Lists = t.front.smb.state in
-    let first = subst (λ (rs : List Round). AreServed t rs) (rounds_are n s event refl) served.1 in
-    let have = subst (λ (ts : List TurnTaken). AllByRecursion (λ turn. HaveOpens s.exports last turn) ts) (turns_are n s.exports h.1 h.2 u told (heard_good n (as_found s) event (begun_good s.core free.good)) e) first.0 in
+    let first = subst (λ (rs : List Round). AreServed n rs t) (rounds_are n s event refl ∙ ap (λ (b : Bool). rounds_by n (as_found s) event b) plain) served.1 in
+    let have = subst (λ (ts : List TurnTaken). AllByRecursion (λ turn. HaveOpens s.exports last turn) ts) (turns_are n s.exports h.1 h.2 u told (heard_good n (as_found s) event (begun_good s.core free.good)) e) first.0.granted in
     let is = have.0 party id number claim here owner in
     none_stands last is.row claim is.row.request (ap (λ (k : ℕ). open_of k last) is.own ∙ none) is.there
+
+-- nor is there one of a later part, as the entry's last round grants it
+pub last_unmade_in : (n : ℕ) (s t : Whole) (e : Entry) (before : List Round) (r : Round) (turn : TurnTaken) (party : Party) (id number : ℕ) (claim : Claim) → rounds n s e.event ≡ before ++ r ∷ [] → IsIn turn r.turns
+    → IsIn (Served party id (Granted claim)) turn.told → claim.owner ≡ owners.Open number → open_of number t.front.smb.state ≡ None → IsServed n s e t → ⊥
+last_unmade_in n s t e before r turn party id number claim are taken here owner none served =
+    let last : Lists = t.front.smb.state in
+    let round = last_of before (subst (λ (rs : List Round). AreServed n rs t) are served.1) in
+    let is = all_in (λ x. HaveOpens r.found.exports last x) turn r.turns round.granted taken party id number claim here owner in
+    none_stands last is.row claim is.row.request (ap (λ (k : ℕ). open_of k last) is.own ∙ none) is.there
+  where
+    last_of : (rs : List Round) → AreServed n (rs ++ r ∷ []) t → IsRoundServed n r t
+    last_of [] all = all.0
+    last_of (x ∷ rs) all = last_of rs all.1
 
 -- ---- the record, and who is let in while grace runs
 

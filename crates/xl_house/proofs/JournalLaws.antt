@@ -21,6 +21,7 @@ use Rattle.xl_house.specs.Starts.{IsStored}
 use Rattle.xl_house.specs.State.{Whole, times_of, start_of}
 use Rattle.xl_house.specs.Journals.{replay, is_restart, IsStep, IsLegal, entry, last_stores, may_enter, most_entries}
 use Rattle.xl_house.specs.Free.{IsFree}
+use Rattle.xl_house.specs.Sifting.{paused_left}
 use Rattle.xl_base.specs.Serials.{Extends}
 use Rattle.xl_house.specs.Housed.{Housed, Holds, Stands}
 use Rattle.xl_house.proofs.AwaitedLaws.{Ready}
@@ -97,8 +98,8 @@ allowed_next start es new old left k n event stands entered made next so = (
   ap (replay start) entered ∙ sym (next_replayed start es old left k event stands made next) ∙ sym so.1 ∙ (λ i. (step n (stands.replayed i) event).next),
 )
 
-started_numbers : (s : Whole) (stable : Stable) (now : Moment) (times : Times) → s.core ≡ started stable now times → numbers_of s.core ≤ most_numbers * 0
-started_numbers s stable now times e = subst (λ (c : CoreState). numbers_of c ≤ most_numbers * 0) (sym e) (omega arith)
+begun_numbers : (head : Head) (s : Whole) → s ≡ start_of head → numbers_of s.core + 3 * paused_left s.paused ≤ most_numbers * 0
+begun_numbers head s e = subst (λ (w : Whole). numbers_of w.core + 3 * paused_left w.paused ≤ most_numbers * 0) (sym e) (omega arith)
 
 started_short : (s : Whole) (stable : Stable) (now : Moment) (times : Times) → s.core ≡ started stable now times → AreShort s.core.names
 started_short s stable now times e = subst (λ (c : CoreState). AreShort c.names) (sym e) tt
@@ -110,7 +111,7 @@ begun_stands head s e = record {
   place = ap (λ (w : Whole). w.place) e;
   free = subst (λ (w : Whole). IsFree w) (sym e) (begin_free head);
   awaiting = subst (λ (w : Whole). IsAwaiting w) (sym e) (begin_awaits head);
-  numbers = started_numbers s (raised head.record) head.start (times_of head.exports) (ap (λ (w : Whole). w.core) e);
+  numbers = begun_numbers head s e;
   short = started_short s (raised head.record) head.start (times_of head.exports) (ap (λ (w : Whole). w.core) e);
 }
 
@@ -120,7 +121,7 @@ holds_started held s stable now times e holds = subst (λ (c : CoreState). Holds
 pub holds_stands : (held : Option Stable) (start s : Whole) (es : List Entry) → Stands start es s → Holds held s.core.stable → Holds held (replay start es).core.stable
 holds_stands held start s es stands holds = subst (λ (w : Whole). Holds held w.core.stable) stands.replayed holds
 
-pub stands_next : (start : Whole) (es : List Entry) (old new : Whole) (n : ℕ) (event : Event) → Stands start es old → Ready old.front → (step n old event).made ≡ n → new ≡ (step n old event).next → numbers_of new.core ≤ numbers_of old.core + most_numbers → AreShort new.core.names → Stands start (es ++ entry n old event ∷ []) new
+pub stands_next : (start : Whole) (es : List Entry) (old new : Whole) (n : ℕ) (event : Event) → Stands start es old → Ready old.front → (step n old event).made ≡ n → new ≡ (step n old event).next → numbers_of new.core + 3 * paused_left new.paused ≤ numbers_of old.core + 3 * paused_left old.paused + most_numbers → AreShort new.core.names → Stands start (es ++ entry n old event ∷ []) new
 stands_next start es old new n event stands ready made e numbers short =
     let longer = length-append es (entry n old event ∷ []) in
     record {
@@ -153,7 +154,7 @@ restart_next s new e = e ∙ sym (ap (λ (t : Turn). t.next) (restart_is s).2)
 pub restart_stands : (start : Whole) (es : List Entry) (old new : Whole) → Stands start es old → Ready old.front → new ≡ (restarted 1 old).next → Stands start (es ++ entry 1 old Restart ∷ []) new
 restart_stands start es old new stands ready e =
     stands_next start es old new 1 Restart stands ready (restart_is old).1 (restart_next old new e)
-    (subst (λ (w : Whole). numbers_of w.core ≤ numbers_of old.core + most_numbers) (sym e) (omega arith))
+    (subst (λ (w : Whole). numbers_of w.core + 3 * paused_left w.paused ≤ numbers_of old.core + 3 * paused_left old.paused + most_numbers) (sym e) (omega arith))
     (subst (λ (w : Whole). AreShort w.core.names) (sym e) tt)
 
 -- room for one entry more

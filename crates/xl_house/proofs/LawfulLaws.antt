@@ -33,11 +33,11 @@ use Rattle.xl_house.specs.Done.{rounds, deeds, messages}
 use Rattle.xl_house.specs.Own.{own_of}
 use Rattle.xl_house.specs.Free.{IsFree}
 use Rattle.xl_house.specs.Journals.{IsLegal, is_restart}
-use Rattle.xl_house.specs.Lawful.{Always, IsLawful, IsLawfulBy, IsLeftBy, IsWaiting, IsWaitingBy, IsGuarding, IsKept, IsKeptBy, IsOnTime, IsOnTimeWith, IsOnTimeBy, IsComplete, IsCaused, IsCausedBy, IsTold}
+use Rattle.xl_house.specs.Lawful.{Always, IsLawful, IsLawfulBy, IsLeftBy, IsWaiting, IsWaitingBy, IsGuarding, IsKept, IsKeptBy, IsOnTime, IsOnTimeWith, IsOnTimeBy, IsComplete, IsCaused, IsTold}
 use Rattle.xl_house.specs.Machine.{Turn, step}
 use Rattle.xl_house.specs.State.{Whole, as_found, start_of}
 use Rattle.xl_house.specs.Timed.{leases_after, clock_after}
-use Rattle.xl_house.proofs.DoneLaws.{left_is, deeds_taken, each_event, each_round, round_caused, all_sent}
+use Rattle.xl_house.proofs.DoneLaws.{left_is, deeds_taken, each_event, rounds_caused, all_sent, restart_sends}
 use Rattle.xl_house.proofs.EachEntry.{always}
 use Rattle.xl_house.proofs.MachineLaws.{step_is, step_free}
 use Rattle.xl_house.proofs.TimedLaws.{Running, times_in, left_times, own_clock, leases_are}
@@ -217,8 +217,8 @@ sends : (n : ℕ) (s : Whole) (event : Event) → is_restart event ≡ false →
 sends n s event other = ap (λ (t : Turn). t.outs) (step_is n s event other) ∙ all_sent n s event other
 
 sends_nothing : (n : ℕ) (s : Whole) → (step n s Restart).outs ≡ messages n s Restart
-unfolding step messages rounds
-sends_nothing n s = refl
+unfolding step
+sends_nothing n s = sym (restart_sends n s)
 
 sends_by : (n : ℕ) (s : Whole) (event : Event) → (step n s event).outs ≡ messages n s event
 sends_by n s event = each_event (λ e. (step n s e).outs ≡ messages n s e) (λ e other. sends n s e other) (sends_nothing n s) event
@@ -244,9 +244,7 @@ pub always_complete : (head : Head) (es : List Entry) → Always IsComplete (sta
 always_complete head es = always IsComplete (λ n s e free. (due_by n s e.event free, on_time_by n s e.event free)) head es
 
 pub always_caused : (head : Head) (es : List Entry) → Always IsCaused (start_of head) es
-always_caused head es =
-    always IsCaused
-    (λ n s e free. each_round (λ rs. AllByRecursion (λ r. IsCausedBy n e.event r) rs) n s e.event tt (round_caused n (as_found s) e.event (begun_good s.core free.good), tt)) head es
+always_caused head es = always IsCaused (λ n s e free. rounds_caused n s e.event (begun_good s.core free.good)) head es
 
 pub always_told : (head : Head) (es : List Entry) → IsLegal (start_of head) es → Always IsTold (start_of head) es
 always_told head es legal = told_from (start_of head) es legal

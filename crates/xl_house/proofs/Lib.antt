@@ -10,7 +10,11 @@ pub mod ShownLaws
 pub mod TurnLaws
 pub mod SettleLaws
 pub mod HearLaws
+pub mod SiftingLaws
+pub mod RunLaws
 pub mod DoneLaws
+pub mod RoundLaws
+pub mod PartLaws
 pub mod MachineLaws
 pub mod TimedLaws
 pub mod EachEntry
@@ -28,6 +32,9 @@ pub mod OwedLaws
 pub mod AskingLaws
 pub mod MeantLaws
 pub mod ReplyingLaws
+pub mod PartCauses
+pub mod PartedLaws
+pub mod PlainLaws
 pub mod WishedLaws
 pub mod InTheWayLaws
 pub mod BreakingLaws
@@ -38,6 +45,7 @@ pub mod NoticesLaws
 pub mod AnnouncedLaws
 pub mod NotifiedLaws
 pub mod ApartLaws
+pub mod DistinctLaws
 pub mod PairedWaiterLaws
 pub mod OthersLaws
 pub mod OpensLaws
@@ -48,6 +56,7 @@ pub mod TiedLaws
 pub mod ServedLaws
 pub mod NfsTiedLaws
 pub mod JournalLaws
+pub mod GoingLaws
 pub mod OrderLaws
 pub mod InTimeLaws
 pub mod HollowLaws

@@ -1,14 +1,13 @@
 -- What each event keeps.
-use Rattle.std.proofs.Common.{◌≡◌, ℕ, ◌+◌, false, List, [], ◌∷◌, refl, sym, ap, subst, ◌∙◌}
+use Rattle.std.proofs.Common.{◌≡◌, ℕ, zero, suc, ◌+◌, Bool, true, false, List, [], ◌∷◌, Option, Some, None, refl, sym, ap, subst, ◌∙◌}
 use Rattle.std.specs.List.{AllByRecursion}
 use Rattle.xl_base.specs.Stable.{Stable, raised}
 use Rattle.xl_base.specs.declared.event.Event.{Event}
-use Rattle.xl_base.specs.declared.event.Event.TheVariants.{Restart}
+use Rattle.xl_base.specs.declared.event.Event.TheVariants.{Message, Restart}
 use Rattle.xl_base.specs.declared.event.Moment.{Moment}
-use Rattle.xl_base.specs.declared.event.Out.{Out}
 use Rattle.xl_base.specs.declared.journal.Entry.{Entry}
 use Rattle.xl_base.specs.declared.journal.Head.{Head}
-use Rattle.xl_core.specs.State.{CoreState, MayBe, GoesOn, started, step_begun}
+use Rattle.xl_core.specs.State.{CoreState, MayBe, started, step_begun}
 use Rattle.xl_core.proofs.DeedLists.{deeds_good}
 use Rattle.xl_core.specs.Blockers.{range_ahead, ranges_ahead}
 use Rattle.xl_core.specs.Good.{IsGood, IsSettled}
@@ -18,23 +17,35 @@ use Rattle.xl_house.specs.declared.layers.Fronts.{Fronts}
 use Rattle.xl_house.specs.Free.{WaitsForItself, IsFree, AlwaysFree}
 use Rattle.xl_house.specs.Journals.{is_restart}
 use Rattle.xl_core.specs.declared.lease.Times.{Times}
-use Rattle.xl_house.specs.Machine.{Turn, heard, connected, onward, turn_of, settled_turn, restarted, step}
-use Rattle.xl_house.specs.State.{Whole, as_found, times_of, start_of}
-use Rattle.xl_house.specs.Telling.{Sent, behind, and_then, settled}
+use Rattle.xl_smb_frames.specs.Steps.{next_step}
+use Rattle.xl_smb_frames.specs.declared.frame.Frame.{Frame}
+use Rattle.xl_smb_frames.specs.declared.steps.Step.{Step}
+use Rattle.xl_smb_frames.specs.declared.steps.Step.TheVariants as next
+use Rattle.xl_house.specs.Machine.{Gone, Ground, Turn, advanced_by, advanced_for, begun_by, connected, found_in, frames_begun, gone, gone_by, gone_further, gone_on, heard, heard_in, is_plain, part_done, restarted, run, step, steps_left, turn_of}
+use Rattle.xl_house.specs.Sifting.{brings_frame, is_smb, popped}
+use Rattle.xl_house.specs.declared.frames.Going.{Going}
+use Rattle.xl_house.specs.State.{Whole, as_found, kind_of, times_of, start_of}
 use Rattle.xl_house.specs.declared.connections.Connection.{Connection}
 use Rattle.xl_house.specs.Done.{deeds}
-use Rattle.xl_house.proofs.DoneLaws.{each_event, own_and_told, heard_does, heard_takes, left_by, left_is, deeds_taken}
+use Rattle.xl_house.proofs.DoneLaws.{each_event, own_and_told, heard_does, heard_takes, left_by, left_is, deeds_taken, frames_good, further_good}
 use Rattle.xl_house.proofs.SettleLaws.{settling_ends}
 use Rattle.xl_core.proofs.KnowingLaws.{deeds_know, started_knows}
-use Rattle.xl_core.proofs.StoreLaws.{may_be_before}
 use Rattle.xl_house.proofs.ForgettingLaws.{deeds_wait}
 
 -- ---- an event other than a restart
 
-pub step_is : (n : ℕ) (s : Whole) (e : Event) → is_restart e ≡ false → step n s e ≡ settled_turn n s (connected s.connections s.place e) (heard n (as_found s) e)
+pub step_is : (n : ℕ) (s : Whole) (e : Event) → is_restart e ≡ false → step n s e ≡ turn_of s (connected s.connections s.place e) (gone n (as_found s) e)
 unfolding step
 step_is n s Restart other = absurd cc
 step_is n s e other = refl
+
+-- where no frame goes on, and the event brings none
+gone_plain : (n : ℕ) (s : Whole) (e : Event) → is_plain s e ≡ true → gone n s e ≡ gone_by n s e true
+unfolding gone
+gone_plain n s e plain = ap (gone_by n s e) plain
+
+pub step_plain : (n : ℕ) (s : Whole) (e : Event) → is_restart e ≡ false → is_plain s e ≡ true → step n s e ≡ turn_of s (connected s.connections s.place e) (gone_by n (as_found s) e true)
+step_plain n s e other plain = step_is n s e other ∙ ap (λ (g : Gone). turn_of s (connected s.connections s.place e) g) (gone_plain n (as_found s) e plain)
 
 -- ---- what an event gives before the table is settled
 
@@ -77,25 +88,60 @@ left_knows n s e other good knows =
     subst (λ (t : CoreState). KnowsRecord t) (sym (left_is n s e other))
     (deeds_know n (step_begun s.core) (deeds n s e) (begun_good s.core good) (deeds_taken n s e other (begun_good s.core good)) (begun_knows s.core knows))
 
+-- ---- settled at the end
+
+part_settles : (n : ℕ) (at : Ground) (g : Gone) (f : Frame) (message : List ℕ) (smb : Bool) → IsGood g.2 → IsSettled g.2 → IsSettled (part_done n at g f message smb).2
+part_settles n at g f message true good settled = let h = heard n (found_in at g.1 g.2) (Message f.conn message) in settling_ends n at.0 h.1 h.2 (heard_good n (found_in at g.1 g.2) (Message f.conn message) good)
+part_settles n at g f message false good settled = settled
+
+step_settles : (n : ℕ) (at : Ground) (g : Gone) (f : Frame) (next : Step) → IsGood g.2 → IsSettled g.2 → IsSettled (gone_on n at g f next).2
+step_settles n at g f next.Ends good settled = settled
+step_settles n at g f (next.Replied reply) good settled = settled
+step_settles n at g f (next.Asked message) good settled = part_settles n at g f message (is_smb (kind_of at.1 f.conn)) good settled
+
+further_settles : (n : ℕ) (at : Ground) (g : Gone) → IsGood g.2 → IsSettled g.2 → IsSettled (gone_further n at g).2
+unfolding gone_further
+further_settles n at g good settled = by (popped g.0.stack) where
+  by : (p : Option Frame × List Frame) → IsSettled (advanced_by n at g p).2
+  by (None, rest) = settled
+  by (Some f, rest) = step_settles n at (record g.0 { stack = rest }, g.1, g.2) f (next_step f) good settled
+
+steps_settle : (fuel n : ℕ) (at : Ground) (g : Gone) → IsGood g.2 → IsSettled g.2 → IsSettled (advanced_for fuel n at g).2
+steps_settle zero n at g good settled = settled
+steps_settle (suc fuel) n at g good settled = steps_settle fuel n at (gone_further n at g) (further_good n at g good) (further_settles n at g good settled)
+
+begun_settles : (n : ℕ) (s : Whole) (e : Event) → IsGood s.core → IsSettled s.core → IsSettled (frames_begun n s e).2
+unfolding frames_begun
+begun_settles n s e good settled = by (brings_frame s.connections e) where
+  by : (brings : Bool) → IsSettled (begun_by n s e brings).2
+  by true = settled
+  by false = let h = heard n s e in settling_ends n s.exports h.1 h.2 (heard_good n s e good)
+
+gone_settles : (n : ℕ) (s : Whole) (e : Event) → IsGood s.core → IsSettled s.core → IsSettled (gone n s e).2
+unfolding gone heard_in run
+gone_settles n s e good settled = by (is_plain s e) where
+  by : (plain : Bool) → IsSettled (gone_by n s e plain).2
+  by true = let h = heard n s e in settling_ends n s.exports h.1 h.2 (heard_good n s e good)
+  by false = let g = frames_begun n s e in steps_settle (steps_left g.0) n (s.exports, s.connections) g (frames_good n s e good) (begun_settles n s e good settled)
+
 -- ---- free moments
 
-pub free_from : (s : Whole) (connections : List Connection) (front : Fronts) (core : CoreState) → IsGood core → IsSettled core → AllByRecursion WaitsForItself core.waiters → KnowsRecord core → IsFree (onward s connections front core)
-free_from s connections front core good settled waits knows = record {
-  good = begun_good core good;
-  settled = begun_settled core settled;
-  waiters = begun_waits core waits;
-  knows = begun_knows core knows;
-  made = (begun_none core).0;
-  failed = (begun_none core).1;
-  given = (begun_none core).2;
+pub free_from : (s : Whole) (connections : List Connection) (g : Gone) → IsGood g.2 → IsSettled g.2 → AllByRecursion WaitsForItself g.2.waiters → KnowsRecord g.2 → IsFree (turn_of s connections g).next
+free_from s connections g good settled waits knows = record {
+  good = begun_good g.2 good;
+  settled = begun_settled g.2 settled;
+  waiters = begun_waits g.2 waits;
+  knows = begun_knows g.2 knows;
+  made = (begun_none g.2).0;
+  failed = (begun_none g.2).1;
+  given = (begun_none g.2).2;
 }
 
-turn_free : (n : ℕ) (s : Whole) (e : Event) (connections : List Connection) → is_restart e ≡ false → IsFree s → IsFree (settled_turn n s connections (heard n (as_found s) e)).next
+turn_free : (n : ℕ) (s : Whole) (e : Event) (connections : List Connection) → is_restart e ≡ false → IsFree s → IsFree (turn_of s connections (gone n (as_found s) e)).next
 turn_free n s e connections other free =
-    let h = heard n (as_found s) e in
-    free_from s connections (settled n s.exports h.1 h.2).1 (left_by n (as_found s) e)
+    free_from s connections (gone n (as_found s) e)
     (left_good n s e other free.good)
-    (settling_ends n s.exports h.1 h.2 (heard_good n (as_found s) e (begun_good s.core free.good)))
+    (gone_settles n (as_found s) e (begun_good s.core free.good) (begun_settled s.core free.settled))
     (left_waits n s e other free.good free.waiters)
     (left_knows n s e other free.good free.knows)
 
@@ -137,21 +183,15 @@ next_place n s e = each_event (λ d. (step n s d).next.place ≡ s.place + 1) (�
 
 -- ---- as the code acts
 
-pub record IsActed (s : Whole) (e : Event) (outs : List Out) (f : Fronts) (mid : CoreState) (sent : List Out) (g : Fronts) (last : CoreState) : Type 0 where
-  pub heard : (n : ℕ) → MayBe n mid → heard n (as_found s) e ≡ (outs, f, mid)
-  pub on : GoesOn mid last
-  pub told : (n : ℕ) → MayBe n last → behind outs (settled n s.exports f mid) ≡ (sent, g, last)
+-- with each number of stores that it may be, the event gives this
+abbrev pub IsActed : Whole → Event → Going → Fronts → CoreState → Type 0
+IsActed s e go g last = (n : ℕ) → MayBe n last → gone n (as_found s) e ≡ (go, g, last)
 
--- what was heard, and then settled
-pub acted_all : (s : Whole) (e : Event) (outs : List Out) (f : Fronts) (mid : CoreState) (sent : List Out) (g : Fronts) (last : CoreState) → IsActed s e outs f mid sent g last → (n : ℕ) → MayBe n last → and_then (settled n s.exports) (heard n (as_found s) e) ≡ (sent, g, last)
-acted_all s e outs f mid sent g last acted n may =
-    ap (λ (r : Sent). and_then (settled n s.exports) r) (acted.heard n (may_be_before n mid last acted.on may)) ∙ acted.told n may
-
-pub acted_step : (s : Whole) (e : Event) (outs : List Out) (f : Fronts) (mid : CoreState) (sent : List Out) (g : Fronts) (last next : CoreState) (connections : List Connection)
-    → is_restart e ≡ false → IsActed s e outs f mid sent g last → connections ≡ connected s.connections s.place e → next ≡ step_begun last → (n : ℕ) → MayBe n last
-    → step n s e ≡ record { next = record { exports = s.exports; place = s.place + 1; connections = connections; front = g; core = next }; made = last.made; given = last.given; outs = sent }
-acted_step s e outs f mid sent g last next connections other acted links begun n may =
-    let built : List Connection → CoreState → Turn = λ cs core. record { next = record { exports = s.exports; place = s.place + 1; connections = cs; front = g; core = core }; made = last.made; given = last.given; outs = sent } in
+pub acted_step : (s : Whole) (e : Event) (go : Going) (g : Fronts) (last next : CoreState) (connections : List Connection)
+    → is_restart e ≡ false → IsActed s e go g last → connections ≡ connected s.connections s.place e → next ≡ step_begun last → (n : ℕ) → MayBe n last
+    → step n s e ≡ record { next = record { exports = s.exports; place = s.place + 1; connections = connections; paused = go.paused; front = g; core = next }; made = last.made; given = last.given; outs = go.outs }
+acted_step s e go g last next connections other acted links begun n may =
+    let built : List Connection → CoreState → Turn = λ cs core. record { next = record { exports = s.exports; place = s.place + 1; connections = cs; paused = go.paused; front = g; core = core }; made = last.made; given = last.given; outs = go.outs } in
     step_is n s e other
-    ∙ ap (λ (r : Sent). turn_of s (connected s.connections s.place e) r) (acted_all s e outs f mid sent g last acted n may)
+    ∙ ap (λ (r : Gone). turn_of s (connected s.connections s.place e) r) (acted n may)
     ∙ (λ i. built (sym links i) (sym begun i))

@@ -1,6 +1,6 @@
 -- What the replies of NLM, NFSv4 and SMB say is done is done.
 use Rattle.std.proofs.Common.{◌≡◌, ℕ, Bool, true, false, List, [], ◌∷◌, Option, Some, is_some, sym, ap, subst, ◌∙◌, true≢false}
-use Rattle.std.specs.List.{find, list_any}
+use Rattle.std.specs.List.{AllByRecursion, find, list_any}
 use Rattle.std.specs.Prelude.{bytes_eq}
 use Rattle.xl_base.specs.declared.event.Event.{Event}
 use Rattle.xl_base.specs.declared.event.Event.TheVariants.{Message}
@@ -19,6 +19,7 @@ use Rattle.xl_programs.specs.declared.program.Program.{Program}
 use Rattle.xl_core.proofs.GoodLaws.{begun_good}
 use Rattle.xl_core.specs.Causes.{stands_against}
 use Rattle.xl_core.specs.Deeds.{all_done}
+use Rattle.xl_core.specs.Good.{IsGood}
 use Rattle.xl_core.specs.Leases.{Lease}
 use Rattle.xl_core.specs.State.{CoreState}
 use Rattle.xl_front_nlm.specs.AsTold as nlm
@@ -45,49 +46,60 @@ use Rattle.xl_nfs_laws.specs.DoneAsTold.{IsClosed, IsFirstTold, IsGivenBack, IsL
 use Rattle.xl_nfs_laws.specs.LockLaws.{test_claim}
 use Rattle.xl_smb_laws.specs.AsTold as smb
 use Rattle.xl_smb_laws.proofs.AsToldLaws.{message_told}
+use Rattle.xl_house.specs.Done.{Round, rounds}
 use Rattle.xl_house.specs.Free.{IsFree}
 use Rattle.xl_house.specs.Lawful.{Always}
 use Rattle.xl_house.specs.Meant.{IsMeant, IsMeantBy, IsMeantByNfs, IsMeantByNlm, IsMeantBySmb}
 use Rattle.xl_house.specs.Own.{Own, program_own, record_own, message_own}
-use Rattle.xl_house.specs.State.{Whole, as_found, nfs_opens, smb_opens, start_of}
+use Rattle.xl_house.specs.State.{Whole, nfs_opens, smb_opens, start_of}
 use Rattle.xl_house.specs.declared.layers.Fronts.{Fronts}
-use Rattle.xl_house.proofs.NfsTiedLaws.{always_where_tied, found_tied}
+use Rattle.xl_house.proofs.DoneLaws.{each_event, restarts}
+use Rattle.xl_house.proofs.NfsTiedLaws.{AreTogether, always_where_tied, found_together, met_tied, round_ties}
+use Rattle.xl_house.proofs.RoundLaws.{rounds_so}
 use Rattle.xl_house.specs.NfsTied.{IsNfsTied}
 
 abbrev Means : ℕ → Exports → Fronts → CoreState → ℕ → RequestItem → Own → Type 0
 Means n exports f s conn r o = nlm.AreAsTold exports f.nlm s conn r o.replies (all_done n s o.deeds)
 
-nlm_meant : (n : ℕ) (s : Whole) (number : ℕ) (bytes : List ℕ) → IsFree s → IsMeantByNlm n s number bytes
-nlm_meant n s number bytes free = λ rpc r asked program.
-    let core = (as_found s).core in
-    subst (λ (kind : Option Kind). Means n s.exports s.front core number r (message_own n s.exports s.front core kind number bytes)) (sym rpc)
-    (subst (λ (incoming : IncomingItem). Means n s.exports s.front core number r (record_own n s.exports s.front core number incoming)) (sym asked)
-    (subst (λ (p : Program). Means n s.exports s.front core number r (program_own n s.exports s.front core number r p)) (sym program)
-    (request_told n s.exports s.front.nlm core number r (begun_good s.core free.good))))
+nlm_meant : (n : ℕ) (s : Whole) (number : ℕ) (bytes : List ℕ) → IsGood s.core → IsMeantByNlm n s number bytes
+nlm_meant n s number bytes good = λ rpc r asked program.
+    subst (λ (kind : Option Kind). Means n s.exports s.front s.core number r (message_own n s.exports s.front s.core kind number bytes)) (sym rpc)
+    (subst (λ (incoming : IncomingItem). Means n s.exports s.front s.core number r (record_own n s.exports s.front s.core number incoming)) (sym asked)
+    (subst (λ (p : Program). Means n s.exports s.front s.core number r (program_own n s.exports s.front s.core number r p)) (sym program)
+    (request_told n s.exports s.front.nlm s.core number r good)))
 
 abbrev NfsMeans : ℕ → Exports → Fronts → CoreState → ℕ → RequestItem → Own → Type 0
 NfsMeans n exports f s conn r o = nfs.AreRequestTold n exports (smb_opens f) f.nfs s conn r o.replies
 
-nfs_meant : (n : ℕ) (s : Whole) (number : ℕ) (bytes : List ℕ) → IsFree s → IsNfsTied s → IsMeantByNfs n s number bytes
-nfs_meant n s number bytes free tied = λ rpc r asked program.
-    let core = (as_found s).core in
-    subst (λ (kind : Option Kind). NfsMeans n s.exports s.front core number r (message_own n s.exports s.front core kind number bytes)) (sym rpc)
-    (subst (λ (incoming : IncomingItem). NfsMeans n s.exports s.front core number r (record_own n s.exports s.front core number incoming)) (sym asked)
-    (subst (λ (p : Program). NfsMeans n s.exports s.front core number r (program_own n s.exports s.front core number r p)) (sym program)
-    (nfs_told.request_told n s.exports (smb_opens s.front) s.front.nfs core number r (begun_good s.core free.good) tied.orderly tied.lockers (found_tied s tied))))
+nfs_meant : (n : ℕ) (s : Whole) (number : ℕ) (bytes : List ℕ) → IsGood s.core → AreTogether [] s.front s.core → IsMeantByNfs n s number bytes
+nfs_meant n s number bytes good b = λ rpc r asked program.
+    subst (λ (kind : Option Kind). NfsMeans n s.exports s.front s.core number r (message_own n s.exports s.front s.core kind number bytes)) (sym rpc)
+    (subst (λ (incoming : IncomingItem). NfsMeans n s.exports s.front s.core number r (record_own n s.exports s.front s.core number incoming)) (sym asked)
+    (subst (λ (p : Program). NfsMeans n s.exports s.front s.core number r (program_own n s.exports s.front s.core number r p)) (sym program)
+    (nfs_told.request_told n s.exports (smb_opens s.front) s.front.nfs s.core number r good b.orderly b.calm (met_tied s b))))
 
 abbrev SmbMeans : ℕ → Exports → Fronts → CoreState → ℕ → List ℕ → Own → Type 0
 SmbMeans n exports f s conn bytes o = smb.AreAsTold exports.files f.smb.state s conn bytes o.replies (all_done n s o.deeds) o.given.2.smb.state
 
-smb_meant : (n : ℕ) (s : Whole) (number : ℕ) (bytes : List ℕ) → IsFree s → IsMeantBySmb n s number bytes
-smb_meant n s number bytes free = λ packet.
-    let core = (as_found s).core in
-    subst (λ (kind : Option Kind). SmbMeans n s.exports s.front core number bytes (message_own n s.exports s.front core kind number bytes)) (sym packet)
-    (message_told n s.exports (nfs_opens s.front) s.front.smb core number bytes (begun_good s.core free.good))
+smb_meant : (n : ℕ) (s : Whole) (number : ℕ) (bytes : List ℕ) → IsGood s.core → IsMeantBySmb n s number bytes
+smb_meant n s number bytes good = λ packet.
+    subst (λ (kind : Option Kind). SmbMeans n s.exports s.front s.core number bytes (message_own n s.exports s.front s.core kind number bytes)) (sym packet)
+    (message_told n s.exports (nfs_opens s.front) s.front.smb s.core number bytes good)
 
-meant_by : (n : ℕ) (s : Whole) (event : Event) → IsFree s → IsNfsTied s → IsMeantBy n s event
-meant_by n s (Message number bytes) free tied = (nlm_meant n s number bytes free, nfs_meant n s number bytes free tied, smb_meant n s number bytes free)
-meant_by n s event free tied = tt
+-- a round, in a good state in which rows and claims are tied
+meant_by : (n : ℕ) (s : Whole) (event : Event) → IsGood s.core → AreTogether [] s.front s.core → IsMeantBy n s event
+meant_by n s (Message number bytes) good b = (nlm_meant n s number bytes good, nfs_meant n s number bytes good b, smb_meant n s number bytes good)
+meant_by n s event good b = tt
+
+abbrev RoundMeant : ℕ → Round → Type 0
+RoundMeant n r = IsMeantBy n r.found r.cause
+
+-- and so each round of an entry
+all_meant : (n : ℕ) (s : Whole) (event : Event) → IsFree s → IsNfsTied s → AllByRecursion (λ r. RoundMeant n r) (rounds n s event)
+all_meant n s event free tied =
+    each_event (λ e. AllByRecursion (λ r. RoundMeant n r) (rounds n s e))
+    (λ e other. rounds_so n (AreTogether []) s e (λ r. RoundMeant n r) other (round_ties n) ((λ t good b. meant_by n t e good b), (λ t conn message good b. meant_by n t (Message conn message) good b)) (begun_good s.core free.good) (found_together s tied))
+    (restarts n s (λ r. RoundMeant n r)) event
 
 -- ---- machines that tell what isn't so
 
@@ -120,4 +132,4 @@ always_free_is l a c file last done held free is =
     true≢false (sym (held o) ∙ ((is.told statuses.Ok).0 (ap status_of free)).2)
 
 pub always_meant : (head : Head) (es : List Entry) → Always IsMeant (start_of head) es
-always_meant head es = always_where_tied IsMeant (λ n s e free tied. meant_by n s e.event free tied) head es
+always_meant head es = always_where_tied IsMeant (λ n s e free tied. all_meant n s e.event free tied) head es

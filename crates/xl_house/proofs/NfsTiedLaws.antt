@@ -92,6 +92,7 @@ use Rattle.xl_house.specs.Free.{IsFree}
 use Rattle.xl_house.specs.Journals.{is_restart}
 use Rattle.xl_house.specs.Lawful.{Always, Law, may_do}
 use Rattle.xl_house.specs.Machine.{Turn, heard, restarted, step}
+use Rattle.xl_house.specs.Machine as machine
 use Rattle.xl_house.specs.NfsTied.{IsNfsTied}
 use Rattle.xl_house.specs.Own.{Given, Own, begun_by, end_own, message_own, own_of, program_own, record_own}
 use Rattle.xl_house.specs.Shown.{IsShown}
@@ -103,6 +104,7 @@ use Rattle.xl_house.specs.declared.layers.Fronts.{Fronts}
 use Rattle.xl_house.proofs.DoneLaws.{IsRow, each_event, own_row, program_row}
 use Rattle.xl_house.proofs.ForgettingLaws.{expire_tells, in_either}
 use Rattle.xl_house.proofs.MachineLaws.{begin_free, heard_good, step_free, step_is}
+use Rattle.xl_house.proofs.RoundLaws.{Keeps, gone_keeps}
 use Rattle.xl_house.proofs.SettleLaws.{turned_good}
 use Rattle.xl_house.proofs.ShownLaws.{all_shown_good, shown_one}
 use Rattle.xl_house.proofs.SteadyLaws.{begun_counts, deed_counts}
@@ -111,11 +113,11 @@ use Rattle.xl_house.proofs.TurnLaws.{of_turns}
 
 -- ---- front and core, while these clients have expired of which the front wasn't told yet
 
-record AreTogether (gone : List (List ℕ)) (f : Fronts) (s : CoreState) : Type 0 where
-  orderly : IsOrderly f.nfs.state
-  calm : LockersCloseNothing f.nfs.state
-  tied : AreTiedBut gone s f.nfs.state
-  leased : AreLeasedBut gone s f.nfs.state
+pub record AreTogether (gone : List (List ℕ)) (f : Fronts) (s : CoreState) : Type 0 where
+  pub orderly : IsOrderly f.nfs.state
+  pub calm : LockersCloseNothing f.nfs.state
+  pub tied : AreTiedBut gone s f.nfs.state
+  pub leased : AreLeasedBut gone s f.nfs.state
 
 tied_so : (s : CoreState) (l : NfsLists) → AreTied s l → AreTiedBut [] s l
 tied_so s l tied = record { set = tied.set; left = λ id there file. absurd there; delegated = λ id apart file. tied.delegated id file }
@@ -642,6 +644,10 @@ heard_tied : (n : ℕ) (s : Whole) (event : Event) → IsGood s.core → AreToge
 unfolding heard
 heard_tied n s event good b = let g = (own_of n s event).given in all_shown_tied s.exports g.2 g.3 g.1 (given_tied n s event good b)
 
+-- so does each round
+pub round_ties : (n : ℕ) → Keeps n (AreTogether [])
+round_ties n = λ s event good b. let h = heard n s event in settled_tied n s.exports h.1 h.2 (heard_good n s event good) (heard_tied n s event good b)
+
 -- ---- a step
 
 begun_held : (s : CoreState) (id : List ℕ) (file : ℕ) → delegation_held (step_begun s) id file ≡ delegation_held s id file
@@ -666,9 +672,13 @@ together s tied = record {
   leased = leased_so s.core s.front.nfs.state tied.leases;
 }
 
+-- what an entry finds
+pub found_together : (s : Whole) → IsNfsTied s → AreTogether [] s.front (step_begun s.core)
+found_together s tied = begun_together s.front s.core (together s tied)
+
 -- what a message meets
-pub found_tied : (s : Whole) → IsNfsTied s → AreTied (as_found s).core s.front.nfs.state
-found_tied s tied = but_none (step_begun s.core) s.front.nfs.state (begun_together s.front s.core (together s tied)).tied
+pub met_tied : (s : Whole) → AreTogether [] s.front s.core → AreTied s.core s.front.nfs.state
+met_tied s b = but_none s.core s.front.nfs.state b.tied
 
 apart : (s : Whole) → AreTogether [] s.front s.core → IsNfsTied s
 apart s b =
@@ -677,11 +687,8 @@ apart s b =
 
 step_ties : (n : ℕ) (s : Whole) (event : Event) → is_restart event ≡ false → IsFree s → IsNfsTied s → IsNfsTied (step n s event).next
 step_ties n s event other free tied =
-    let found = as_found s in
-    let h = heard n found event in
-    let r = settled n s.exports h.1 h.2 in
-    let good = begun_good s.core free.good in
-    let b = begun_together r.1 r.2 (settled_tied n s.exports h.1 h.2 (heard_good n found event good) (heard_tied n found event good (begun_together s.front s.core (together s tied)))) in
+    let r = machine.gone n (as_found s) event in
+    let b = begun_together r.1 r.2 (gone_keeps n (AreTogether []) (round_ties n) (as_found s) event (begun_good s.core free.good) (found_together s tied)) in
     subst (λ (x : Turn). IsNfsTied x.next) (sym (step_is n s event other)) (apart _ b)
 
 started_tied : (s : Whole) (stable : Stable) (clock : Moment) (times : Times) → s.core ≡ started stable clock times → s.front.nfs ≡ empty_nfs_front → IsNfsTied s

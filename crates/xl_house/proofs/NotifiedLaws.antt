@@ -1,6 +1,6 @@
 -- An entry sends the news of its effects and its replies, and nothing besides.
-use Rattle.std.proofs.Common.{◌≡◌, ℕ, false, List, [], ◌∷◌, Option, Some, None, refl, sym, ap, subst, ◌∙◌}
-use Rattle.std.proofs.lemmas.List.{append-nil}
+use Rattle.std.proofs.Common.{◌≡◌, ℕ, false, List, [], ◌∷◌, Option, Some, None, refl, sym, ap, subst}
+use Rattle.std.specs.List.{AllByRecursion}
 use Rattle.xl_base.specs.declared.event.Event.{Event}
 use Rattle.xl_base.specs.declared.event.Event.TheVariants.{Open, Message, End, Called, Tick, Restart}
 use Rattle.xl_base.specs.declared.event.Kind.{Kind}
@@ -15,18 +15,19 @@ use Rattle.xl_core.specs.State.{CoreState}
 use Rattle.xl_core.specs.declared.ask.Effect.{Effect}
 use Rattle.xl_plan.specs.Plans.{AllAt}
 use Rattle.xl_smb_laws.proofs.HeardLaws.{message_heard}
-use Rattle.xl_house.specs.Done.{deeds, messages, round_of, round_outs, rounds, rounds_outs}
+use Rattle.xl_house.specs.Done.{deeds, messages, round_of, round_outs, rounds}
 use Rattle.xl_house.specs.Free.{IsFree}
 use Rattle.xl_house.specs.Journals.{IsLegal, is_restart}
 use Rattle.xl_house.specs.Lawful.{Always, IsTold, Law, found}
 use Rattle.xl_house.specs.Machine.{heard, replied_by, step}
 use Rattle.xl_house.specs.Notified.{AreNews, AreReplies, AreRepliesBy, AreTurnNews, IsAnnouncing, IsNotified, IsRoundSent, IsSentBy}
 use Rattle.xl_house.specs.Own.{end_own, message_own, own_of}
-use Rattle.xl_house.specs.State.{Whole, as_found, kind_of, nfs_opens, start_of}
+use Rattle.xl_house.specs.State.{Whole, kind_of, nfs_opens, start_of}
 use Rattle.xl_house.specs.Telling.{all_shown, framed_by, showing, taken, turns, turns_sent}
 use Rattle.xl_house.specs.declared.layers.Fronts.{Fronts}
 use Rattle.xl_house.proofs.AnnouncedLaws.{deed_announces}
-use Rattle.xl_house.proofs.DoneLaws.{own_row, rounds_are}
+use Rattle.xl_house.proofs.DoneLaws.{each_round, own_row, restart_sends}
+use Rattle.xl_core.proofs.GoodLaws.{begun_good}
 use Rattle.xl_house.proofs.EachEntry.{always}
 use Rattle.xl_house.proofs.EntryLaws.{each_deed}
 use Rattle.xl_house.proofs.LawfulLaws.{always_told}
@@ -90,22 +91,15 @@ round_sent n s event =
 
 -- ---- an entry
 
-messages_are : (n : ℕ) (s : Whole) (event : Event) → is_restart event ≡ false → messages n s event ≡ round_outs (round_of n (as_found s) event)
-unfolding messages
-messages_are n s event other = ap rounds_outs (rounds_are n s event other) ∙ append-nil (round_outs (round_of n (as_found s) event))
-
-sent_other : (n : ℕ) (s : Whole) (event : Event) → is_restart event ≡ false → IsFree s → IsRoundSent n (round_of n (as_found s) event) (messages n s event) × AllAt (λ u d. IsAnnouncing n u d) n (found s) (deeds n s event)
+sent_other : (n : ℕ) (s : Whole) (event : Event) → is_restart event ≡ false → IsFree s → (messages n s event ≡ messages n s event) × AllByRecursion (λ r. IsRoundSent n r (round_outs r)) (rounds n s event) × AllAt (λ u d. IsAnnouncing n u d) n (found s) (deeds n s event)
 sent_other n s event other free = (
-  subst (λ (outs : List Out). IsRoundSent n (round_of n (as_found s) event) outs) (sym (messages_are n s event other)) (round_sent n (as_found s) event),
+  refl,
+  each_round n s event (λ r. IsRoundSent n r (round_outs r)) ((λ t good. round_sent n t event), (λ t conn message good. round_sent n t (Message conn message))) (begun_good s.core free.good),
   each_deed (λ u d. IsAnnouncing n u d) n s event (λ u d good fit. deed_announces n u d good fit) free,
 )
 
-none_sent : (n : ℕ) (s : Whole) → messages n s Restart ≡ []
-unfolding messages rounds
-none_sent n s = refl
-
 event_sent : (n : ℕ) (s : Whole) (event : Event) → IsFree s → IsSentBy n s event (messages n s event)
-event_sent n s Restart free = none_sent n s
+event_sent n s Restart free = restart_sends n s
 event_sent n s event free = sent_other n s event refl free
 
 -- ---- each journal

@@ -1,6 +1,6 @@
 -- No out to a connection before its opening or after its end.
-use Rattle.std.proofs.Common.{◌≡◌, ℕ, suc, Bool, true, false, not, eqb, ltb, inl, inr, Option, Some, None, List, [], ◌∷◌, ◌++◌, length, map, refl, sym, ap, subst, ◌∙◌, arith}
-use Rattle.std.proofs.lemmas.Bool.{cases_Bool, eqb-true, true≢false}
+use Rattle.std.proofs.Common.{◌≡◌, ℕ, zero, suc, Bool, true, false, not, eqb, ltb, inl, inr, Option, Some, None, List, [], ◌∷◌, ◌++◌, length, map, refl, sym, ap, subst, ◌∙◌, arith}
+use Rattle.std.proofs.lemmas.Bool.{and_parts, cases_Bool, eqb-true, true≢false}
 use Rattle.std.proofs.lemmas.Bool.Decides.{nat_tests}
 use Rattle.std.specs.Prelude.{nat_lt, if◌then◌else◌, option_map}
 use Rattle.std.specs.List.{AllByRecursion, filter, find}
@@ -43,7 +43,17 @@ use Rattle.xl_front_nlm.specs.declared.grant.Grant.{Grant}
 use Rattle.xl_house.proofs.MachineLaws.{next_place}
 use Rattle.xl_house.proofs.TurnLaws.{of_turns}
 use Rattle.xl_house.specs.Journals.{is_restart, IsLegal, IsOrderly, IsTimely, opened_after}
-use Rattle.xl_house.specs.Machine.{replied_by, sent_of, heard, connected, settled_turn, step}
+use Rattle.xl_house.specs.Machine as machine
+use Rattle.xl_house.specs.Machine.{Gone, Ground, advanced_by, advanced_for, after_hearing, after_part, connected, found_in, frame_in, frames_begun, gone, gone_by, gone_further, gone_on, heard, heard_in, is_plain, part_done, part_heard, paused_after, replied_by, run, sent_of, settled_in, step, steps_left}
+use Rattle.xl_house.specs.Sifting.{brings_frame, is_smb, last_apart, popped, sifted}
+use Rattle.xl_smb_state.specs.State.{is_empty}
+use Rattle.xl_smb_frames.specs.Frames.{frame_sent, is_alone}
+use Rattle.xl_smb_frames.specs.Steps.{next_step}
+use Rattle.xl_smb_frames.specs.declared.frame.Frame.{Frame}
+use Rattle.xl_smb_frames.specs.declared.frame.Paused.{Paused}
+use Rattle.xl_smb_frames.specs.declared.steps.Step.{Step}
+use Rattle.xl_smb_frames.specs.declared.steps.Step.TheVariants as next
+use Rattle.xl_house.proofs.GoingLaws as going
 use Rattle.xl_house.specs.Own.{Given, begun_by, begun, program_own, record_own, message_own, end_own, own_of}
 use Rattle.xl_house.specs.State.{Whole, start_of, with_connection, without, kind_of, as_found, nfs_opens, smb_opens, most_connections}
 use Rattle.xl_house.specs.Telling.{Sent, framed_by, framed_to, framed, shown_by, showing, all_shown, taken, turns_sent, settled}
@@ -323,36 +333,171 @@ dest_both : (cs : List Connection) (place : ℕ) (e : Event) (d : Dest) → is_r
 dest_both cs place e (Conn number) other there = in_both cs place e number other there.0
 dest_both cs place e (Back call) other there = tt
 
-turn_timely : (n : ℕ) (s : Whole) (e : Event) → is_restart e ≡ false → Waits s.connections s.front
-    → (let opened = numbers s.connections in let h = heard n (as_found s) e in
-    AreTimely opened (opened_after opened s.place e) (settled_turn n s (connected s.connections s.place e) h).outs × Waits (both_open s.connections e) (settled n s.exports h.1 h.2).1)
-turn_timely n s e other waits =
+-- ---- frames that go on
+
+-- what waits in frames came by connections that are open, and so did the frames
+abbrev ArePausedOn : List Connection → List Paused → Type 0
+ArePausedOn cs ps = AllByRecursion (λ p. IsOpen cs p.conn) ps
+
+abbrev Goes : List Connection → Dest → Type 0
+Goes cs d = IsTimely (numbers cs) (numbers cs) d
+
+both_found : (cs : List Connection) (conn : ℕ) → IsOpen cs conn → Goes cs (Conn conn)
+both_found cs conn there = (found cs conn Smb there, found cs conn Smb there)
+
+abbrev IsGoing : List Connection → Gone → Type 0
+IsGoing cs g = going.GoingOn (IsOpen cs) (Goes cs) (both_found cs) g.0 × Waits cs g.1
+
+smb_kind : (kind : Option Kind) → is_smb kind ≡ true → kind ≡ Some Smb
+smb_kind (Some Smb) is = refl
+smb_kind (Some Rpc) is = absurd (true≢false (sym is))
+smb_kind None is = absurd (true≢false (sym is))
+
+-- a part of a frame, whose connection stays open
+smb_timely : (n : ℕ) (cs : List Connection) (exports : Exports) (f : Fronts) (s : CoreState) (kind : Option Kind) (number : ℕ) (bytes : List ℕ) → is_smb kind ≡ true → IsOpen cs number → Waits cs f → IsTimelyGiven cs (message_own n exports f s kind number bytes).given
+smb_timely n cs exports f s (Some Smb) number bytes is there waits =
+    let heard = smb_waits.step_on (IsOpen cs) n exports (nfs_opens f) f.smb s number bytes there waits in
+    (finals_timely cs (smb_step n exports (nfs_opens f) f.smb s number bytes).0 heard.0, heard.1)
+smb_timely n cs exports f s (Some Rpc) number bytes is there waits = absurd (true≢false (sym is))
+smb_timely n cs exports f s None number bytes is there waits = absurd (true≢false (sym is))
+
+part_timely : (n : ℕ) (cs : List Connection) (at : Ground) (f : Fronts) (s : CoreState) (conn : ℕ) (message : List ℕ) → is_smb (kind_of at.1 conn) ≡ true → IsOpen cs conn → Waits cs f → IsTimelySent cs (part_heard n at f s conn message)
+unfolding heard
+part_timely n cs at f s conn message is there waits =
+    let t = found_in at f s in
+    given_timely cs at.0 (replied_by t (Message conn message)) (own_of n t (Message conn message)).given (smb_timely n cs at.0 f s (kind_of at.1 conn) conn message is there waits)
+
+settled_going : (n : ℕ) (cs : List Connection) (exports : Exports) (g : Gone) → IsGoing cs g → IsGoing cs (settled_in n exports g)
+settled_going n cs exports g on =
+    let done = settled n exports g.1 g.2 in
+    let sent = settled_timely n cs exports g.1 g.2 on.1 in
+    (going.sorted_on (IsOpen cs) (Goes cs) (both_found cs) g.0 (sifted false g.0.paused done.0) on.0 (going.sifted_on (IsOpen cs) (Goes cs) (both_found cs) false g.0.paused done.0 on.0.paused sent.0), sent.1)
+
+part_going : (n : ℕ) (cs : List Connection) (at : Ground) (g : Gone) (f : Frame) (message : List ℕ) (smb : Bool) → is_smb (kind_of at.1 f.conn) ≡ smb → IsGoing cs g → going.IsOn (IsOpen cs) (Goes cs) (both_found cs) f → IsGoing cs (part_done n at g f message smb)
+part_going n cs at g f message true is on here =
+    let done = part_heard n at g.1 g.2 f.conn message in
+    let sent = part_timely n cs at g.1 g.2 f.conn message is here.0 on.1 in
+    settled_going n cs at.0 (after_part g.0 f done)
+    (going.part_on (IsOpen cs) (Goes cs) (both_found cs) g.0 f (last_apart done.0) on.0 here (going.all_last (λ (o : Out). Goes cs o.dest) done.0 sent.0).0, sent.1)
+part_going n cs at g f message false is on here = (going.part_on (IsOpen cs) (Goes cs) (both_found cs) g.0 f ([], None) on.0 here tt, on.1)
+
+step_going : (n : ℕ) (cs : List Connection) (at : Ground) (g : Gone) (f : Frame) (way : Step) → IsGoing cs g → going.IsOn (IsOpen cs) (Goes cs) (both_found cs) f → IsGoing cs (gone_on n at g f way)
+step_going n cs at g f next.Ends on here = (
+  record {
+    paused = on.0.paused;
+    stack = on.0.stack;
+    outs = timely_append (numbers cs) (numbers cs) g.0.outs (map (framed Smb) (frame_sent f) ++ f.after) on.0.outs
+        (timely_append (numbers cs) (numbers cs) (map (framed Smb) (frame_sent f)) f.after (going.sent_on (IsOpen cs) (Goes cs) (both_found cs) f here.0) here.1);
+  },
+  on.1,
+)
+step_going n cs at g f (next.Replied reply) on here =
+    (record { paused = on.0.paused; stack = ((going.answered_on (IsOpen cs) (Goes cs) (both_found cs) f reply here).0, on.0.stack); outs = on.0.outs }, on.1)
+step_going n cs at g f (next.Asked message) on here = part_going n cs at g f message (is_smb (kind_of at.1 f.conn)) refl on here
+
+further_going : (n : ℕ) (cs : List Connection) (at : Ground) (g : Gone) → IsGoing cs g → IsGoing cs (gone_further n at g)
+unfolding gone_further
+further_going n cs at g on = by g.0.stack on.0.stack where
+  by : (stack : List Frame) → going.AllOn (IsOpen cs) (Goes cs) (both_found cs) stack → IsGoing cs (advanced_by n at g (popped stack))
+  by [] all = on
+  by (f ∷ fs) all = step_going n cs at (record g.0 { stack = fs }, g.1, g.2) f (next_step f) (record { paused = on.0.paused; stack = all.1; outs = on.0.outs }, on.1) all.0
+
+steps_going : (fuel n : ℕ) (cs : List Connection) (at : Ground) (g : Gone) → IsGoing cs g → IsGoing cs (advanced_for fuel n at g)
+steps_going zero n cs at g on = on
+steps_going (suc fuel) n cs at g on = steps_going fuel n cs at (gone_further n at g) (further_going n cs at g on)
+
+-- what stands behind who waits stays, except on a connection that ends
+paused_stays : (cs : List Connection) (e : Event) (ps : List Paused) → ArePausedOn cs ps → ArePausedOn (both_open cs e) (paused_after ps e)
+paused_stays cs (End number) ps on = by ps on where
+  by : (qs : List Paused) → ArePausedOn cs qs → ArePausedOn (without cs number) (filter (λ p. not (eqb p.conn number)) qs)
+  by [] all = tt
+  by (p ∷ qs) all =
+      elim (cases_Bool (eqb p.conn number)) [
+        | inl gone ↦ rw gone (by qs all.1)
+        | inr stays ↦ rw stays (stays_open cs number p.conn stays all.0, by qs all.1)
+      ]
+paused_stays cs e ps on = on
+
+brought_going : (n : ℕ) (s : Whole) (e : Event) → brings_frame s.connections e ≡ true → Waits s.connections s.front → ArePausedOn s.connections s.paused → IsGoing (both_open s.connections e) (frame_in s.paused e, s.front, s.core)
+brought_going n s (Message number bytes) brings waits paused =
+    let cs = s.connections in
+    let there : IsOpen cs number = smb_kind (kind_of cs number) (and_parts (is_smb (kind_of cs number)) (not (is_alone bytes)) brings).0 in
+    (record { paused = paused; stack = (going.opened_on (IsOpen cs) (Goes cs) (both_found cs) number bytes there, tt); outs = tt }, waits)
+brought_going n s e brings waits paused = absurd (true≢false (sym brings))
+
+heard_going : (n : ℕ) (s : Whole) (e : Event) → Waits s.connections s.front → ArePausedOn s.connections s.paused → IsGoing (both_open s.connections e) (settled_in n s.exports (after_hearing (paused_after s.paused e) (heard n s e)))
+heard_going n s e waits paused =
+    let cs = both_open s.connections e in
+    let ps = paused_after s.paused e in
+    let h = heard n s e in
+    let sent = heard_timely n s e waits in
+    let sift = going.sifted_on (IsOpen cs) (Goes cs) (both_found cs) true ps h.0 (paused_stays s.connections e s.paused paused) sent.0 in
+    settled_going n cs s.exports (after_hearing ps h) (record { paused = sift.paused; stack = sift.woken; outs = sift.outs }, sent.1)
+
+begun_going : (n : ℕ) (s : Whole) (e : Event) → Waits s.connections s.front → ArePausedOn s.connections s.paused → IsGoing (both_open s.connections e) (frames_begun n s e)
+unfolding frames_begun
+begun_going n s e waits paused = by (brings_frame s.connections e) refl where
+  by : (brings : Bool) → brings_frame s.connections e ≡ brings → IsGoing (both_open s.connections e) (machine.begun_by n s e brings)
+  by true is = brought_going n s e is waits paused
+  by false is = heard_going n s e waits paused
+
+-- where no frame goes on nothing stands behind anybody
+plain_going : (n : ℕ) (s : Whole) (e : Event) → is_empty s.paused ≡ true → Waits s.connections s.front → IsGoing (both_open s.connections e) (gone_by n s e true)
+plain_going n s e none waits =
+    let cs = both_open s.connections e in
+    let h = heard n s e in
+    let last = settled n s.exports h.1 h.2 in
+    let first = heard_timely n s e waits in
+    let next = settled_timely n cs s.exports h.1 h.2 first.1 in
+    (record { paused = nobody s.paused none; stack = tt; outs = timely_append (numbers cs) (numbers cs) h.0 last.0 first.0 next.0 }, next.1)
+  where
+    nobody : (ps : List Paused) → is_empty ps ≡ true → ArePausedOn (both_open s.connections e) ps
+    nobody [] is = tt
+    nobody (p ∷ ps) is = absurd (true≢false (sym is))
+
+gone_going : (n : ℕ) (s : Whole) (e : Event) → Waits s.connections s.front → ArePausedOn s.connections s.paused → IsGoing (both_open s.connections e) (gone n s e)
+unfolding gone heard_in run
+gone_going n s e waits paused = by (is_plain s e) refl where
+  by : (plain : Bool) → is_plain s e ≡ plain → IsGoing (both_open s.connections e) (gone_by n s e plain)
+  by true is = plain_going n s e (and_parts (is_empty s.paused) (not (brings_frame s.connections e)) is).0 waits
+  by false is = let g = frames_begun n s e in steps_going (steps_left g.0) n (both_open s.connections e) (s.exports, s.connections) g (begun_going n s e waits paused)
+
+-- ---- a step
+
+-- requests wait, and what stands behind them came, on connections of SMB that are open
+abbrev Kept : Whole → Type 0
+Kept s = Waits s.connections s.front × ArePausedOn s.connections s.paused
+
+turn_timely : (n : ℕ) (s : Whole) (e : Event) → is_restart e ≡ false → Kept s
+    → (let opened = numbers s.connections in let g = gone n (as_found s) e in
+    AreTimely opened (opened_after opened s.place e) g.0.outs × Waits (both_open s.connections e) g.1 × ArePausedOn (both_open s.connections e) g.0.paused)
+turn_timely n s e other kept =
     let opened = numbers s.connections in
     let cs = both_open s.connections e in
-    let h = heard n (as_found s) e in
-    let last = settled n s.exports h.1 h.2 in
-    let first = heard_timely n (as_found s) e waits in
-    let next = settled_timely n cs s.exports h.1 h.2 first.1 in (
-      all_weaker (Timely (numbers cs) (numbers cs)) (Timely opened (opened_after opened s.place e)) (h.0 ++ last.0) (λ o on. dest_both s.connections s.place e o.dest other on)
-          (timely_append (numbers cs) (numbers cs) h.0 last.0 first.0 next.0),
-      next.1,
+    let g = gone n (as_found s) e in
+    let on = gone_going n (as_found s) e kept.0 kept.1 in (
+      all_weaker (Timely (numbers cs) (numbers cs)) (Timely opened (opened_after opened s.place e)) g.0.outs (λ o go. dest_both s.connections s.place e o.dest other go) on.0.outs,
+      on.1,
+      on.0.paused,
     )
 
 -- a step is timely, and leaves requests that wait on connections that are open then
-timely : (n : ℕ) (s : Whole) (e : Event) → Waits s.connections s.front → (let opened = numbers s.connections in AreTimely opened (opened_after opened s.place e) (step n s e).outs) × Waits (step n s e).next.connections (step n s e).next.front
+timely : (n : ℕ) (s : Whole) (e : Event) → Kept s → (let opened = numbers s.connections in AreTimely opened (opened_after opened s.place e) (step n s e).outs) × Kept (step n s e).next
 unfolding step connected
-timely n s (Open kind) waits =
-    let r = turn_timely n s (Open kind) refl waits in
-    (r.0, smb_waits.on_weaker (IsOpen s.connections) (IsOpen (with_connection s.connections s.place kind)) _ (λ other on. still_open s.connections s.place kind other on) r.1)
-timely n s Restart waits = (tt, smb_waits.empty_on (IsOpen []))
-timely n s event waits = turn_timely n s event refl waits
+timely n s (Open kind) kept =
+    let r = turn_timely n s (Open kind) refl kept in
+    let g = gone n (as_found s) (Open kind) in
+    let still = λ (other : ℕ) (on : IsOpen s.connections other). still_open s.connections s.place kind other on in
+    (r.0, (smb_waits.on_weaker (IsOpen s.connections) (IsOpen (with_connection s.connections s.place kind)) _ still r.1, all_weaker (λ (p : Paused). IsOpen s.connections p.conn) (λ p. IsOpen (with_connection s.connections s.place kind) p.conn) g.0.paused (λ p on. still p.conn on) r.2))
+timely n s Restart kept = (tt, (smb_waits.empty_on (IsOpen []), tt))
+timely n s event kept = (let r = turn_timely n s event refl kept in (r.0, (r.1, r.2)))
 
-orderly : (s : Whole) (es : List Entry) → Waits s.connections s.front → IsLegal s es → IsOrderly (numbers s.connections) s.place es
-orderly s [] waits legal = tt
-orderly s (e ∷ es) waits legal =
+orderly : (s : Whole) (es : List Entry) → Kept s → IsLegal s es → IsOrderly (numbers s.connections) s.place es
+orderly s [] kept legal = tt
+orderly s (e ∷ es) kept legal =
     let next = (step e.stores s e.event).next in
     let opened = numbers s.connections in
-    let now = timely e.stores s e.event waits in (
+    let now = timely e.stores s e.event kept in (
       subst (λ (outs : List Out). AreTimely opened (opened_after opened s.place e.event) outs) (sym legal.0.1) now.0,
       subst (λ p. IsOrderly (opened_after opened s.place e.event) p es) (next_place e.stores s e.event)
           (subst (λ (left : List ℕ). IsOrderly left next.place es) (open_is e.stores s e.event) (orderly next es now.1 legal.1)),
@@ -360,4 +505,4 @@ orderly s (e ∷ es) waits legal =
 
 -- a legal journal from a first start is orderly
 pub legal_orderly : (head : Head) (es : List Entry) → IsLegal (start_of head) es → IsOrderly [] 0 es
-legal_orderly head es legal = orderly (start_of head) es (smb_waits.empty_on (IsOpen [])) legal
+legal_orderly head es legal = orderly (start_of head) es (smb_waits.empty_on (IsOpen []), tt) legal

@@ -21,7 +21,8 @@ use Rattle.xl_smb_state.specs.Links.{IsSound}
 use Rattle.xl_smb_state.specs.State.{Lists, closed, open_of, opens_under, creates_under}
 use Rattle.xl_smb_state.specs.declared.row.Scope.{Scope}
 use Rattle.xl_smb_state.specs.declared.row.Scope.TheVariants as scope
-use Rattle.xl_core.specs.State.{CoreState, step_begun}
+use Rattle.xl_core.proofs.GoodLaws.{begun_good}
+use Rattle.xl_core.specs.State.{CoreState}
 use Rattle.xl_core.specs.Deeds.{Asks}
 use Rattle.xl_core.specs.Settle.{waits_as}
 use Rattle.xl_front_nlm.proofs.AnswerLaws.{refused_unlocks}
@@ -36,24 +37,31 @@ use Rattle.xl_front_smb.specs.Ending.{leavers, numbers_under, smb_end, without_p
 use Rattle.xl_front_smb.specs.State.{FrontSmb}
 use Rattle.xl_smb_laws.proofs.NothingHeldLaws.{nothing_left}
 use Rattle.xl_smb_laws.specs.OpenRights.{is_held_under}
+use Rattle.xl_house.specs.Done.{rounds}
+use Rattle.xl_house.specs.Free.{IsFree}
 use Rattle.xl_house.specs.Lawful.{Always, found}
 use Rattle.xl_house.specs.Owed.{own_deeds, IsOwedBy, IsOwed, AreGone, IsGoneBy}
-use Rattle.xl_house.specs.Own.{end_own}
-use Rattle.xl_house.specs.State.{Whole, as_found, kind_of, start_of}
+use Rattle.xl_house.specs.Own.{end_own, own_of}
+use Rattle.xl_house.specs.State.{Whole, kind_of, start_of}
 use Rattle.xl_house.specs.declared.layers.Fronts.{Fronts}
-use Rattle.xl_house.proofs.DoneLaws.{own_row}
+use Rattle.xl_house.proofs.AwaitedLaws.{SoundFor}
+use Rattle.xl_house.proofs.DoneLaws.{each_round, own_row}
 use Rattle.xl_house.proofs.EachEntry.{always}
+use Rattle.xl_house.proofs.PartLaws.{of_first}
 use Rattle.xl_house.proofs.Splits.{none_of_each}
 
 -- ---- the end of a call
 
-owed_by : (n : ℕ) (s : Whole) (event : Event) → IsOwedBy n s event
+owed_by : (n : ℕ) (s : Whole) (event : Event) → IsOwedBy s event (own_of n s event).deeds
 owed_by n s (Called number reply) = λ call g found_call refused grant.
-    (Asks (rooms s.front.nlm.hosts) (refusal_ask g), refused_unlocks s.front.nlm (step_begun s.core) number reply call g found_call refused grant, (refl, refl, refl, refl))
+    (Asks (rooms s.front.nlm.hosts) (refusal_ask g), refused_unlocks s.front.nlm s.core number reply call g found_call refused grant, (refl, refl, refl, refl))
 owed_by n s event = tt
 
+each_owed : (n : ℕ) (s : Whole) (event : Event) → IsFree s → AllByRecursion (λ r. IsOwedBy r.found r.cause r.own.deeds) (rounds n s event)
+each_owed n s event free = each_round n s event (λ r. IsOwedBy r.found r.cause r.own.deeds) ((λ t good. owed_by n t event), (λ t conn message good. tt)) (begun_good s.core free.good)
+
 pub always_owed : (head : Head) (es : List Entry) → Always IsOwed (start_of head) es
-always_owed head es = always IsOwed (λ n s e free. owed_by n s e.event) head es
+always_owed head es = always IsOwed (λ n s e free. each_owed n s e.event free) head es
 
 -- ---- the end of a connection
 
@@ -86,10 +94,10 @@ ended_gone f s (Some Smb) number e sound = end_gone f.smb s number sound
 ended_gone f s (Some Rpc) number e sound = absurd cc
 ended_gone f s None number e sound = absurd cc
 
-pub gone_by : (n : ℕ) (s : Whole) (event : Event) → IsSound s.front.smb.state → IsGoneBy n s event
+pub gone_by : (n : ℕ) (s : Whole) (event : Event) → SoundFor event s.front.smb.state → IsGoneBy n s event (own_of n s event).deeds
 gone_by n s (End number) sound = λ smb.
-    subst (λ (left : CoreState). AreGone (step_begun s.core).names number s.front.smb.state left) (own_row n (as_found s) (End number)).does
-    (ended_gone s.front (step_begun s.core) (kind_of s.connections number) number smb sound)
+    subst (λ (left : CoreState). AreGone s.core.names number s.front.smb.state left) (own_row n s (End number)).does
+    (ended_gone s.front s.core (kind_of s.connections number) number smb sound)
 gone_by n s event sound = tt
 
 -- ---- machines that don't
@@ -98,7 +106,7 @@ gone_by n s event sound = tt
 pub refusal_dropped_in : (n stores number : ℕ) (reply : Option (List ℕ)) (outs : List Out) (s t : Whole) (call : GrantedCall) (g : Grant) → find (λ c. c.number == number) s.front.nlm.calls ≡ Some call → refuses reply ≡ true → grant_of (found s).names call.claim ≡ Some g
     → own_deeds n s (Called number reply) ≡ [] → IsOwed n s (record { event = Called number reply; stores = stores; outs = outs }) t → ⊥
 refusal_dropped_in n stores number reply outs s t call g at refused grant none owed =
-    let is = owed call g at refused grant in
+    let is = of_first n s (Called number reply) (λ r. IsOwedBy r.found r.cause r.own.deeds) refl refl owed call g at refused grant in
     let e : [] ≡ (is.0 ∷ []) = sym none ∙ is.1 in
     absurd cc
 

@@ -28,7 +28,7 @@ use Rattle.xl_core.proofs.GoodLaws.{begun_good}
 use Rattle.xl_core.proofs.ThinLaws.{tick_thins}
 use Rattle.xl_core.proofs.TickLaws.{tick_done, tick_in_turn, tick_tells}
 use Rattle.xl_plan.specs.Plans.{AllAt}
-use Rattle.xl_house.specs.Done.{behind_own, deeds, round_of, rounds}
+use Rattle.xl_house.specs.Done.{behind_own, deeds, round_deeds, round_of, rounds}
 use Rattle.xl_house.specs.Free.{WaitsForItself, IsFree}
 use Rattle.xl_house.specs.Journals.{IsLegal, is_restart, may_enter}
 use Rattle.xl_house.specs.Lawful.{Always, found, may_do, may_follow}
@@ -37,13 +37,14 @@ use Rattle.xl_house.specs.Own.{own_of}
 use Rattle.xl_house.specs.Recording.{IsRecordedBy, IsForgetting, IsRaised, IsRecordingBy, AreStored, IsRecording, IsAdmittedBy, IsAdmitting, last_of}
 use Rattle.xl_house.specs.State.{Whole, as_found, start_of}
 use Rattle.xl_house.proofs.AdmittingLaws.{deeds_admit}
-use Rattle.xl_house.proofs.DoneLaws.{behind_follows, deeds_are, deeds_taken, each_event, left_by, left_is, own_row}
+use Rattle.xl_house.proofs.DoneLaws.{behind_follows, deeds_hold as each_hold, deeds_taken, each_event, left_by, left_is, own_row}
 use Rattle.xl_house.proofs.EachEntry.{always}
-use Rattle.xl_house.proofs.ForgettingLaws.{clock_clears, is_of_clock, turns_forget}
+use Rattle.xl_house.proofs.ForgettingLaws.{all_unrecorded, clock_clears, deeds_wait, is_of_clock, parts_forget}
 use Rattle.xl_house.proofs.LawfulLaws.{next_core}
 use Rattle.xl_house.proofs.MachineLaws.{begin_free, begun_knows, step_free, step_is}
 use Rattle.xl_house.proofs.RecordingLaws.{deeds_from, deeds_go, deeds_hold, deeds_noted, deeds_stay}
 use Rattle.xl_house.proofs.StoringLaws.{HasStored, IsPaid, begun_has, deeds_store, free_paid, is_clocked, paid_append, short_is, turns_paid}
+use Rattle.xl_house.proofs.PartLaws.{Behind, own_first}
 use Rattle.xl_house.proofs.TimedLaws.{fit_behind}
 
 -- ---- what is paid for
@@ -84,13 +85,15 @@ own_paid : (n : ℕ) (s : Whole) (event : Event) → IsGood s.core → AllAt (Is
 own_paid n s (Tick now) good = turns_paid n s.core (tick n s.core now).1 (own_of n s (Tick now)).deeds (tick_in_turn n s.core now good)
 own_paid n s event good = free_paid n s.core (own_of n s event).deeds (all_weaker (λ d. may_do event d ≡ true) (λ d. is_clocked d ≡ false) (own_of n s event).deeds (λ d may. others_free event d refl may) ((own_row n s event).may good))
 
+round_paid : (n : ℕ) (s : Whole) (event : Event) → IsGood s.core → AllAt (IsPaid n) n s.core (round_deeds (round_of n s event))
+round_paid n s event good =
+    let own = (own_of n s event).deeds in
+    let behind = behind_own (round_of n s event) in
+    paid_append n s.core own behind (own_paid n s event good)
+    (free_paid n (all_done n s.core own) behind (all_weaker (λ d. may_follow d ≡ true) (λ d. is_clocked d ≡ false) behind (λ d follows. follow_free d follows) (behind_follows (round_of n s event))))
+
 pub deeds_paid : (n : ℕ) (s : Whole) (event : Event) → is_restart event ≡ false → IsGood (step_begun s.core) → AllAt (IsPaid n) n (step_begun s.core) (deeds n s event)
-deeds_paid n s event other good =
-    let own = (own_of n (as_found s) event).deeds in
-    let behind = behind_own (round_of n (as_found s) event) in
-    subst (λ (ds : List Deed). AllAt (IsPaid n) n (step_begun s.core) ds) (sym (deeds_are n s event other))
-    (paid_append n (step_begun s.core) own behind (own_paid n (as_found s) event good)
-    (free_paid n (all_done n (step_begun s.core) own) behind (all_weaker (λ d. may_follow d ≡ true) (λ d. is_clocked d ≡ false) behind (λ d follows. follow_free d follows) (behind_follows (round_of n (as_found s) event)))))
+deeds_paid n s event other good = each_hold n (λ u ds. AllAt (IsPaid n) n u ds) ((λ u. tt), (λ u ds es first later. paid_append n u ds es first later), (λ t e well. round_paid n t e well)) s event other good
 
 -- ---- what is stored
 
@@ -193,11 +196,11 @@ forgets : (n : ℕ) (s : Whole) (now : Moment) → IsFree s → IsForgetting n s
 forgets n s now free client there =
     ap (λ (t : CoreState). is_recorded (client_name client) t.stable.names) (next_core n s (Tick now) refl)
     ∙ ap (λ (x : Stable). is_recorded (client_name client) x.names) (begun_stable (all_done n u (deeds n s (Tick now))))
-    ∙ ap (λ (ds : List Deed). is_recorded (client_name client) (all_done n u ds).stable.names) (deeds_are n s (Tick now) refl)
-    ∙ ap (λ (t : CoreState). is_recorded (client_name client) t.stable.names) (done_append n u own behind)
-    ∙ turns_forget n t behind client (behind_follows (round_of n (as_found s) (Tick now))) (deeds_good n u own good takes) (fit_behind n u own behind fit)
-    (clock_clears n u own client (all_weaker (λ d. may_do (Tick now) d ≡ true) (λ d. is_of_clock d ≡ true) own (λ d may. reading_clocked now d may) ((own_row n (as_found s) (Tick now)).may good)) good takes
-    (subst (λ (ws : List Waiter). AllByRecursion WaitsForItself ws) (sym (begun_waiters s.core)) free.waiters) there)
+    ∙ ap (λ (ds : List Deed). is_recorded (client_name client) (all_done n u ds).stable.names) is.1
+    ∙ ap (λ (t : CoreState). is_recorded (client_name client) t.stable.names) (done_append n u own is.0)
+    ∙ parts_forget n t is.0 client is.2 sound (fit_behind n u own is.0 (subst (λ (ds : List Deed). AreFit n u ds) is.1 (deeds_taken n s (Tick now) refl good)))
+    (all_unrecorded t client sound (deeds_wait n u own good takes waits)
+    (clock_clears n u own client (all_weaker (λ d. may_do (Tick now) d ≡ true) (λ d. is_of_clock d ≡ true) own (λ d may. reading_clocked now d may) ((own_row n (as_found s) (Tick now)).may good)) good takes waits there))
     lacks
   where
     u : CoreState
@@ -206,8 +209,8 @@ forgets n s now free client there =
     own : List Deed
     own = (own_of n (as_found s) (Tick now)).deeds
 
-    behind : List Deed
-    behind = behind_own (round_of n (as_found s) (Tick now))
+    is : Behind own (deeds n s (Tick now))
+    is = own_first n s (Tick now) refl refl
 
     t : CoreState
     t = all_done n u own
@@ -218,8 +221,11 @@ forgets n s now free client there =
     takes : AreFit n u own
     takes = (own_row n (as_found s) (Tick now)).takes good
 
-    fit : AreFit n u (own ++ behind)
-    fit = subst (λ (ds : List Deed). AreFit n u ds) (deeds_are n s (Tick now) refl) (deeds_taken n s (Tick now) refl good)
+    sound : IsGood t
+    sound = deeds_good n u own good takes
+
+    waits : AllByRecursion WaitsForItself u.waiters
+    waits = subst (λ (ws : List Waiter). AllByRecursion WaitsForItself ws) (sym (begun_waiters s.core)) free.waiters
 
     lacks : is_recorded (client_name client) t.stable.names ≡ false
     lacks = ap (λ (x : CoreState). is_recorded (client_name client) x.stable.names) (tick_done n u now) ∙ tick_lacks n u now client (subst (λ (told : List Effect). IsIn client (who_expired told)) (tick_tells n u now) there)

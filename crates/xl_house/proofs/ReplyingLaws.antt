@@ -28,8 +28,10 @@ use Rattle.xl_front_nlm.specs.State.{FrontState}
 use Rattle.xl_house.specs.Lawful.{Always}
 use Rattle.xl_house.specs.Own.{program_own, record_own, message_own}
 use Rattle.xl_house.specs.Replying.{IsOneReply, IsRecordReplied, IsRepliedBy, IsReplied}
-use Rattle.xl_house.specs.State.{Whole, as_found, kind_of, start_of}
+use Rattle.xl_house.specs.State.{Whole, kind_of, start_of}
 use Rattle.xl_house.specs.declared.layers.Fronts.{Fronts}
+use Rattle.xl_core.proofs.GoodLaws.{begun_good}
+use Rattle.xl_house.proofs.DoneLaws.{each_round}
 use Rattle.xl_house.proofs.EachEntry.{always}
 
 -- the bytes begin with this xid
@@ -71,11 +73,12 @@ message_replied n exports f s (Some Smb) conn bytes e = absurd cc
 message_replied n exports f s None conn bytes e = absurd cc
 
 replied_by : (n : ℕ) (s : Whole) (event : Event) → IsRepliedBy n s event
-replied_by n s (Message number bytes) = λ rpc. message_replied n s.exports s.front (as_found s).core (kind_of s.connections number) number bytes rpc
+replied_by n s (Message number bytes) = λ rpc. message_replied n s.exports s.front s.core (kind_of s.connections number) number bytes rpc
 replied_by n s event = tt
 
 pub always_replied : (head : Head) (es : List Entry) → Always IsReplied (start_of head) es
-always_replied head es = always IsReplied (λ n s e free. replied_by n s e.event) head es
+always_replied head es =
+    always IsReplied (λ n s e free. each_round n s e.event (λ r. IsRepliedBy n r.found r.cause) ((λ t good. replied_by n t e.event), (λ t conn message good. replied_by n t (Message conn message))) (begun_good s.core free.good)) head es
 
 -- ---- a machine that doesn't
 

@@ -1,10 +1,10 @@
 -- What a turn grants to an SMB open was waited for, and the open is there afterwards.
-use Rattle.std.proofs.Common.{◌≡◌, ℕ, ◌-◌, ◌≤◌, false, List, [], ◌∷◌, ◌++◌, length, map, Some, refl, sym, ap, subst, ◌∙◌, arith}
+use Rattle.std.proofs.Common.{◌≡◌, ℕ, zero, suc, ◌-◌, ◌≤◌, Bool, true, false, List, [], ◌∷◌, ◌++◌, length, map, Option, Some, None, refl, sym, ap, subst, ◌∙◌, arith}
 use Rattle.std.specs.List.{AllByRecursion}
 use Rattle.xl_base.proofs.Members.{all_in}
 use Rattle.xl_base.specs.Lists.{IsIn}
 use Rattle.xl_base.specs.declared.event.Event.{Event}
-use Rattle.xl_base.specs.declared.event.Event.TheVariants.{Restart}
+use Rattle.xl_base.specs.declared.event.Event.TheVariants.{Message, Restart}
 use Rattle.xl_base.specs.declared.event.Kind.TheVariants.{Smb}
 use Rattle.xl_base.specs.declared.event.Out.{Out}
 use Rattle.xl_base.specs.declared.journal.Entry.{Entry}
@@ -13,7 +13,11 @@ use Rattle.xl_base.specs.declared.journal.Head.{Head}
 use Rattle.xl_base.specs.declared.name.Party.{Party}
 use Rattle.xl_base.specs.declared.name.Protocol.TheVariants as protocols
 use Rattle.xl_matrix.specs.declared.claim.Claim.{Claim}
-use Rattle.xl_smb_state.specs.Links.{most_opens}
+use Rattle.xl_smb_frames.specs.Steps.{next_step}
+use Rattle.xl_smb_frames.specs.declared.frame.Frame.{Frame}
+use Rattle.xl_smb_frames.specs.declared.steps.Step.{Step}
+use Rattle.xl_smb_frames.specs.declared.steps.Step.TheVariants as next
+use Rattle.xl_smb_state.specs.Links.{AreDistinct, most_opens}
 use Rattle.xl_smb_state.specs.State.{Lists, open_of, waiting_of}
 use Rattle.xl_smb_state.specs.declared.row.Open.{Open as OpenRow}
 use Rattle.xl_smb_state.specs.declared.row.Request.{Request}
@@ -24,6 +28,7 @@ use Rattle.xl_core.proofs.GoodLaws.{begun_good}
 use Rattle.xl_core.specs.Good.{IsGood}
 use Rattle.xl_core.specs.Settle.{settle}
 use Rattle.xl_core.specs.State.{CoreState, step_begun}
+use Rattle.xl_smb_laws.specs.TiedRows.{AreSmbTied}
 use Rattle.xl_core.specs.Told.{party_protocol}
 use Rattle.xl_core.specs.declared.ask.Answer.TheVariants as answers
 use Rattle.xl_core.specs.declared.ask.Effect.{Effect}
@@ -39,20 +44,25 @@ use Rattle.xl_smb_laws.proofs.TiedLaws.{start_tied}
 use Rattle.xl_smb_laws.specs.WaitingRequests.{IsAwaited, IsGranted, IsKept, IsUnder}
 use Rattle.xl_front_smb.specs.FrontSmb.{smb_shown}
 use Rattle.xl_front_smb.specs.Laws.{IsLeased}
-use Rattle.xl_house.specs.Awaited.{AreServed, HasItsOpen, HaveOpens, IsAwaiting, IsServedBy, OpenStands, success_of}
-use Rattle.xl_house.specs.Done.{Round, round_of, rounds}
+use Rattle.xl_house.specs.Awaited.{AreServed, HasItsOpen, HaveOpens, IsAwaiting, IsRoundServed, IsServedBy, OpenStands, found_first, success_of}
+use Rattle.xl_house.specs.Done.{Round, done_round, first_by, first_round, round_of, rounds, rounds_by, rounds_for, step_round, top_round}
 use Rattle.xl_house.specs.Free.{IsFree}
 use Rattle.xl_house.specs.Journals.{is_restart, replay}
 use Rattle.xl_house.specs.Lawful.{Always, Law}
-use Rattle.xl_house.specs.Machine.{Turn, heard, step}
-use Rattle.xl_house.specs.State.{Whole, as_found, start_of, rooms_of}
-use Rattle.xl_house.specs.Telling.{TurnTaken, all_shown, framed, settled, taken, turns, turns_sent}
+use Rattle.xl_house.specs.Machine as machine
+use Rattle.xl_house.specs.Machine.{Gone, Ground, Turn, advanced_by, advanced_for, begun_by, connected, found_in, frames_begun, gone, gone_further, gone_on, heard, heard_in, is_plain, part_done, run, steps_left}
+use Rattle.xl_house.specs.Machine.{step}
+use Rattle.xl_house.specs.Sifting.{brings_frame, is_smb, popped}
+use Rattle.xl_house.specs.State.{Whole, as_found, kind_of, start_of, rooms_of}
+use Rattle.xl_house.specs.Telling.{Sent, TurnTaken, all_shown, framed, settled, taken, turns, turns_sent}
+use Rattle.xl_house.specs.declared.connections.Connection.{Connection}
 use Rattle.xl_house.specs.declared.layers.Fronts.{Fronts}
 use Rattle.xl_house.proofs.OwedLaws.{gone_by}
-use Rattle.xl_house.proofs.AwaitedLaws.{Ready, heard_stand, settled_stand, shown_stand, stand_of, turn_tells}
+use Rattle.xl_house.proofs.AwaitedLaws.{Ready, ReadyFor, SoundFor, heard_stand, ready_for, settled_stand, shown_stand, stand_of, turn_tells}
 use Rattle.xl_house.proofs.PairedWaiterLaws.{Stand, same_stand}
 use Rattle.xl_house.proofs.LawfulLaws.{begun_waits}
-use Rattle.xl_house.proofs.DoneLaws.{each_event, rounds_are}
+use Rattle.xl_house.proofs.DistinctLaws.{round_distinct}
+use Rattle.xl_house.proofs.DoneLaws.{each_event, frames_good, further_good, rounds_are}
 use Rattle.xl_house.proofs.MachineLaws.{heard_good, step_is}
 use Rattle.xl_house.proofs.SettleLaws.{turned_good}
 use Rattle.xl_house.proofs.ShownLaws.{all_shown_good, all_shown_is}
@@ -170,13 +180,132 @@ turns_have n exports f s good stand =
 
 -- ---- a round
 
-round_stands : (n : ℕ) (s : Whole) (event : Event) → IsGood s.core → Ready s.front → Stand s.core s.front.smb.state → (let h = heard n s event in let r = settled n s.exports h.1 h.2 in Stand r.2 r.1.smb.state)
-round_stands n s event good ready stand = (let h = heard n s event in settled_stand n s.exports h.1 h.2 (heard_good n s event good) (heard_stand n s event good ready stand))
+-- what each round keeps of the lists and the core
+record Holds (f : Fronts) (s : CoreState) : Type 0 where
+  distinct : AreDistinct f.smb.state
+  stand : Stand s f.smb.state
+  tied : AreSmbTied s f.smb.state
 
-round_has : (n : ℕ) (s : Whole) (event : Event) → IsGood s.core → Ready s.front → Stand s.core s.front.smb.state → (let h = heard n s event in AllHave s.exports (settled n s.exports h.1 h.2).1.smb.state (turns n s.exports h.1 h.2))
-round_has n s event good ready stand = (let h = heard n s event in turns_have n s.exports h.1 h.2 (heard_good n s event good) (heard_stand n s event good ready stand))
+-- the fronts at the end of an event's round, and the core
+abbrev round_end : ℕ → Whole → Event → Sent
+round_end n s event = let h = heard n s event in settled n s.exports h.1 h.2
+
+round_holds : (n : ℕ) (s : Whole) (event : Event) → IsGood s.core → SoundFor event s.front.smb.state → Holds s.front s.core → Holds (round_end n s event).1 (round_end n s event).2
+round_holds n s event good sound holds =
+    let h = heard n s event in
+    let ready : ReadyFor event s.front = (sound, holds.distinct) in
+    record {
+      distinct = round_distinct n s event holds.distinct;
+      stand = settled_stand n s.exports h.1 h.2 (heard_good n s event good) (heard_stand n s event good ready holds.stand);
+      tied = round_tied n s event good ready holds.stand holds.tied;
+    }
+
+-- a state with these fronts, in which each request of SMB that waits has its waiter
+abbrev IsEnd : Fronts → Whole → Type 0
+IsEnd f t = (t.front ≡ f) × IsAwaiting t
+
+found_end : (s : Whole) → Holds s.front s.core → IsEnd s.front s
+found_end s holds = (refl, record { awaits = holds.stand.awaits; keeps = holds.stand.keeps; tied = holds.tied })
+
+round_serves : (n : ℕ) (s : Whole) (event : Event) (t : Whole) → IsGood s.core → SoundFor event s.front.smb.state → Holds s.front s.core → IsEnd (round_end n s event).1 t → IsRoundServed n (round_of n s event) t
+round_serves n s event t good sound holds end =
+    let h = heard n s event in
+    let ready : ReadyFor event s.front = (sound, holds.distinct) in
+    record {
+      distinct = holds.distinct;
+      awaiting = end.1;
+      granted = subst (λ (f : Fronts). AllHave s.exports f.smb.state (turns n s.exports h.1 h.2)) (sym end.0) (turns_have n s.exports h.1 h.2 (heard_good n s event good) (heard_stand n s event good ready holds.stand));
+      gone = gone_by n s event sound;
+    }
+
+-- ---- rounds
+
+-- from this on, these rounds lead there: what holds is kept, and what they leave is as it is to be
+abbrev Leads : ℕ → Gone → List Round → Gone → Type 0
+Leads n g rs h = Holds h.1 h.2 × ((t : Whole) → IsEnd h.1 t → AreServed n rs t × IsEnd g.1 (found_first rs t))
+
+found_then : (rs qs : List Round) (t : Whole) → found_first (rs ++ qs) t ≡ found_first rs (found_first qs t)
+found_then [] qs t = refl
+found_then (r ∷ rs) qs t = refl
+
+served_then : (n : ℕ) (rs qs : List Round) (t : Whole) → AreServed n rs (found_first qs t) → AreServed n qs t → AreServed n (rs ++ qs) t
+served_then n [] qs t first later = later
+served_then n (r ∷ rs) qs t first later = (subst (λ (x : Whole). IsRoundServed n r x) (sym (found_then rs qs t)) first.0, served_then n rs qs t first.1 later)
+
+leads_then : (n : ℕ) (g h k : Gone) (rs qs : List Round) → Leads n g rs h → Leads n h qs k → Leads n g (rs ++ qs) k
+leads_then n g h k rs qs first later = (
+  later.0,
+  λ t end.
+      let behind = later.1 t end in
+      let front = first.1 (found_first qs t) behind.1 in
+      (served_then n rs qs t front.0 behind.0, subst (λ (x : Whole). IsEnd g.1 x) (sym (found_then rs qs t)) front.1),
+)
+
+-- one round
+round_leads : (n : ℕ) (s : Whole) (event : Event) (g h : Gone) → g.1 ≡ s.front → h.1 ≡ (round_end n s event).1 → h.2 ≡ (round_end n s event).2 → IsGood s.core → SoundFor event s.front.smb.state → Holds s.front s.core → Leads n g (round_of n s event ∷ []) h
+round_leads n s event g h begins front core good sound holds = (
+  subst (λ (u : CoreState). Holds h.1 u) (sym core) (subst (λ (f : Fronts). Holds f (round_end n s event).2) (sym front) (round_holds n s event good sound holds)),
+  λ t end. ((round_serves n s event t good sound holds (end.0 ∙ front, end.1), tt), (sym begins, (found_end s holds).1)),
+)
+
+part_leads : (n : ℕ) (at : Ground) (g : Gone) (f : Frame) (message : List ℕ) (smb : Bool) → IsGood g.2 → Holds g.1 g.2 → Leads n g (done_round n at g f.conn message smb) (part_done n at g f message smb)
+part_leads n at g f message true good holds = round_leads n (found_in at g.1 g.2) (Message f.conn message) g (part_done n at g f message true) refl refl refl good tt holds
+part_leads n at g f message false good holds = (holds, λ t end. (tt, end))
+
+step_leads : (n : ℕ) (at : Ground) (g : Gone) (f : Frame) (way : Step) → IsGood g.2 → Holds g.1 g.2 → Leads n g (step_round n at g f way) (gone_on n at g f way)
+step_leads n at g f next.Ends good holds = (holds, λ t end. (tt, end))
+step_leads n at g f (next.Replied reply) good holds = (holds, λ t end. (tt, end))
+step_leads n at g f (next.Asked message) good holds = part_leads n at g f message (is_smb (kind_of at.1 f.conn)) good holds
+
+top_leads : (n : ℕ) (at : Ground) (g : Gone) → IsGood g.2 → Holds g.1 g.2 → Leads n g (top_round n at g (popped g.0.stack).0) (gone_further n at g)
+unfolding gone_further
+top_leads n at g good holds = by (popped g.0.stack) where
+  by : (p : Option Frame × List Frame) → Leads n g (top_round n at g p.0) (advanced_by n at g p)
+  by (None, rest) = (holds, λ t end. (tt, end))
+  by (Some f, rest) = step_leads n at (record g.0 { stack = rest }, g.1, g.2) f (next_step f) good holds
+
+steps_lead : (fuel n : ℕ) (at : Ground) (g : Gone) → IsGood g.2 → Holds g.1 g.2 → Leads n g (rounds_for fuel n at g) (advanced_for fuel n at g)
+steps_lead zero n at g good holds = (holds, λ t end. (tt, end))
+steps_lead (suc fuel) n at g good holds =
+    let h = gone_further n at g in
+    let first = top_leads n at g good holds in
+    leads_then n g h (advanced_for fuel n at h) (top_round n at g (popped g.0.stack).0) (rounds_for fuel n at h) first (steps_lead fuel n at h (further_good n at g good) first.0)
+
+-- what the entry begins from
+abbrev begins_from : Whole → Gone
+begins_from s = (record { paused = s.paused; stack = []; outs = [] }, s.front, s.core)
+
+begun_leads : (n : ℕ) (s : Whole) (event : Event) → IsGood s.core → SoundFor event s.front.smb.state → Holds s.front s.core → Leads n (begins_from s) (first_round n s event) (frames_begun n s event)
+unfolding frames_begun
+begun_leads n s event good sound holds = by (brings_frame s.connections event) where
+  by : (brings : Bool) → Leads n (begins_from s) (first_by n s event brings) (begun_by n s event brings)
+  by true = (holds, λ t end. (tt, end))
+  by false = round_leads n s event (begins_from s) (begun_by n s event false) refl refl refl good sound holds
+
+gone_leads : (n : ℕ) (s : Whole) (event : Event) → IsGood s.core → SoundFor event s.front.smb.state → Holds s.front s.core → Leads n (begins_from s) (rounds_by n s event (is_plain s event)) (gone n s event)
+unfolding gone heard_in run
+gone_leads n s event good sound holds = by (is_plain s event) where
+  by : (plain : Bool) → Leads n (begins_from s) (rounds_by n s event plain) (machine.gone_by n s event plain)
+  by true = round_leads n s event (begins_from s) (machine.gone_by n s event true) refl refl refl good sound holds
+  by false =
+      let at : Ground = (s.exports, s.connections) in
+      let g = frames_begun n s event in
+      let first = begun_leads n s event good sound holds in
+      leads_then n (begins_from s) g (advanced_for (steps_left g.0) n at g) (first_round n s event) (rounds_for (steps_left g.0) n at g) first (steps_lead (steps_left g.0) n at g (frames_good n s event good) first.0)
 
 -- ---- a step
+
+-- what an entry finds
+found_holds : (s : Whole) → Ready s.front → IsAwaiting s → Holds s.front (step_begun s.core)
+found_holds s ready awaiting = record { distinct = ready.1; stand = stand_of s ready awaiting; tied = found_tied s.core s.front.smb.state awaiting.tied }
+
+entry_leads : (n : ℕ) (s : Whole) (event : Event) → IsFree s → Ready s.front → IsAwaiting s → Leads n (begins_from (as_found s)) (rounds_by n (as_found s) event (is_plain s event)) (gone n (as_found s) event)
+entry_leads n s event free ready awaiting = gone_leads n (as_found s) event (begun_good s.core free.good) (ready_for event s.front ready).0 (found_holds s ready awaiting)
+
+turn_waits : (s : Whole) (connections : List Connection) (g : Gone) → Holds g.1 g.2 → IsAwaiting (machine.turn_of s connections g).next
+turn_waits s connections g holds =
+    let is = same_stand g.2 (step_begun g.2) g.1.smb.state (begun_waits g.2) holds.stand in
+    record { awaits = is.awaits; keeps = is.keeps; tied = found_tied g.2 g.1.smb.state holds.tied }
 
 restart_waits : (n : ℕ) (s : Whole) → IsAwaiting (step n s Restart).next
 unfolding step
@@ -184,31 +313,27 @@ restart_waits n s = record { awaits = tt; keeps = tt; tied = start_tied (step n 
 
 step_waits : (n : ℕ) (s : Whole) (event : Event) → is_restart event ≡ false → IsFree s → Ready s.front → IsAwaiting s → IsAwaiting (step n s event).next
 step_waits n s event other free ready awaiting =
-    let found = as_found s in
-    let h = heard n found event in
-    let r = settled n s.exports h.1 h.2 in
-    let is = same_stand r.2 (step_begun r.2) r.1.smb.state (begun_waits r.2) (round_stands n found event (begun_good s.core free.good) ready (stand_of s ready awaiting)) in
-    let tied = round_tied n found event (begun_good s.core free.good) ready (stand_of s ready awaiting) (found_tied s.core s.front.smb.state awaiting.tied) in
-    subst (λ (x : Turn). IsAwaiting x.next) (sym (step_is n s event other)) (record { awaits = is.awaits; keeps = is.keeps; tied = found_tied r.2 r.1.smb.state tied })
+    subst (λ (x : Turn). IsAwaiting x.next) (sym (step_is n s event other)) (turn_waits s (connected s.connections s.place event) (gone n (as_found s) event) (entry_leads n s event free ready awaiting).0)
 
 pub step_awaits : (n : ℕ) (s : Whole) (event : Event) → IsFree s → Ready s.front → IsAwaiting s → IsAwaiting (step n s event).next
 step_awaits n s event free ready awaiting = each_event (λ e. IsAwaiting (step n s e).next) (λ e other. step_waits n s e other free ready awaiting) (restart_waits n s) event
 
-step_grants : (n : ℕ) (s : Whole) (event : Event) → is_restart event ≡ false → IsFree s → Ready s.front → IsAwaiting s → AreServed (step n s event).next (rounds n s event)
+step_grants : (n : ℕ) (s : Whole) (event : Event) → is_restart event ≡ false → IsFree s → Ready s.front → IsAwaiting s → AreServed n (rounds n s event) (step n s event).next
 step_grants n s event other free ready awaiting =
-    let found = as_found s in
-    subst (λ (rs : List Round). AreServed (step n s event).next rs) (sym (rounds_are n s event other))
-    (subst (λ (x : Turn). AreServed x.next (round_of n found event ∷ [])) (sym (step_is n s event other)) (round_has n found event (begun_good s.core free.good) ready (stand_of s ready awaiting), tt))
+    let g = gone n (as_found s) event in
+    let cs = connected s.connections s.place event in
+    let leads = entry_leads n s event free ready awaiting in
+    subst (λ (rs : List Round). AreServed n rs (step n s event).next) (sym (rounds_are n s event other))
+    (subst (λ (x : Turn). AreServed n (rounds_by n (as_found s) event (is_plain s event)) x.next) (sym (step_is n s event other)) (leads.1 (machine.turn_of s cs g).next (refl, turn_waits s cs g leads.0)).0)
 
-no_rounds : (n : ℕ) (s t : Whole) → AreServed t (rounds n s Restart)
+no_rounds : (n : ℕ) (s t : Whole) → AreServed n (rounds n s Restart) t
 unfolding rounds
 no_rounds n s t = tt
 
 pub step_serves : (n : ℕ) (s : Whole) (event : Event) → IsFree s → Ready s.front → IsAwaiting s → IsServedBy n s event (step n s event).next
 step_serves n s event free ready awaiting = (
   step_awaits n s event free ready awaiting,
-  each_event (λ e. AreServed (step n s e).next (rounds n s e)) (λ e other. step_grants n s e other free ready awaiting) (no_rounds n s (step n s Restart).next) event,
-  gone_by n s event ready.0,
+  each_event (λ e. AreServed n (rounds n s e) (step n s e).next) (λ e other. step_grants n s e other free ready awaiting) (no_rounds n s (step n s Restart).next) event,
   record { sound = ready.0; distinct = ready.1 },
 )
 

@@ -1,7 +1,7 @@
 -- What each deed makes of the leases and of the clock, and so what an entry does.
-use Rattle.std.proofs.Common.{◌≡◌, ℕ, ◌+◌, Bool, true, false, List, [], ◌∷◌, ◌++◌, Option, Some, None, IfSome, refl, ap, subst, ◌∙◌}
+use Rattle.std.proofs.Common.{◌≡◌, ℕ, ◌+◌, Bool, true, false, List, [], ◌∷◌, ◌++◌, Option, Some, None, IfSome, inl, inr, refl, sym, ap, subst, ◌∙◌}
 use Rattle.std.specs.List.{AllByRecursion}
-use Rattle.std.proofs.lemmas.Bool.{both_ways}
+use Rattle.std.proofs.lemmas.Bool.{both_ways, cases_Bool}
 use Rattle.xl_base.specs.declared.event.Event.{Event}
 use Rattle.xl_base.specs.declared.event.Event.TheVariants.{Tick, Restart}
 use Rattle.xl_base.specs.declared.event.Moment.{Moment}
@@ -14,7 +14,7 @@ use Rattle.xl_core.specs.State.{CoreState, step_begun, drawn}
 use Rattle.xl_core.specs.Askers.{party_named}
 use Rattle.xl_core.specs.BreakAnswers.{ack, client_of}
 use Rattle.xl_core.specs.Decide.{ask}
-use Rattle.xl_core.specs.Deeds.{Deed, Asks, Serves, Draws, Advances, Lapses, Expires, FailsStore, EndsGrace, turned, done, all_done, IsFitDeed, AreFit}
+use Rattle.xl_core.specs.Deeds.{Deed, Asks, Acks, Cancels, Closes, Serves, Draws, Advances, Lapses, Expires, FailsStore, EndsGrace, turned, done, all_done, IsFitDeed, AreFit}
 use Rattle.xl_core.specs.Frames.{calls_in, drawn_by, names_after, come_by, IsFrame}
 use Rattle.xl_core.specs.Good.{IsGood}
 use Rattle.xl_core.specs.Leases.{Lease, later, without_lease}
@@ -26,13 +26,15 @@ use Rattle.xl_core.proofs.DeedLaws.{deed_good}
 use Rattle.xl_core.proofs.DeedLists.{deeds_good, done_append}
 use Rattle.xl_core.proofs.FrameLaws.{ask_frame, turn_frame, tick_frame}
 use Rattle.xl_core.proofs.TickLaws.{tick_done}
-use Rattle.xl_house.specs.Done.{behind_own, round_of, deeds}
+use Rattle.xl_house.specs.Done.{deeds}
 use Rattle.xl_house.specs.Own.{own_of}
 use Rattle.xl_house.specs.Journals.{is_restart}
-use Rattle.xl_house.specs.Lawful.{may_do, may_follow}
+use Rattle.xl_house.specs.Lawful.{may_do}
+use Rattle.xl_house.specs.Sifting.{brings_frame}
 use Rattle.xl_house.specs.State.{Whole, as_found}
 use Rattle.xl_house.specs.Timed.{without_some, leases_left, leases_after, clock_after}
-use Rattle.xl_house.proofs.DoneLaws.{own_row, deeds_are, deeds_taken, behind_follows}
+use Rattle.xl_house.proofs.DoneLaws.{own_row, deeds_taken}
+use Rattle.xl_house.proofs.PartLaws.{AreOfParts, brought, own_first}
 
 -- ---- the calls of the core
 
@@ -95,29 +97,50 @@ deeds_times n s (d ∷ ds) good fit =
     deeds_times n (done n s d) ds (deed_good n s d good fit.0) fit.1
     ∙ ap (λ (x : Running). (leases_after n (done n s d) ds x.0, clock_by ds x.1)) (deed_times n s d good fit.0)
 
--- ---- what stands behind an event's own deeds leaves both
+-- ---- turns, and what the parts of frames do, leave both
 
-follow_times : (n : ℕ) (s : CoreState) (ds : List Deed) (leases : List Lease) (clock : Moment) → AllByRecursion (λ d. may_follow d ≡ true) ds → (let same : Running = (leases, clock) in (leases_after n s ds leases, clock_by ds clock) ≡ same)
-follow_times n s [] leases clock follow = refl
-follow_times n s (Serves left ∷ ds) leases clock follow = follow_times n (done n s (Serves left)) ds leases clock follow.1
-follow_times n s (Draws ∷ ds) leases clock follow = follow_times n (done n s Draws) ds leases clock follow.1
-follow_times n s (d ∷ ds) leases clock follow = absurd (both_ways false refl follow.0)
+part_times : (n : ℕ) (s : CoreState) (ds : List Deed) (leases : List Lease) (clock : Moment) → AreOfParts ds → (let same : Running = (leases, clock) in (leases_after n s ds leases, clock_by ds clock) ≡ same)
+part_times n s [] leases clock parts = refl
+part_times n s (Asks left a ∷ ds) leases clock parts = part_times n (done n s (Asks left a)) ds leases clock parts.1
+part_times n s (Acks cache to ∷ ds) leases clock parts = part_times n (done n s (Acks cache to)) ds leases clock parts.1
+part_times n s (Cancels id ∷ ds) leases clock parts = part_times n (done n s (Cancels id)) ds leases clock parts.1
+part_times n s (Closes number party ∷ ds) leases clock parts = part_times n (done n s (Closes number party)) ds leases clock parts.1
+part_times n s (Serves left ∷ ds) leases clock parts = part_times n (done n s (Serves left)) ds leases clock parts.1
+part_times n s (Draws ∷ ds) leases clock parts = part_times n (done n s Draws) ds leases clock parts.1
+part_times n s (d ∷ ds) leases clock parts = absurd parts.0
+
+parts_time : (n : ℕ) (s : CoreState) (ds : List Deed) → IsGood s → AreFit n s ds → AreOfParts ds → times_in (all_done n s ds) ≡ times_in s
+parts_time n s ds good fit parts = deeds_times n s ds good fit ∙ part_times n s ds s.leases s.clock parts
 
 pub fit_behind : (n : ℕ) (s : CoreState) (ds es : List Deed) → AreFit n s (ds ++ es) → AreFit n (all_done n s ds) es
 fit_behind n s [] es fit = fit
 fit_behind n s (d ∷ ds) es fit = fit_behind n (done n s d) ds es fit.1
 
 pub left_times : (n : ℕ) (s : Whole) (event : Event) → is_restart event ≡ false → IsGood (step_begun s.core) → (let found = step_begun s.core in times_in (all_done n found (deeds n s event)) ≡ times_in (all_done n found (own_of n (as_found s) event).deeds))
-left_times n s event other good =
-    let found = step_begun s.core in
-    let own = (own_of n (as_found s) event).deeds in
-    let behind = behind_own (round_of n (as_found s) event) in
-    let t = all_done n found own in
-    let fit = subst (λ (ds : List Deed). AreFit n found ds) (deeds_are n s event other) (deeds_taken n s event other good) in
-    ap (λ (ds : List Deed). times_in (all_done n found ds)) (deeds_are n s event other)
-    ∙ ap times_in (done_append n found own behind)
-    ∙ deeds_times n t behind (deeds_good n found own good ((own_row n (as_found s) event).takes good)) (fit_behind n found own behind fit)
-    ∙ follow_times n t behind t.leases t.clock (behind_follows (round_of n (as_found s) event))
+left_times n s event other good = elim (cases_Bool (brings_frame s.connections event)) [ inl brings ↦ in_frames brings | inr none ↦ alone none ] where
+  found : CoreState
+  found = step_begun s.core
+
+  own : List Deed
+  own = (own_of n (as_found s) event).deeds
+
+  takes : AreFit n found own
+  takes = (own_row n (as_found s) event).takes good
+
+  fit : AreFit n found (deeds n s event)
+  fit = deeds_taken n s event other good
+
+  alone : brings_frame s.connections event ≡ false → times_in (all_done n found (deeds n s event)) ≡ times_in (all_done n found own)
+  alone none =
+      let is = own_first n s event other none in
+      ap (λ (ds : List Deed). times_in (all_done n found ds)) is.1
+      ∙ ap times_in (done_append n found own is.0)
+      ∙ parts_time n (all_done n found own) is.0 (deeds_good n found own good takes) (fit_behind n found own is.0 (subst (λ (ds : List Deed). AreFit n found ds) is.1 fit)) is.2
+
+  in_frames : brings_frame s.connections event ≡ true → times_in (all_done n found (deeds n s event)) ≡ times_in (all_done n found own)
+  in_frames brings =
+      let parts = brought n s event brings in
+      parts_time n found (deeds n s event) good fit parts.0 ∙ sym (parts_time n found own good takes parts.1)
 
 -- ---- the clock
 

@@ -1,5 +1,5 @@
 -- Requests of SMB that wait: each is a waiter of the core at a free moment, and each waiter of an SMB open has its
--- request; and what a turn grants to an SMB open has its open afterwards, and is answered (MS-SMB2 3.3.4.2, 3.3.4.4,
+-- request; and what a turn grants to an SMB open has its open behind its round, and is answered (MS-SMB2 3.3.4.2, 3.3.4.4,
 -- 3.3.5.9).
 use Rattle.std.specs.Prelude.{◌≡◌, ℕ, true, List, [], ◌∷◌, ◌++◌, map, Some}
 use Rattle.std.specs.List.{AllByRecursion}
@@ -75,19 +75,36 @@ pub record HasItsOpen (exports : Exports) (last : Lists) (turn : TurnTaken) (par
 abbrev pub HaveOpens : Exports → Lists → TurnTaken → Type 0
 HaveOpens exports last turn = (party : Party) (id number : ℕ) (claim : Claim) → IsIn (Served party id (Granted claim)) turn.told → claim.owner ≡ owners.Open number → HasItsOpen exports last turn party id number claim
 
+-- ---- a round
+
+-- what these rounds lead on from: the state that the first of them finds, or that after them if there is none
+abbrev pub found_first : List Round → Whole → Whole
+found_first [] t = t
+found_first (r ∷ rs) t = r.found
+
+-- What a round leaves, which this state shows: who waits then; each claim that its turns granted to an SMB open has its open; and
+-- nothing is left of a connection that it ended. No two rows of a list had one key as it found them.
+pub record IsRoundServed (n : ℕ) (r : Round) (left : Whole) : Type 0 where
+  pub distinct : AreDistinct r.found.front.smb.state
+  pub awaiting : IsAwaiting left
+  pub granted : AllByRecursion (λ turn. HaveOpens r.found.exports left.front.smb.state turn) r.turns
+  pub gone : IsGoneBy n r.found r.cause r.own.deeds
+
+-- so it is of each of these, behind which this state is: a round leaves what the next one finds
+abbrev pub AreServed : ℕ → List Round → Whole → Type 0
+AreServed n [] t = Unit {0}
+AreServed n (r ∷ rs) t = IsRoundServed n r (found_first rs t) × AreServed n rs t
+
 -- ---- an entry
 
--- What the turns of an entry grant, by this state after it: each claim for an SMB open has its open.
-abbrev pub AreServed : Whole → List Round → Type 0
-AreServed t rs = AllByRecursion (λ r. AllByRecursion (λ turn. HaveOpens r.found.exports t.front.smb.state turn) r.turns) rs
-
--- who waits afterwards, what was granted, what a connection's end leaves, and how the lists were found, by the event
+-- who waits afterwards, what its rounds leave, and how the lists were found, by the event
 abbrev pub IsServedBy : ℕ → Whole → Event → Whole → Type 0
-IsServedBy n s event t = IsAwaiting t × AreServed t (rounds n s event) × IsGoneBy n s event × IsInOrder s
+IsServedBy n s event t = IsAwaiting t × AreServed n (rounds n s event) t × IsInOrder s
 
--- After the entry each request of SMB that waits is a waiter of the core, and each waiter of an SMB open has its
--- request. What a turn of the entry grants to an SMB open was waited for by a request of that open, which is there
--- after the entry, and the request is answered that it succeeded. The end of a connection of SMB leaves nothing of the
--- opens that were under it. The lists of SMB are in order before the entry, and tied to the core after it.
+-- After the entry, and behind each of its rounds, each request of SMB that waits is a waiter of the core, and each waiter
+-- of an SMB open has its request. What a turn of a round grants to an SMB open was waited for by a request of that open,
+-- which is there behind that round, and the request is answered that it succeeded; a later part of the same frame may
+-- close it. The end of a connection of SMB leaves nothing of the opens that were under it. The lists of SMB are in order
+-- before the entry, and tied to the core behind each round.
 abbrev pub IsServed : Law
 IsServed n s e t = IsServedBy n s e.event t

@@ -1,6 +1,6 @@
 -- What holds of each entry of a journal, whatever protocol it came by: what is held afterwards, who waits, what was
 -- granted, what caused it, and what is sent.
-use Rattle.std.specs.Prelude.{◌≡◌, ℕ, ◌==◌, Bool, true, false, List, [], ◌∷◌}
+use Rattle.std.specs.Prelude.{◌≡◌, ◌⊎◌, ℕ, ◌==◌, Bool, true, false, List, [], ◌∷◌}
 use Rattle.std.specs.List.{AllByRecursion}
 use Rattle.xl_base.specs.Lists.{IsIn}
 use Rattle.xl_base.specs.declared.event.Event.{Event}
@@ -152,11 +152,16 @@ may_follow (Serves left) = true
 may_follow Draws = true
 may_follow deed = false
 
--- What is done in a round is done by the entry's event. Each of its own deeds is one that such an event may do; a
--- message's are of the clients that the message names, or of opens of its connection, those of a connection's end are of
--- its opens, and those of a call's end of the grant that it sent; behind them stand turns alone.
+-- a message that stands in a frame of several
+abbrev pub IsPart : Event → Type 0
+IsPart cause = (conn : ℕ) × (message : List ℕ) × (cause ≡ Message conn message)
+
+-- What is done in a round is done by the entry's event, or by a part of a frame that it brings or that goes on by it. Each of
+-- its own deeds is one that such an event may do; a message's are of the clients that the message names, or of opens of its
+-- connection, those of a connection's end are of its opens, and those of a call's end of the grant that it sent; behind them
+-- stand turns alone.
 pub record IsCausedBy (n : ℕ) (event : Event) (r : Round) : Type 0 where
-  pub cause : r.cause ≡ event
+  pub cause : (r.cause ≡ event) ⊎ IsPart r.cause
   pub own : AllByRecursion (λ d. may_do r.cause d ≡ true) r.own.deeds
   pub clients : AreOf n r.found.exports r.found.front r.found.core r.own.whose r.own.deeds
   pub behind : AllByRecursion (λ d. may_follow d ≡ true) (behind_own r)
@@ -167,7 +172,7 @@ IsCaused n s e t = AllByRecursion (λ r. IsCausedBy n e.event r) (rounds n s e.e
 
 -- ---- sent
 
--- What is sent is what telling of its own deeds sends, the fronts' reply to what they were answered, and behind it what
--- telling of the turns sends.
+-- What is sent is what telling of the own deeds of each round sends, the fronts' reply to what they were answered, and behind it what
+-- telling of the turns sends; the replies of a frame of several messages are sent together.
 abbrev pub IsTold : Law
 IsTold n s e t = e.outs ≡ messages n s e.event

@@ -2,7 +2,9 @@ pub mod State
 pub mod Telling
 pub mod Owners
 pub mod Own
+pub mod Sifting
 pub mod Machine
+pub mod Owing
 pub mod Shown
 pub mod Done
 pub mod Timed
@@ -11,6 +13,7 @@ pub mod Owed
 pub mod Asking
 pub mod Meant
 pub mod Replying
+pub mod Parted
 pub mod Notices
 pub mod Notified
 pub mod Entries

@@ -1,5 +1,6 @@
 -- All that an entry sends: its news, and the reply to its message.
 use Rattle.std.specs.Prelude.{◌≡◌, ◌⊎◌, ℕ, List, [], ◌∷◌, ◌++◌, map, Option, Some, None, is_some}
+use Rattle.std.specs.List.{AllByRecursion}
 use Rattle.xl_base.specs.Lists.{IsIn}
 use Rattle.xl_base.specs.declared.event.Event.{Event}
 use Rattle.xl_base.specs.declared.event.Event.TheVariants.{Message, Restart}
@@ -21,12 +22,12 @@ use Rattle.xl_core.specs.declared.ask.Effect.{Effect}
 use Rattle.xl_core.specs.declared.ask.Effect.TheVariants.{Begun}
 use Rattle.xl_plan.specs.Plans.{AllAt}
 use Rattle.xl_smb_laws.specs.Heard.{IsHeard}
-use Rattle.xl_house.specs.Done.{Round, deeds, round_of}
+use Rattle.xl_house.specs.Done.{Round, deeds, messages, round_outs, rounds}
 use Rattle.xl_house.specs.Lawful.{Law, found}
 use Rattle.xl_house.specs.Machine.{replied_by}
 use Rattle.xl_house.specs.Notices.{IsNews}
 use Rattle.xl_house.specs.Replying.{IsRecordReplied}
-use Rattle.xl_house.specs.State.{Whole, as_found, nfs_opens, rooms_of}
+use Rattle.xl_house.specs.State.{Whole, nfs_opens, rooms_of}
 use Rattle.xl_house.specs.Telling.{TurnTaken, all_shown, framed, showing}
 use Rattle.xl_house.specs.declared.layers.Fronts.{Fronts}
 
@@ -91,9 +92,11 @@ IsAnnouncing n s deed = Unit {0}
 -- a restart sends nothing
 abbrev pub IsSentBy : ℕ → Whole → Event → List Out → Type 0
 IsSentBy n s Restart outs = outs ≡ []
-IsSentBy n s event outs = IsRoundSent n (round_of n (as_found s) event) outs × AllAt (λ u d. IsAnnouncing n u d) n (found s) (deeds n s event)
+IsSentBy n s event outs =
+    (outs ≡ messages n s event) × AllByRecursion (λ r. IsRoundSent n r (round_outs r)) (rounds n s event) × AllAt (λ u d. IsAnnouncing n u d) n (found s) (deeds n s event)
 
--- What an entry sends is for each effect of its deeds the one message that is due to it, to whom it is due, and the replies to its
--- message; and each break that begins is told of by such an effect.
+-- What a round of an entry sends is for each effect of its deeds the one message that is due to it, to whom it is due, and the
+-- replies to its message; the entry sends what its rounds send, the replies of a frame of several messages together; and each
+-- break that begins is told of by such an effect.
 abbrev pub IsNotified : Law
 IsNotified n s e t = IsSentBy n s e.event e.outs

@@ -16,7 +16,8 @@ use Rattle.xl_front_nlm.specs.declared.call.GrantedCall.{GrantedCall}
 use Rattle.xl_front_nlm.specs.declared.grant.Grant.{Grant}
 use Rattle.xl_front_smb.specs.Ending.{numbers_under}
 use Rattle.xl_smb_laws.specs.OpenRights.{LeavesNothing}
-use Rattle.xl_house.specs.Lawful.{Law, found}
+use Rattle.xl_house.specs.Done.{rounds}
+use Rattle.xl_house.specs.Lawful.{Law}
 use Rattle.xl_house.specs.Own.{own_of}
 use Rattle.xl_house.specs.Owners.{IsRefusal}
 use Rattle.xl_house.specs.State.{Whole, as_found, kind_of}
@@ -27,17 +28,17 @@ use Rattle.xl_house.specs.State.{Whole, as_found, kind_of}
 abbrev pub own_deeds : ℕ → Whole → Event → List Deed
 own_deeds n s event = (own_of n (as_found s) event).deeds
 
--- If the client refuses the lock whose grant a call sent, which awaits its answer, just one thing is done: what the call sent is
--- unlocked (XNFS C702, NLM_GRANTED).
-abbrev pub IsOwedBy : ℕ → Whole → Event → Type 0
-IsOwedBy n s (Called number reply) =
-    (call : GrantedCall) (g : Grant) → find (λ c. c.number == number) s.front.nlm.calls ≡ Some call → refuses reply ≡ true → grant_of (found s).names call.claim ≡ Some g
-    → (d : Deed) × (own_deeds n s (Called number reply) ≡ d ∷ []) × IsRefusal g d
-IsOwedBy n s event = Unit {0}
+-- If the client refuses the lock whose grant a call sent, which awaits its answer, just one thing is done in the call's round: what
+-- the call sent is unlocked (XNFS C702, NLM_GRANTED). So it is by what the round finds, and by its own deeds.
+abbrev pub IsOwedBy : Whole → Event → List Deed → Type 0
+IsOwedBy s (Called number reply) ds =
+    (call : GrantedCall) (g : Grant) → find (λ c. c.number == number) s.front.nlm.calls ≡ Some call → refuses reply ≡ true → grant_of s.core.names call.claim ≡ Some g
+    → (d : Deed) × (ds ≡ d ∷ []) × IsRefusal g d
+IsOwedBy s event ds = Unit {0}
 
--- so it is of each entry
+-- so it is of each round of an entry
 abbrev pub IsOwed : Law
-IsOwed n s e t = IsOwedBy n s e.event
+IsOwed n s e t = AllByRecursion (λ r. IsOwedBy r.found r.cause r.own.deeds) (rounds n s e.event)
 
 -- ---- the end of a connection
 
@@ -47,7 +48,7 @@ pub record AreGone (names : List Name) (conn : ℕ) (l : Lists) (left : CoreStat
   pub held : LeavesNothing names (scope.Connection conn) l left
   pub waiting : AllByRecursion (λ w. AllByRecursion (λ number. waits_as number w ≡ false) (numbers_under (scope.Connection conn) l)) left.waiters
 
--- so it is once the deeds of the end of a connection of SMB are done (MS-SMB2 3.3.7.1)
-abbrev pub IsGoneBy : ℕ → Whole → Event → Type 0
-IsGoneBy n s (End number) = kind_of s.connections number ≡ Some Smb → AreGone (found s).names number s.front.smb.state (all_done n (found s) (own_deeds n s (End number)))
-IsGoneBy n s event = Unit {0}
+-- So it is once the own deeds of the round of the end of a connection of SMB are done, by what the round finds (MS-SMB2 3.3.7.1).
+abbrev pub IsGoneBy : ℕ → Whole → Event → List Deed → Type 0
+IsGoneBy n s (End number) ds = kind_of s.connections number ≡ Some Smb → AreGone s.core.names number s.front.smb.state (all_done n s.core ds)
+IsGoneBy n s event ds = Unit {0}

@@ -13,15 +13,17 @@ use Rattle.xl_front_nfs.specs.State.{empty_nfs_front}
 use Rattle.xl_front_nlm.specs.State.{empty_front}
 use Rattle.xl_nfs_state.specs.State.{opens}
 use Rattle.xl_front_smb.specs.State.{empty_smb_front, opens_held}
+use Rattle.xl_smb_frames.specs.declared.frame.Paused.{Paused}
 use Rattle.xl_house.specs.declared.layers.Fronts.{Fronts}
 use Rattle.xl_house.specs.declared.connections.Connection.{Connection}
 
--- the state between two events: what is exported, the place of the next event, the open connections, the fronts, and the
--- core
+-- the state between two events: what is exported, the place of the next event, the open connections, what stands behind
+-- requests of SMB that wait in their frames, the fronts, and the core
 pub record Whole : Type 0 where
   pub exports : Exports
   pub place : ℕ
   pub connections : List Connection
+  pub paused : List Paused
   pub front : Fronts
   pub core : CoreState
 
@@ -35,7 +37,7 @@ no_fronts = record { nlm = empty_front; nfs = empty_nfs_front; smb = empty_smb_f
 
 -- the state after a first start: nothing is held, and the record is the loaded one with its epoch raised (HOUSE-9)
 abbrev pub begin : Head → Whole
-begin head = record { exports = head.exports; place = 0; connections = []; front = no_fronts; core = started (raised head.record) head.start (times_of head.exports) }
+begin head = record { exports = head.exports; place = 0; connections = []; paused = []; front = no_fronts; core = started (raised head.record) head.start (times_of head.exports) }
 
 -- the state from which the entries of a journal with this head lead on
 abbrev pub start_of : Head → Whole

@@ -36,7 +36,7 @@ record_left k n s event = last_of (take k (step n s event).given) s.core.stable
 -- A start on that record: all else of the step is lost, and all that was held (HOUSE-9).
 abbrev pub crashed : ℕ → ℕ → Moment → Whole → Event → Whole
 crashed k n now s event =
-    record { exports = s.exports; place = 0; connections = []; front = no_fronts; core = started (raised (record_left k n s event)) now (times_of s.exports) }
+    record { exports = s.exports; place = 0; connections = []; paused = []; front = no_fronts; core = started (raised (record_left k n s event)) now (times_of s.exports) }
 
 -- What a crash makes of the record, in the step of an event of whose stores n would have succeeded, once its first k stores were
 -- made: a name comes into it, and a mark beside it, only by a monitored ask of its client with that mark in that step, which

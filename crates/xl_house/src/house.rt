@@ -16,6 +16,7 @@ ghost use Rattle.xl_house.specs.Entries.{IsWishing, IsBreaking, IsKeeping, IsPar
 ghost use Rattle.xl_house.specs.Owed.{IsOwed};
 ghost use Rattle.xl_house.specs.Replying.{IsReplied};
 ghost use Rattle.xl_house.specs.Notified.{IsNotified};
+ghost use Rattle.xl_house.specs.Parted.{IsParted};
 ghost use Rattle.xl_house.specs.Asking.{IsAsking};
 ghost use Rattle.xl_house.specs.Meant.{IsMeant};
 ghost use Rattle.xl_house.specs.Free.{IsFree, AlwaysFree};
@@ -31,6 +32,7 @@ ghost use Rattle.xl_reclaims.specs.Truthful.{Before, WereHeld};
 ghost use Rattle.xl_house.specs.State.{no_fronts, times_of, start_of};
 ghost use Rattle.xl_plan.specs.Keepers.{telling};
 ghost use Rattle.xl_house.specs.Serials.{IsHistory, MayHalt};
+ghost use Rattle.xl_house.specs.Sifting.{paused_left};
 ghost use Rattle.xl_house.specs.Whole.{whole_of};
 
 use crate::layers::{Fronts, Layers};
@@ -112,14 +114,14 @@ fn act_and_enter<K: Keeper>(
     requires few { length entries.old.items ≤ most_entries }
     requires free { IsFree (whole_of exports.now machine.old) }
     requires holds { Holds (K.held keeper.old) machine.old.layers.core.stable }
-    requires numbers { numbers_of machine.old.layers.core ≤ most_numbers * length entries.old.items }
+    requires numbers { numbers_of machine.old.layers.core + 3 * paused_left machine.old.paused ≤ most_numbers * length entries.old.items }
     requires short { AreShort machine.old.layers.core.names }
     requires goes_on { is_restart event ≡ false }
     ensures place { IfOk result (λ place. place ≡ length entries.old.items) }
     ensures below { IfOk result (λ place. place < most_entries) }
     ensures few { length entries.new.items ≤ most_entries }
     ensures short { OnOk result (AreShort machine.new.layers.core.names) }
-    ensures numbers { OnOk result (numbers_of machine.new.layers.core ≤ numbers_of machine.old.layers.core + most_numbers) }
+    ensures numbers { OnOk result (numbers_of machine.new.layers.core + 3 * paused_left machine.new.paused ≤ numbers_of machine.old.layers.core + 3 * paused_left machine.old.paused + most_numbers) }
     ensures entered { OnOk result (entries.new.items ≡ entries.old.items ++ entry (last_stores entries.new.items) (whole_of exports.now machine.old) event ∷ []) }
     ensures made { OnOk result ((step (last_stores entries.new.items) (whole_of exports.now machine.old) event).made ≡ last_stores entries.new.items) }
     ensures next { OnOk result (whole_of exports.now machine.new ≡ (step (last_stores entries.new.items) (whole_of exports.now machine.old) event).next) }
@@ -152,11 +154,13 @@ fn begin_anew(alloc: Global, machine: &mut Machine, core: Core)
     requires { machine.old.place < 2 ^ 63 }
     ensures place { machine.new.place ≡ machine.old.place + 1 }
     ensures connections { machine.new.connections.items ≡ [] }
+    ensures paused { machine.new.paused ≡ [] }
     ensures front { machine.new.layers.front ≡ no_fronts }
     ensures core { machine.new.layers.core ≡ core }
 {
     machine.place += 1;
     machine.connections.clear();
+    machine.paused = Sequence::new(alloc);
     machine.layers = Layers {
         front: Fronts::new(alloc),
         core,
@@ -255,6 +259,7 @@ fn retire(machine: Machine) {
     let Machine {
         place: _,
         connections: _,
+        paused: _,
         layers: Layers {
             front: Fronts { nlm, nfs, smb },
             core,
@@ -283,6 +288,7 @@ impl<K: Keeper> House<K> {
             machine: Machine {
                 place: 0,
                 connections: Vec::new(alloc),
+                paused: Sequence::new(alloc),
                 layers: Layers {
                     front: Fronts::new(alloc),
                     core,
@@ -301,8 +307,9 @@ impl<K: Keeper> House<K> {
     /// (`keeper`); if it tells how many stores succeed, the entry is the machine's with so many (`allowed`).
     ///
     /// After an error the journal is as it was, and each later step returns the same error. JournalFull comes exactly if the
-    /// journal has 1,048,576 entries. After NoMemory the keeper may have been given some of the step's records. If the step
-    /// grants what a CREATE or a LOCK of SMB waited for, the open is there afterwards (`served`).
+    /// journal has 1,048,576 entries. After NoMemory the keeper may have been given some of the step's records. If a round of the
+    /// step grants what a CREATE or a LOCK of SMB waited for, the open is there behind that round, and a later part of the same frame
+    /// may close it (`served`). A frame of several messages of SMB does what its parts do as messages alone, in order (`parted`).
     ///
     /// As a `Serial` a house takes events only while it is not halted.
     #[tactic(auto, using(crate::proofs::JournalLaws::legal_next, crate::proofs::JournalLaws::stands_next))]
@@ -319,6 +326,7 @@ impl<K: Keeper> House<K> {
         ensures started { (count : ℕ) → self.old.halt ≡ None → result ≡ Err (Halt.StartStore count) → ⊥ }
         ensures may { IfErr result (λ reason. MayHalt self.old.entries reason) }
         ensures served { OnOk result (IsServedBy (last_stores self.new.entries) (replay (start_of self.old.head) self.old.entries) event (replay (start_of self.new.head) self.new.entries)) }
+        ensures parted { OnOk result (IsParted (last_stores self.new.entries) (replay (start_of self.old.head) self.old.entries) (entry (last_stores self.new.entries) (replay (start_of self.old.head) self.old.entries) event) (step (last_stores self.new.entries) (replay (start_of self.old.head) self.old.entries) event).next) }
         ensures holds { OnOk result (Holds (K.held self.new.keeper) (replay (start_of self.new.head) self.new.entries).core.stable) }
     {
         match self.halt {
@@ -342,13 +350,13 @@ impl<K: Keeper> House<K> {
     }
 
     /// Starts the server again: a house whose next entry is a restart. It loads the keeper's record, which is the machine's, and
-    /// stores it with its epoch raised; it stores nothing else, and nothing if the load failed. Nothing is held afterwards: no claim,
-    /// waiter, connection, client or call without an answer, and numbers begin anew. Grace runs if the record has names. The journal
-    /// goes on, and so do the clock and the places.
+    /// stores it with its epoch raised; it stores nothing else, and nothing if the load failed. Nothing is held afterwards: no
+    /// claim, waiter, connection, client or call without an answer, and numbers begin anew. Grace runs if the record has names.
+    /// The journal goes on, and so do the clock and the places.
     ///
-    /// A house that halted ends with that halt. JournalFull comes exactly if the journal has 1,048,576 entries. StartStore comes only
-    /// if the load or the store failed: its number is the keeper's count of faults, which rose, and the keeper holds what it held
-    /// before. After an error the journal is as it was, without the restart.
+    /// A house that halted ends with that halt. JournalFull comes exactly if the journal has 1,048,576 entries. StartStore comes
+    /// only if the load or the store failed: its number is the keeper's count of faults, which rose, and the keeper holds what it
+    /// held before. After an error the journal is as it was, without the restart.
     pub fn restart(self, alloc: Global) -> Result<House<K>, Ended<K>>
         ensures ok { IfOk result (λ h. (h.head ≡ self.head) × (h.entries ≡ self.entries ++ entry 1 (replay (start_of self.head) self.entries) Restart ∷ []) × (h.halt ≡ None)) }
         ensures next { IfOk result (λ h. replay (start_of self.head) h.entries ≡ (step 1 (replay (start_of self.head) self.entries) Restart).next) }
@@ -461,8 +469,8 @@ impl<K: Keeper> House<K> {
     ///   mark beside it, by a monitored ask of its client with that mark alone, which reclaims nothing; it goes only as its client
     ///   expires, or at the end of a grace in which it reclaimed nothing; while it stays its mark goes only by such an ask with
     ///   another; each such ask that is granted leaves it recorded, with its mark if it has one; who expired is not in it;
-    /// - admitted: while grace runs a share or a lock is granted only to one who reclaims it and whose client is recorded, with a mark
-    ///   that agrees with its own;
+    /// - admitted: while grace runs a share or a lock is granted only to one who reclaims it and whose client is recorded, with a
+    ///   mark that agrees with its own;
     /// - parties: each claim is held for a party that had something of its owner's there, asked for it, or waited for it;
     /// - waiting: those who waited go on to wait, except those whom the entry served, cancelled or ended;
     /// - kept_until_answered: while the break of a cache runs, the cache is held at its full kind, until its party
@@ -473,20 +481,25 @@ impl<K: Keeper> House<K> {
     ///   was due by a reading of the clock was done, except what waits for a store that failed;
     /// - fit: each deed is one that may be done where it is done;
     /// - wished: a wish got one of its choices, the least kind with one of them and what its party had, or nothing;
-    /// - asking: an ask of a request of NLM is on the file that it names, a reclaim if it says so, with the state that it names as its
-    ///   mark, and within the room for hosts; those of an operation of NFSv4 are for what it says, on the file of its current handle or
-    ///   that it claims there, a reclaim if it says so, and of a confirmed client with its verifier as their mark; those of a LOCK
-    ///   and a CREATE of SMB are of the open and on the file that they name;
+    /// - asking: an ask of a request of NLM is on the file that it names, a reclaim if it says so, with the state that it names as
+    ///   its mark, and within the room for hosts; those of an operation of NFSv4 are for what it says, on the file of its current
+    ///   handle or that it claims there, a reclaim if it says so, and of a confirmed client with its verifier as their mark; those
+    ///   of a LOCK and a CREATE of SMB are of the open and on the file that they name;
     /// - owed: a grant that its client refuses is given up;
     /// - meant: what the reply to a request of NLM says is done is done, and of SMB that to a LOCK, CREATE, CLOSE, LOGOFF,
-    ///   TREE_DISCONNECT, OPLOCK_BREAK or CANCEL; the stateids that a reply of NFSv4 tells name what is there, what its OPEN, OPEN_DOWNGRADE, CLOSE, LOCK, LOCKU, DELEGRETURN, RENEW and
-    ///   RELEASE_LOCKOWNER say is done is done, and its LOCKT is answered by what is held;
+    ///   TREE_DISCONNECT, OPLOCK_BREAK or CANCEL; the stateids that a reply of NFSv4 tells name what is there, what its OPEN,
+    ///   OPEN_DOWNGRADE, CLOSE, LOCK, LOCKU, DELEGRETURN, RENEW and RELEASE_LOCKOWNER say is done is done, and its LOCKT is
+    ///   answered by what is held;
     /// - caused: the deeds are those that the event may cause;
     /// - replied: each call of ONC RPC has one reply, on its own connection and with its own xid;
     /// - told: what is sent follows from the deeds and their answers;
     /// - notified: each effect of an entry is told by one message to whom it is due, each break that begins has its effect, and besides
     ///   only the message is replied to;
-    /// - served: each request of SMB that waits has its waiter and each waiter its request, and a granted one has its open;
+    /// - parted: a frame of several messages of SMB is its parts, each done in order as a message alone once the table is settled
+    ///   after the one before, with their replies in one frame; and so is what stands behind a part that waited, once that is served
+    ///   or cancelled;
+    /// - served: behind each round of an entry each request of SMB that waits has its waiter and each waiter its request, and a
+    ///   granted one has its open;
     /// - tied: each stateid of NFSv4 is its owner's, under a number of its own that was given out, and each client of NFSv4 has on each
     ///   file just the delegation that its cache there is, and a lease exactly if its record is confirmed;
     /// - orderly: nothing is sent to a connection before its opening or after its end;
@@ -519,6 +532,7 @@ impl<K: Keeper> House<K> {
         ensures replied { Always IsReplied (start_of result.0.head) result.0.entries }
         ensures told { Always IsTold (start_of result.0.head) result.0.entries }
         ensures notified { Always IsNotified (start_of result.0.head) result.0.entries }
+        ensures parted { Always IsParted (start_of result.0.head) result.0.entries }
         ensures served { Always IsServed (start_of result.0.head) result.0.entries }
         ensures tied { Always IsTied (start_of result.0.head) result.0.entries }
         ensures orderly { IsOrderly [] 0 result.0.entries }

@@ -1,5 +1,5 @@
 //! Laws of the house. The functions do nothing.
-ghost use Rattle.std.specs.Prelude.{◌≡◌, ℕ, nat_lt, Bool, true, false, List, [], ◌∷◌, Option, Some, None, is_some, ◌==◌, find};
+ghost use Rattle.std.specs.Prelude.{◌≡◌, ℕ, nat_lt, Bool, true, false, List, [], ◌∷◌, ◌++◌, Option, Some, None, is_some, ◌==◌, find};
 ghost use Rattle.std.specs.List.{list_any};
 ghost use Rattle.xl_base.specs.Lists.{IsIn};
 ghost use Rattle.xl_base.specs.Stable.{is_kept, is_recordable, is_recorded};
@@ -102,13 +102,14 @@ ghost use Rattle.xl_nfs_laws.specs.AskedRequests.{says_reclaim, IsItsAsk};
 ghost use Rattle.xl_nfs_laws.specs.Delegated.{delegation_held};
 ghost use Rattle.xl_nfs_laws.specs.Leased.{has_lease, is_confirmed};
 ghost use Rattle.xl_house.specs.Awaited.{IsServed};
-ghost use Rattle.xl_house.specs.Done.{deeds};
+ghost use Rattle.xl_house.specs.Done.{Round, deeds, rounds};
 ghost use Rattle.xl_house.specs.Fitting.{IsFitting};
 ghost use Rattle.xl_house.specs.Free.{IsFree};
 ghost use Rattle.xl_house.specs.Lawful.{found, IsLawful, IsWaiting, IsKept, IsComplete};
-ghost use Rattle.xl_house.specs.Machine.{heard};
+ghost use Rattle.xl_house.specs.Machine.{heard, is_plain};
 ghost use Rattle.xl_house.specs.Own.{own_of};
 ghost use Rattle.xl_house.specs.State.{Whole, as_found, rooms_of};
+ghost use Rattle.xl_house.specs.Telling.{TurnTaken};
 ghost use Rattle.xl_house.specs.Tied.{IsTied};
 
 /// A machine that answers that a lock is granted and keeps nothing has no lawful entry for a lock of one byte at a start; if one
@@ -117,8 +118,8 @@ ghost use Rattle.xl_house.specs.Tied.{IsTied};
 /// machine that drops all leases at another's ask has no lawful entry for that; at a reading of the clock that is later one that
 /// leaves the clock as it was has none, and one that leaves a lease that has ended, of a client whose expiry no failed store puts
 /// off, has none that is complete. A machine that forgets all requests of SMB while an SMB open's waiter is there has no entry
-/// that is served, nor has one whose first turn grants a claim to an SMB open that isn't there afterwards, or one that keeps an SMB
-/// open in its list and nothing of what is held. One that makes a share
+/// that is served, nor has one that keeps an SMB open in its list and nothing of what is held, or one of whose last round a turn
+/// grants a claim to an SMB open that isn't there afterwards, as the first turn does where no frame goes on. One that makes a share
 /// weaker so that it has more than before, or leaves more of a cache than its break does, has none of deeds that are fit.
 /// One that draws a number and gives out none has none that is steady.
 /// One that gives a greater cache than was chosen, or one though someone waits on the file, grants no wish rightly.
@@ -146,8 +147,10 @@ pub fn hollow_machines_are_refused()
     ensures ended { (n stores : ℕ) (outs : List Out) (s t : Whole) (now : Moment) (client : List ℕ) → IsIn client (ended t.core.clock t.core.leases)
         → (IsPutOff (all_done n (found s) (own_of n (as_found s) (Tick now)).deeds).failed (all_done n (found s) (own_of n (as_found s) (Tick now)).deeds).stable client → ⊥) → IsComplete n s (record { event = Tick now; stores = stores; outs = outs }) t → ⊥ }
     ensures forgotten { (n : ℕ) (s t : Whole) (e : Entry) (w : Waiter) (number : ℕ) → IsIn w t.core.waiters → waits_as number w ≡ true → t.front.smb.state.waiting ≡ [] → IsServed n s e t → ⊥ }
-    ensures unmade { (n stores conn : ℕ) (bytes : List ℕ) (outs : List Out) (s t : Whole) (u : CoreState) (told : List Effect) (party : Party) (id number : ℕ) (claim : Claim) → IsFree s → settle n (rooms_of (heard n (as_found s) (Message conn bytes)).1) (heard n (as_found s) (Message conn bytes)).2 ≡ Some (told, u)
+    ensures unmade { (n stores conn : ℕ) (bytes : List ℕ) (outs : List Out) (s t : Whole) (u : CoreState) (told : List Effect) (party : Party) (id number : ℕ) (claim : Claim) → IsFree s → is_plain s (Message conn bytes) ≡ true → settle n (rooms_of (heard n (as_found s) (Message conn bytes)).1) (heard n (as_found s) (Message conn bytes)).2 ≡ Some (told, u)
         → IsIn (Effect.Served party id (Answer.Granted claim)) told → claim.owner ≡ Owner.Open number → open_of number t.front.smb.state ≡ None → IsServed n s (record { event = Message conn bytes; stores = stores; outs = outs }) t → ⊥ }
+    ensures last_unmade { (n : ℕ) (s t : Whole) (e : Entry) (before : List Round) (r : Round) (turn : TurnTaken) (party : Party) (id number : ℕ) (claim : Claim) → rounds n s e.event ≡ before ++ r ∷ [] → IsIn turn r.turns
+        → IsIn (Effect.Served party id (Answer.Granted claim)) turn.told → claim.owner ≡ Owner.Open number → open_of number t.front.smb.state ≡ None → IsServed n s e t → ⊥ }
     ensures shareless { (n : ℕ) (s t : Whole) (e : Entry) (number : ℕ) (row : Open) → open_of number t.front.smb.state ≡ Some row → t.core.claims ≡ [] → IsServed n s e t → ⊥ }
     ensures widened { (n stores number : ℕ) (bytes : List ℕ) (outs : List Out) (s t : Whole) (share : Claim) (access deny : Rwd) → deeds n s (Message number bytes) ≡ Weakens share access deny ∷ []
         → share_has share.what access deny ≡ false → IsFitting n s (record { event = Message number bytes; stores = stores; outs = outs }) t → ⊥ }

@@ -1,5 +1,5 @@
 //! The machine: what one event does, and what it sends.
-ghost use Rattle.std.specs.Prelude.{◌≡◌, ℕ, ◌+◌, ◌<◌, ◌≤◌, ◌^◌, true, false, Some, None, map, option_map, OnOk, IfOk};
+ghost use Rattle.std.specs.Prelude.{◌≡◌, ℕ, ◌+◌, ◌*◌, ◌<◌, ◌≤◌, ◌^◌, true, false, [], Some, None, map, option_map, OnOk, IfOk};
 ghost use Rattle.xl_base.specs.Limits.{most_numbers};
 ghost use Rattle.xl_programs.specs.Programs.{serves, shown_request, incoming_at};
 ghost use Rattle.xl_programs.specs.Sent.{sent_to};
@@ -16,7 +16,9 @@ ghost use Rattle.xl_house.specs.Journals.{is_restart};
 ghost use Rattle.xl_front_nfs.specs.FrontNfs.{nfs_step};
 ghost use Rattle.xl_front_smb.specs.FrontSmb.{smb_step};
 ghost use Rattle.xl_plan.specs.Keepers.{HandsTo, IsQuiet, telling};
-ghost use Rattle.xl_house.specs.Machine.{connected, sent_of, heard, step, Gives};
+ghost use Rattle.xl_house.specs.Machine.{connected, frame_in, frames_begun, gone, gone_by, heard, heard_in, run, sent_of, step, steps_left, Gives};
+ghost use Rattle.xl_house.specs.Owing.{LeavesOwed};
+ghost use Rattle.xl_house.specs.Sifting.{paused_left};
 ghost use Rattle.xl_house.specs.Own.{with_nlm, with_nfs, with_smb, after_call, after_tick, begun, record_own, message_own, end_own};
 ghost use Rattle.xl_house.specs.Recording.{HasKept};
 ghost use Rattle.xl_house.specs.State.{smb_opens, nfs_opens, as_found};
@@ -24,6 +26,7 @@ ghost use Rattle.xl_house.specs.Telling.{framed};
 ghost use Rattle.xl_house.specs.Whole.{whole_of};
 
 use crate::connections::{Connection, end, has_room, kind_of, open};
+use crate::frames::{Going, Ground, brings_frame, end_paused, put_cancelled, run, settle_frames};
 use crate::layers::{Fronts, Layers};
 use crate::outs::{room_for, send_all, sent_for, sent_with};
 use crate::settling::settle;
@@ -34,6 +37,7 @@ use xl_front_nlm::{NlmLayers, nlm_called, nlm_step};
 use xl_front_smb::{Packet, smb_begin, smb_end, smb_step};
 use xl_programs::{Incoming, Program, Request, read_incoming, refusal, sent_to};
 use xl_rpc::Verdict;
+use xl_smb_frames::Paused;
 
 /// What the machine keeps between two events.
 #[derive(Drop)]
@@ -42,6 +46,8 @@ pub(crate) struct Machine {
     pub place: u64,
     /// The connections that are open.
     pub connections: Vec<Connection>,
+    /// What stands behind requests of SMB that wait in their frames.
+    pub paused: Sequence<Paused>,
     /// The fronts and the core.
     pub layers: Layers,
 }
@@ -163,8 +169,8 @@ fn hear_record<K: Keeper>(
     }
 }
 
-/// What a message of SMB sends: what the fronts show for the effects, and its reply.
-fn hear_packet<K: Keeper>(
+/// What a message of SMB, or a part of a frame, sends: what the fronts show for the effects, and its reply.
+pub(crate) fn hear_part<K: Keeper>(
     alloc: Global,
     exports: &Exports,
     layers: &mut Layers,
@@ -172,9 +178,9 @@ fn hear_packet<K: Keeper>(
     number: u64,
     bytes: &[u8],
 ) -> Result<Sequence<Out>, AllocError>
-    requires ready { IsReady most_numbers layers.old.core }
+    requires ready { IsReady 3 layers.old.core }
     ensures heard { (n : ℕ) → IfOk result (λ outs. MayBe n layers.new.core → sent_of exports.now (Some Kind.Smb) (with_smb layers.old.front (smb_step n exports.now (nfs_opens layers.old.front) layers.old.front.smb layers.old.core number bytes.now)) ≡ (outs, layers.new.front, layers.new.core)) }
-    ensures leaves { OnOk result (Leaves most_numbers layers.old.core layers.new.core) }
+    ensures leaves { OnOk result (Leaves 3 layers.old.core layers.new.core) }
     ensures keeper { OnOk result (HandsTo K.held K.given K.faults K.left layers.old.core layers.new.core keeper.old keeper.new) }
 {
     let others = layers.front.nfs_opens();
@@ -192,6 +198,24 @@ fn hear_packet<K: Keeper>(
     )?;
     let outs = sent_with(alloc, exports, Kind::Smb, layers, reply, effects)?;
     Ok(outs)
+}
+
+/// What a message of SMB sends.
+#[tactic(auto, using(crate::proofs::HearLaws::ready_part, crate::proofs::HearLaws::leaves_part))]
+fn hear_packet<K: Keeper>(
+    alloc: Global,
+    exports: &Exports,
+    layers: &mut Layers,
+    keeper: &mut K,
+    number: u64,
+    bytes: &[u8],
+) -> Result<Sequence<Out>, AllocError>
+    requires ready { IsReady most_numbers layers.old.core }
+    ensures heard { (n : ℕ) → IfOk result (λ outs. MayBe n layers.new.core → sent_of exports.now (Some Kind.Smb) (with_smb layers.old.front (smb_step n exports.now (nfs_opens layers.old.front) layers.old.front.smb layers.old.core number bytes.now)) ≡ (outs, layers.new.front, layers.new.core)) }
+    ensures leaves { OnOk result (Leaves most_numbers layers.old.core layers.new.core) }
+    ensures keeper { OnOk result (HandsTo K.held K.given K.faults K.left layers.old.core layers.new.core keeper.old keeper.new) }
+{
+    hear_part(alloc, exports, layers, keeper, number, bytes)
 }
 
 /// What a message from a connection of this kind sends.
@@ -346,6 +370,7 @@ fn hear_event<K: Keeper>(
     ensures leaves { OnOk result (Leaves most_numbers (step_begun machine.old.layers.core) machine.new.layers.core) }
     ensures place { machine.new.place ≡ machine.old.place }
     ensures connections { machine.new.connections.items ≡ machine.old.connections.items }
+    ensures paused { machine.new.paused ≡ machine.old.paused }
     ensures keeper { OnOk result (HandsTo K.held K.given K.faults K.left (step_begun machine.old.layers.core) machine.new.layers.core keeper.old keeper.new) }
 {
     machine.layers.core.begin_step();
@@ -390,6 +415,147 @@ pub(crate) struct Acted {
     pub stores: u64,
 }
 
+/// A frame that an event brings goes on.
+fn open_frame(alloc: Global, paused: Sequence<Paused>, event: &Event) -> Result<Going, AllocError>
+    ensures { IfOk result (λ g. g ≡ frame_in paused event.now) }
+{
+    let mut stack = Sequence::new(alloc);
+    if let Event::Message(number, bytes) = event {
+        stack.push(xl_smb_frames::open(alloc, *number, bytes.as_slice())?)?;
+    }
+    Ok(Going {
+        paused,
+        stack,
+        outs: Sequence::new(alloc),
+    })
+}
+
+/// What stands behind requests that wait is taken out of the machine for a step.
+fn take_paused(alloc: Global, machine: &mut Machine) -> Sequence<Paused>
+    ensures taken { result ≡ machine.old.paused }
+    ensures rest { machine.new ≡ record machine.old { paused = [] } }
+{
+    std::mem::replace(&mut machine.paused, Sequence::new(alloc))
+}
+
+/// The frames that go on after an event was heard, or that it brings. The step begins with it.
+#[tactic(auto, unfolding(crate::specs::Machine::frames_begun), using(crate::proofs::HearLaws::leaves_begun))]
+fn begin_frames<K: Keeper>(
+    alloc: Global,
+    exports: &Exports,
+    machine: &mut Machine,
+    keeper: &mut K,
+    event: &Event,
+) -> Result<Going, AllocError>
+    requires ready { IsReady most_numbers machine.old.layers.core }
+    ensures begun { (n : ℕ) → IfOk result (λ g. MayBe n machine.new.layers.core → frames_begun n (as_found (whole_of exports.now machine.old)) event.now ≡ (g, machine.new.layers.front, machine.new.layers.core)) }
+    ensures leaves { OnOk result (Leaves most_numbers (step_begun machine.old.layers.core) machine.new.layers.core) }
+    ensures owed { IfOk result (λ g. numbers_of machine.new.layers.core + 3 * steps_left g ≤ numbers_of machine.old.layers.core + 3 * paused_left machine.old.paused + most_numbers) }
+    ensures place { machine.new.place ≡ machine.old.place }
+    ensures connections { machine.new.connections.items ≡ machine.old.connections.items }
+    ensures keeper { OnOk result (HandsTo K.held K.given K.faults K.left (step_begun machine.old.layers.core) machine.new.layers.core keeper.old keeper.new) }
+{
+    if brings_frame(&machine.connections, event) {
+        machine.layers.core.begin_step();
+        let paused = take_paused(alloc, machine);
+        return Ok(open_frame(alloc, paused, event)?);
+    }
+    let heard = hear_event(alloc, exports, machine, keeper, event)?;
+    let paused = end_paused(take_paused(alloc, machine), event);
+    let going = put_cancelled(alloc, paused, heard)?;
+    settle_frames(alloc, exports, &mut machine.layers, keeper, going)
+}
+
+/// The frames go on, to their ends.
+fn run_frames<K: Keeper>(
+    alloc: Global,
+    exports: &Exports,
+    machine: &mut Machine,
+    keeper: &mut K,
+    going: Going,
+) -> Result<Going, AllocError>
+    requires ready { IsReady (3 * steps_left going) machine.old.layers.core }
+    ensures run { (n : ℕ) → IfOk result (λ g. MayBe n machine.new.layers.core → run n (exports.now, machine.old.connections.items) (going, machine.old.layers.front, machine.old.layers.core) ≡ (g, machine.new.layers.front, machine.new.layers.core)) }
+    ensures leaves { OnOk result (Leaves (3 * steps_left going) machine.old.layers.core machine.new.layers.core) }
+    ensures owed { IfOk result (λ g. numbers_of machine.new.layers.core + 3 * paused_left g.paused ≤ numbers_of machine.old.layers.core + 3 * steps_left going) }
+    ensures place { machine.new.place ≡ machine.old.place }
+    ensures connections { machine.new.connections.items ≡ machine.old.connections.items }
+    ensures keeper { OnOk result (HandsTo K.held K.given K.faults K.left machine.old.layers.core machine.new.layers.core keeper.old keeper.new) }
+{
+    let ground = Ground {
+        exports,
+        connections: &machine.connections,
+    };
+    run(alloc, &ground, &mut machine.layers, keeper, going)
+}
+
+/// What an event gives where no frame goes on, and it brings none.
+fn hear_plain<K: Keeper>(
+    alloc: Global,
+    exports: &Exports,
+    machine: &mut Machine,
+    keeper: &mut K,
+    event: &Event,
+) -> Result<Going, AllocError>
+    requires ready { IsReady most_numbers machine.old.layers.core }
+    ensures gone { (n : ℕ) → IfOk result (λ g. MayBe n machine.new.layers.core → gone_by n (as_found (whole_of exports.now machine.old)) event.now true ≡ (g, machine.new.layers.front, machine.new.layers.core)) }
+    ensures paused { IfOk result (λ g. g.paused ≡ machine.old.paused) }
+    ensures leaves { OnOk result (Leaves most_numbers (step_begun machine.old.layers.core) machine.new.layers.core) }
+    ensures place { machine.new.place ≡ machine.old.place }
+    ensures connections { machine.new.connections.items ≡ machine.old.connections.items }
+    ensures keeper { OnOk result (HandsTo K.held K.given K.faults K.left (step_begun machine.old.layers.core) machine.new.layers.core keeper.old keeper.new) }
+{
+    let mut outs = hear_event(alloc, exports, machine, keeper, event)?;
+    settle(alloc, exports, &mut machine.layers, keeper, &mut outs)?;
+    Ok(Going {
+        paused: take_paused(alloc, machine),
+        stack: Sequence::new(alloc),
+        outs,
+    })
+}
+
+/// What an event gives where frames go on, or it brings one.
+fn hear_in_frames<K: Keeper>(
+    alloc: Global,
+    exports: &Exports,
+    machine: &mut Machine,
+    keeper: &mut K,
+    event: &Event,
+) -> Result<Going, AllocError>
+    requires ready { IsReady (most_numbers + 3 * paused_left machine.old.paused) machine.old.layers.core }
+    ensures gone { (n : ℕ) → IfOk result (λ g. MayBe n machine.new.layers.core → heard_in n (as_found (whole_of exports.now machine.old)) event.now ≡ (g, machine.new.layers.front, machine.new.layers.core)) }
+    ensures leaves { IfOk result (λ g. LeavesOwed (paused_left machine.old.paused) (paused_left g.paused) (step_begun machine.old.layers.core) machine.new.layers.core) }
+    ensures place { machine.new.place ≡ machine.old.place }
+    ensures connections { machine.new.connections.items ≡ machine.old.connections.items }
+    ensures keeper { OnOk result (HandsTo K.held K.given K.faults K.left (step_begun machine.old.layers.core) machine.new.layers.core keeper.old keeper.new) }
+{
+    let going = begin_frames(alloc, exports, machine, keeper, event)?;
+    run_frames(alloc, exports, machine, keeper, going)
+}
+
+/// What an event gives, once the table is settled and all frames are at their ends.
+#[tactic(auto, unfolding(crate::specs::Machine::gone))]
+fn hear_all<K: Keeper>(
+    alloc: Global,
+    exports: &Exports,
+    machine: &mut Machine,
+    keeper: &mut K,
+    event: &Event,
+) -> Result<Going, AllocError>
+    requires ready { IsReady (most_numbers + 3 * paused_left machine.old.paused) machine.old.layers.core }
+    ensures gone { (n : ℕ) → IfOk result (λ g. MayBe n machine.new.layers.core → gone n (as_found (whole_of exports.now machine.old)) event.now ≡ (g, machine.new.layers.front, machine.new.layers.core)) }
+    ensures leaves { IfOk result (λ g. LeavesOwed (paused_left machine.old.paused) (paused_left g.paused) (step_begun machine.old.layers.core) machine.new.layers.core) }
+    ensures place { machine.new.place ≡ machine.old.place }
+    ensures connections { machine.new.connections.items ≡ machine.old.connections.items }
+    ensures keeper { OnOk result (HandsTo K.held K.given K.faults K.left (step_begun machine.old.layers.core) machine.new.layers.core keeper.old keeper.new) }
+{
+    if machine.paused.is_empty() && !brings_frame(&machine.connections, event) {
+        hear_plain(alloc, exports, machine, keeper, event)
+    } else {
+        hear_in_frames(alloc, exports, machine, keeper, event)
+    }
+}
+
 /// One event: changes the machine, and gives what it sends and how many stores it made. It ends settled.
 pub(crate) fn act<K: Keeper>(
     alloc: Global,
@@ -399,7 +565,7 @@ pub(crate) fn act<K: Keeper>(
     event: &Event,
 ) -> Result<Acted, AllocError>
     requires place { machine.old.place < 2 ^ 63 }
-    requires ready { IsReady most_numbers machine.old.layers.core }
+    requires ready { IsReady (most_numbers + 3 * paused_left machine.old.paused) machine.old.layers.core }
     requires goes_on { is_restart event.now ≡ false }
     requires free { IsFree (whole_of exports.now machine.old) }
     requires holds { Holds (K.held keeper.old) machine.old.layers.core.stable }
@@ -407,10 +573,14 @@ pub(crate) fn act<K: Keeper>(
     ensures allowed { (n : ℕ) → K.left keeper.old ≡ Some n → IfOk result (λ a. Gives (step n (whole_of exports.now machine.old) event.now) (whole_of exports.now machine.new) a.stores a.outs) }
     ensures keeper { IfOk result (λ a. HasKept (step a.stores (whole_of exports.now machine.old) event.now) (telling K.held K.given K.faults K.left keeper.old) (telling K.held K.given K.faults K.left keeper.new)) }
     ensures short { OnOk result (AreShort machine.new.layers.core.names) }
-    ensures numbers { OnOk result (numbers_of machine.new.layers.core ≤ numbers_of machine.old.layers.core + most_numbers) }
+    ensures numbers { OnOk result (numbers_of machine.new.layers.core + 3 * paused_left machine.new.paused ≤ numbers_of machine.old.layers.core + 3 * paused_left machine.old.paused + most_numbers) }
 {
-    let mut outs = hear_event(alloc, exports, machine, keeper, event)?;
-    settle(alloc, exports, &mut machine.layers, keeper, &mut outs)?;
+    let Going {
+        paused,
+        stack: _,
+        outs,
+    } = hear_all(alloc, exports, machine, keeper, event)?;
+    machine.paused = paused;
     connect(&mut machine.connections, machine.place, event)?;
     let stores = machine.layers.core.made();
     machine.layers.core.begin_step();

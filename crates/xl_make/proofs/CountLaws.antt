@@ -26,11 +26,12 @@ use Rattle.xl_front_nlm.specs.State.{FrontState}
 use Rattle.xl_front_nlm.specs.declared.outcome.Outcome.TheVariants.{Answered}
 use Rattle.xl_house.specs.Journals.{entry, entries_of}
 use Rattle.xl_house.specs.declared.layers.Fronts.{Fronts}
-use Rattle.xl_house.specs.Machine.{Turn, heard, sent_of, connected, settled_turn, turn_of, step}
+use Rattle.xl_house.specs.Machine.{Turn, all_sent, heard, sent_of, connected, turn_of, step}
 use Rattle.xl_house.specs.Own.{with_nlm, message_own, record_own}
 use Rattle.xl_house.specs.State.{as_found, Whole, kind_of, with_connection, rooms_of, start_of}
-use Rattle.xl_house.specs.Telling.{Sent, framed, settled, behind}
-use Rattle.xl_house.proofs.MachineLaws.{step_is}
+use Rattle.xl_house.specs.Telling.{Sent, and_then, framed, settled, behind}
+use Rattle.xl_house.proofs.MachineLaws.{step_plain}
+use Rattle.xl_house.proofs.PlainLaws.{record_plain}
 use Rattle.xl_house.proofs.SettleLaws.{none_settles}
 use Rattle.xl_capture.specs.Capture.{all_stores}
 use Rattle.xl_capture.specs.Summary.{is_granted, is_denied, granted, denied, results_status, told_status, or_status}
@@ -45,6 +46,7 @@ use Rattle.xl_make.proofs.StepLaws.{IsServed, IsTold, call_served}
 pub record IsMade (s : Whole) : Type 0 where
   pub exports : s.exports ≡ made_head.exports
   pub connections : s.connections ≡ record { number = 0; kind = Rpc } ∷ []
+  pub paused : s.paused ≡ []
   pub hosts : AreOurs s.front.nlm.hosts
   pub core : IsMadeCore s.core
 
@@ -94,13 +96,13 @@ settled_none : (n : ℕ) (exports : Exports) (f : Fronts) (s : CoreState) → s.
 settled_none n exports f s none = none_settles n exports f s (no_turn n (rooms_of f) s none)
 
 turn_is : (n : ℕ) (s : Whole) (number : ℕ) (c : CallItem) (ok : IsMade s) (done : IsServed n s.front.nlm (step_begun s.core) c) → incoming_at (record_of number c) ≡ Asked (request number c) → call_in (request number c) ≡ Some c
-    → step n s (Message 0 (record_of number c)) ≡ turn_of s s.connections (sent_by (told_by number c done.front done.core done.answer) (fronts_with s done.front) done.core)
+    → step n s (Message 0 (record_of number c)) ≡ turn_of s s.connections (all_sent s (sent_by (told_by number c done.front done.core done.answer) (fronts_with s done.front) done.core))
 unfolding connected
 turn_is n s number c ok done asked whole =
     let sent = sent_by (told_by number c done.front done.core done.answer) (fronts_with s done.front) done.core in
-    step_is n s (Message 0 (record_of number c)) refl
-    ∙ ap (settled_turn n s s.connections) (heard_is n s number c ok done asked whole)
-    ∙ ap (λ r. turn_of s s.connections (behind sent.0 r)) (settled_none n s.exports (fronts_with s done.front) done.core done.kept.waiters)
+    step_plain n s (Message 0 (record_of number c)) refl (record_plain s 0 (record_of number c) ok.paused (kind_is s ok))
+    ∙ ap (λ (h : Sent). turn_of s s.connections (all_sent s (and_then (settled n s.exports) h))) (heard_is n s number c ok done asked whole)
+    ∙ ap (λ (r : Sent). turn_of s s.connections (all_sent s (behind sent.0 r))) (settled_none n s.exports (fronts_with s done.front) done.core done.kept.waiters)
 
 or_none : (o : Option NlmStatus) → or_status o None ≡ o
 or_none None = refl
@@ -118,7 +120,7 @@ one_call : (n : ℕ) (s : Whole) (number : ℕ) (c : CallItem) → IsMade s → 
 one_call n s number c ok small done asked whole =
     subst (λ (r : Turn). IsWell r) (sym (turn_is n s number c ok done asked whole))
     (record {
-      next = record { exports = ok.exports; connections = ok.connections; hosts = done.hosts; core = begun_core done.core done.kept };
+      next = record { exports = ok.exports; connections = ok.connections; paused = ok.paused; hosts = done.hosts; core = begun_core done.core done.kept };
       told = subst (λ (o : Option NlmStatus). IsTold o) (sym (status_is number (results (reply_of done.core.names c (Answered done.answer))) small)) (done.told done.core.names);
     })
 
@@ -172,13 +174,13 @@ all_counted s x number (suc more) ok small =
 -- ---- from the start
 
 abbrev first_turn_is : Turn
-first_turn_is = turn_of (start_of made_head) (record { number = 0; kind = Rpc } ∷ []) ([], (start_of made_head).front, step_begun (start_of made_head).core)
+first_turn_is = turn_of (start_of made_head) (record { number = 0; kind = Rpc } ∷ []) (all_sent (start_of made_head) ([], (start_of made_head).front, step_begun (start_of made_head).core))
 
 opened_is : (n : ℕ) → step n (start_of made_head) (Open Rpc) ≡ first_turn_is
 unfolding connected with_connection heard step_begun
 opened_is n =
-    step_is n (start_of made_head) (Open Rpc) refl
-    ∙ ap (λ r. turn_of (start_of made_head) (record { number = 0; kind = Rpc } ∷ []) (behind [] r)) (settled_none n made_head.exports (start_of made_head).front (step_begun (start_of made_head).core) (begun_waiters (start_of made_head).core refl))
+    step_plain n (start_of made_head) (Open Rpc) refl refl
+    ∙ ap (λ (r : Sent). turn_of (start_of made_head) (record { number = 0; kind = Rpc } ∷ []) (all_sent (start_of made_head) (behind [] r))) (settled_none n made_head.exports (start_of made_head).front (step_begun (start_of made_head).core) (begun_waiters (start_of made_head).core refl))
   where
     begun_waiters : (s : CoreState) → s.waiters ≡ [] → (step_begun s).waiters ≡ []
     begun_waiters s none = none
@@ -187,6 +189,7 @@ begun_made : IsMade first_turn_is.next
 begun_made = record {
   exports = refl;
   connections = refl;
+  paused = refl;
   hosts = inl refl;
   core = begun_core _ (begun_core _ (record { good = started_good _ _ _; waiters = refl; names = tt; claims = record { each = tt; ends = λ file number. tt }; calm = refl; recorded = inl refl }));
 }

@@ -18,6 +18,7 @@ ghost use Rattle.xl_house.specs.Entries.{IsWishing, IsBreaking, IsKeeping, IsPar
 ghost use Rattle.xl_house.specs.Owed.{IsOwed};
 ghost use Rattle.xl_house.specs.Replying.{IsReplied};
 ghost use Rattle.xl_house.specs.Notified.{IsNotified};
+ghost use Rattle.xl_house.specs.Parted.{IsParted};
 ghost use Rattle.xl_house.specs.Asking.{IsAsking};
 ghost use Rattle.xl_house.specs.Meant.{IsMeant};
 ghost use Rattle.xl_house.specs.Tied.{IsTied};
@@ -466,7 +467,7 @@ fn work<I: Source, O: Sink, R: Wait>(
 ///
 /// The journal that comes back has each event that was stepped, with what was sent for it. The clauses from `legal` to
 /// `tied` hold for it whatever the input is, and at every status.
-#[tactic(auto, using(crate::proofs::ReadLaws::most_same, xl_replay::proofs::ReplayLaws::remade_so, xl_house::proofs::MachineLaws::begun_free, xl_house::proofs::LawfulLaws::always_lawful, xl_house::proofs::LawfulLaws::always_waiting, xl_house::proofs::LawfulLaws::always_kept, xl_house::proofs::LawfulLaws::always_complete, xl_house::proofs::FittingLaws::always_fitting, xl_house::proofs::LawfulLaws::always_caused, xl_house::proofs::LawfulLaws::always_told, xl_house::proofs::SteadyLaws::always_steady, xl_house::proofs::RecordLaws::always_recording, xl_house::proofs::RecordLaws::always_admitting, xl_house::proofs::CrashLaws::always_cut, xl_house::proofs::TruthfulLaws::never_collide, xl_house::proofs::EntryLaws::always_wishing, xl_house::proofs::EntryLaws::always_breaking, xl_house::proofs::EntryLaws::always_keeping, xl_house::proofs::OwedLaws::always_owed, xl_house::proofs::ReplyingLaws::always_replied, xl_house::proofs::EntryLaws::always_partied, xl_house::proofs::AskingLaws::always_asking, xl_house::proofs::NotifiedLaws::always_notified, xl_house::proofs::MeantLaws::always_meant, xl_house::proofs::NfsTiedLaws::always_tied))]
+#[tactic(auto, using(crate::proofs::ReadLaws::most_same, xl_replay::proofs::ReplayLaws::remade_so, xl_house::proofs::MachineLaws::begun_free, xl_house::proofs::LawfulLaws::always_lawful, xl_house::proofs::LawfulLaws::always_waiting, xl_house::proofs::LawfulLaws::always_kept, xl_house::proofs::LawfulLaws::always_complete, xl_house::proofs::FittingLaws::always_fitting, xl_house::proofs::LawfulLaws::always_caused, xl_house::proofs::LawfulLaws::always_told, xl_house::proofs::SteadyLaws::always_steady, xl_house::proofs::RecordLaws::always_recording, xl_house::proofs::RecordLaws::always_admitting, xl_house::proofs::CrashLaws::always_cut, xl_house::proofs::TruthfulLaws::never_collide, xl_house::proofs::EntryLaws::always_wishing, xl_house::proofs::EntryLaws::always_breaking, xl_house::proofs::EntryLaws::always_keeping, xl_house::proofs::OwedLaws::always_owed, xl_house::proofs::ReplyingLaws::always_replied, xl_house::proofs::EntryLaws::always_partied, xl_house::proofs::AskingLaws::always_asking, xl_house::proofs::NotifiedLaws::always_notified, xl_house::proofs::PartedLaws::always_parted, xl_house::proofs::MeantLaws::always_meant, xl_house::proofs::NfsTiedLaws::always_tied))]
 pub fn run<
     I: Source,
     O: Sink,
@@ -617,6 +618,9 @@ pub fn run<
     // told: what is sent follows from what the event did and what it was answered.
     // notified: each break that begins, each lock of NLM that waited and is granted, and each request of SMB that waited and is
     // served or cancelled is told by one message, to whom it is due; and besides, only the event's message is replied to.
+    // parted: a frame of several messages of SMB does what its parts do as messages alone, in order, each once the table is settled
+    // after the one before, and their replies are in one frame; what stands behind a part that waited is done so once that is served
+    // or cancelled.
     ensures lawful { Always IsLawful (start_of result.journal.head) result.journal.entries }
     ensures steady { Always IsSteady (start_of result.journal.head) result.journal.entries }
     ensures recorded { Always IsRecording (start_of result.journal.head) result.journal.entries }
@@ -638,6 +642,7 @@ pub fn run<
     ensures replied { Always IsReplied (start_of result.journal.head) result.journal.entries }
     ensures told { Always IsTold (start_of result.journal.head) result.journal.entries }
     ensures notified { Always IsNotified (start_of result.journal.head) result.journal.entries }
+    ensures parted { Always IsParted (start_of result.journal.head) result.journal.entries }
 
     // Each request of SMB that waits has a waiter in the core, and each waiter of an SMB open has its request. If a CREATE or a
     // LOCK that waited is granted, its open is there, and its final reply says that it succeeded. The end of a connection of SMB leaves

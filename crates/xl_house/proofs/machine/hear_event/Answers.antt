@@ -3,8 +3,7 @@ use Rattle.xl_base.specs.Limits.{most_numbers}
 use Rattle.xl_core.specs.State.{CoreState}
 use Rattle.xl_plan.proofs.KeeperLaws.{hands_quiet}
 use Rattle.xl_plan.specs.Keepers.{HandsTo, IsQuiet}
-use Rattle.xl_house.proofs.ActedLaws.{on_ok}
-use Rattle.xl_house.proofs.HearLaws.{ready_begun}
+use Rattle.xl_house.proofs.HearLaws.{on_ok, ready_begun}
 use Rattle.xl_house.proofs.machine.hear_event.Goals as goal
 
 pub hear-requires : goal.hear-requires

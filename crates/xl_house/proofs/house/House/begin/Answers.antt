@@ -11,7 +11,7 @@ invariant_of-result g c =
       stands = λ _.
           rw (c.new.ensures.items)
           (begun_stands c.args.head _
-          (λ i. record { exports = c.args.head.exports; place = 0; connections = c.new-2.ensures.items i; front = c.new-3.ensures i; core = (state ∙ (λ j. started (c.requires.raised j) c.args.head.start (c.times_of.ensures j))) i }));
+          (λ i. record { exports = c.args.head.exports; place = 0; connections = c.new-2.ensures.items i; paused = c.new-3.ensures i; front = c.new-4.ensures i; core = (state ∙ (λ j. started (c.requires.raised j) c.args.head.start (c.times_of.ensures j))) i }));
       holds = λ _. holds_started _ _ _ _ _ state c.requires.holds;
       few = omega (arith, ap (λ (es : List Entry). length es) c.new.ensures.items);
       legal = rw (c.new.ensures.items) tt;

@@ -13,6 +13,7 @@ use Rattle.xl_house.proofs.MeantLaws.{always_meant}
 use Rattle.xl_house.proofs.NfsTiedLaws.{always_tied}
 use Rattle.xl_house.proofs.NotifiedLaws.{always_notified}
 use Rattle.xl_house.proofs.OrderLaws.{legal_orderly}
+use Rattle.xl_house.proofs.PartedLaws.{always_parted}
 use Rattle.xl_house.proofs.RecordLaws.{always_admitting, always_recording}
 use Rattle.xl_house.proofs.CrashLaws.{always_cut}
 use Rattle.xl_house.proofs.TruthfulLaws.{never_collide}
@@ -83,6 +84,9 @@ returns-clause-told g c = rw c.from_vec-entries.ensures (always_told _ _ c.self.
 
 pub returns-clause-notified : goal.returns-clause-notified
 returns-clause-notified g c = rw c.from_vec-entries.ensures (always_notified _ _ c.self.invariant.legal)
+
+pub returns-clause-parted : goal.returns-clause-parted
+returns-clause-parted g c = rw c.from_vec-entries.ensures (always_parted _ _ c.self.invariant.legal)
 
 pub returns-clause-tied : goal.returns-clause-tied
 returns-clause-tied g c = always_tied _ _

@@ -32,7 +32,7 @@ invariant_of-result g c =
     let s : Whole = whole_of c.self.inside.head.exports c.self.inside.machine in
     let new : Whole = whole_of c.self.inside.head.exports c.begin_anew.new.machine in
     let next : new ≡ (restarted 1 s).next =
-    λ i. record { exports = c.self.inside.head.exports; place = c.begin_anew.ensures.place i; connections = c.begin_anew.ensures.connections i; front = c.begin_anew.ensures.front i; core = (c.begin_anew.ensures.core ∙ c.new-core.ensures.state ∙ (λ j. started ((c.in-Ok.ensures.raised.0 ∙ ap raised c.stable.ensures) j) (c.clock-clock.ensures j) (c.times_of.ensures j))) i } in
+    λ i. record { exports = c.self.inside.head.exports; place = c.begin_anew.ensures.place i; connections = c.begin_anew.ensures.connections i; paused = c.begin_anew.ensures.paused i; front = c.begin_anew.ensures.front i; core = (c.begin_anew.ensures.core ∙ c.new-core.ensures.state ∙ (λ j. started ((c.in-Ok.ensures.raised.0 ∙ ap raised c.stable.ensures) j) (c.clock-clock.ensures j) (c.times_of.ensures j))) i } in
     let entered : c.push_reserved.new.self.items ≡ c.self.inside.entries.items ++ entry 1 s Restart ∷ [] =
     c.push_reserved.ensures.items ∙ (λ i. c.again.ensures.items i ++ (c.restarted.ensures ∙ sym (restart_is s).0) i ∷ []) in
     record {
@@ -55,7 +55,7 @@ returns-in-Ok-clause-next g c =
     let s : Whole = whole_of c.self.inside.head.exports c.self.inside.machine in
     let new : Whole = whole_of c.self.inside.head.exports c.begin_anew.new.machine in
     let next : new ≡ (restarted 1 s).next =
-    λ i. record { exports = c.self.inside.head.exports; place = c.begin_anew.ensures.place i; connections = c.begin_anew.ensures.connections i; front = c.begin_anew.ensures.front i; core = (c.begin_anew.ensures.core ∙ c.new-core.ensures.state ∙ (λ j. started ((c.in-Ok.ensures.raised.0 ∙ ap raised c.stable.ensures) j) (c.clock-clock.ensures j) (c.times_of.ensures j))) i } in
+    λ i. record { exports = c.self.inside.head.exports; place = c.begin_anew.ensures.place i; connections = c.begin_anew.ensures.connections i; paused = c.begin_anew.ensures.paused i; front = c.begin_anew.ensures.front i; core = (c.begin_anew.ensures.core ∙ c.new-core.ensures.state ∙ (λ j. started ((c.in-Ok.ensures.raised.0 ∙ ap raised c.stable.ensures) j) (c.clock-clock.ensures j) (c.times_of.ensures j))) i } in
     let entered : c.push_reserved.new.self.items ≡ c.self.inside.entries.items ++ entry 1 s Restart ∷ [] =
     c.push_reserved.ensures.items ∙ (λ i. c.again.ensures.items i ++ (c.restarted.ensures ∙ sym (restart_is s).0) i ∷ []) in
     let onward = restart_next s new next in

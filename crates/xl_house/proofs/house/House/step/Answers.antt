@@ -5,6 +5,7 @@ use Rattle.xl_house.specs.Housed.{Housed, is_spoiled}
 use Rattle.xl_house.specs.Journals.{last_stores, replay}
 use Rattle.xl_house.specs.State.{start_of}
 use Rattle.xl_house.proofs.JournalLaws.{allowed_next, stands_next, legal_next, holds_next, holds_after, other_enters, served_after, served_next}
+use Rattle.xl_house.proofs.PartedLaws.{parted_or}
 use Rattle.xl_house.proofs.house.House.step.Goals as goal
 
 pub invariant_of-self : goal.invariant_of-self
@@ -37,3 +38,6 @@ returns-in-Ok-clause-served g c =
     rw (← c.self.view_is)
     (subst (λ (es : List Entry). IsServedBy (last_stores c.act_and_enter.new.entries.items) (replay (start_of c.self.inside.head) c.self.inside.entries.items) c.args.event (replay (start_of c.self.inside.head) es)) (sym c.in-Ok.ensures.entered)
     (served_after _ _ _ _ c.args.event (c.self.invariant.stands (ap is_spoiled c.in-None.is)) (c.act_and_enter.ensures.sound, c.act_and_enter.ensures.distinct) c.in-Ok.ensures.made))
+
+pub returns-in-Ok-clause-parted : goal.returns-in-Ok-clause-parted
+returns-in-Ok-clause-parted g c = parted_or _ _ _
