@@ -102,20 +102,6 @@ all_spare n now s (d ∷ ds) may = (ticks_spare now s d may.0, all_spare n now (
 abbrev pub Ready : Fronts → Type 0
 Ready f = IsSound f.smb.state × AreDistinct f.smb.state
 
--- a connection's end needs that what a row names is there
-abbrev pub SoundFor : Event → Lists → Type 0
-SoundFor (End number) l = IsSound l
-SoundFor event l = Unit {0}
-
-abbrev pub ReadyFor : Event → Fronts → Type 0
-ReadyFor event f = SoundFor event f.smb.state × AreDistinct f.smb.state
-
-pub ready_for : (event : Event) (f : Fronts) → Ready f → ReadyFor event f
-ready_for event f ready = (by event, ready.1) where
-  by : (e : Event) → SoundFor e f.smb.state
-  by (End number) = ready.0
-  by e = tt
-
 abbrev Tells : Given → Type 0
 Tells g = ToTell g.1 g.3 g.2.smb.state
 
@@ -137,10 +123,10 @@ record_tells n exports f s number Unanswered good stand = quiet_tell s f.smb.sta
 record_tells n exports f s number (Refused xid verdict) good stand = quiet_tell s f.smb.state stand
 record_tells n exports f s number (Asked r) good stand = program_tells n exports f s number r r.program good stand
 
-heard_tells : (n : ℕ) (exports : Exports) (f : Fronts) (s : CoreState) (kind : Option Kind) (number : ℕ) (bytes : List ℕ) → IsGood s → AreDistinct f.smb.state → Stand s f.smb.state → Tells (message_own n exports f s kind number bytes).given
-heard_tells n exports f s None number bytes good apart stand = quiet_tell s f.smb.state stand
-heard_tells n exports f s (Some Rpc) number bytes good apart stand = record_tells n exports f s number (incoming_at bytes) good stand
-heard_tells n exports f s (Some Smb) number bytes good apart stand = message_tells n exports (nfs_opens f) f.smb s number bytes good apart stand
+heard_tells : (n : ℕ) (exports : Exports) (f : Fronts) (s : CoreState) (kind : Option Kind) (number : ℕ) (bytes : List ℕ) → IsGood s → Ready f → Stand s f.smb.state → Tells (message_own n exports f s kind number bytes).given
+heard_tells n exports f s None number bytes good ready stand = quiet_tell s f.smb.state stand
+heard_tells n exports f s (Some Rpc) number bytes good ready stand = record_tells n exports f s number (incoming_at bytes) good stand
+heard_tells n exports f s (Some Smb) number bytes good ready stand = message_tells n exports (nfs_opens f) f.smb s number bytes good ready.1 stand
 
 ended_tells : (f : Fronts) (s : CoreState) (kind : Option Kind) (number : ℕ) → IsGood s → Ready f → Stand s f.smb.state → Tells (end_own f s kind number).given
 ended_tells f s None number good ready stand = quiet_tell s f.smb.state stand
@@ -152,9 +138,9 @@ begun_stand f s place kind false stand = stand
 begun_stand f s place Rpc true stand = stand
 begun_stand f s place Smb true stand = begin_stands f.smb s place stand
 
-given_tells : (n : ℕ) (s : Whole) (event : Event) → IsGood s.core → ReadyFor event s.front → Stand s.core s.front.smb.state → Tells (own_of n s event).given
+given_tells : (n : ℕ) (s : Whole) (event : Event) → IsGood s.core → Ready s.front → Stand s.core s.front.smb.state → Tells (own_of n s event).given
 given_tells n s (Open kind) good ready stand = quiet_tell s.core _ (begun_stand s.front s.core s.place kind (nat_lt (length s.connections) most_connections) stand)
-given_tells n s (Message number bytes) good ready stand = heard_tells n s.exports s.front s.core (kind_of s.connections number) number bytes good ready.1 stand
+given_tells n s (Message number bytes) good ready stand = heard_tells n s.exports s.front s.core (kind_of s.connections number) number bytes good ready stand
 given_tells n s (End number) good ready stand = ended_tells s.front s.core (kind_of s.connections number) number good ready stand
 given_tells n s (Called number bytes) good ready stand = others_tell n s.exports s.front s.core (Called number bytes) (own_of n s (Called number bytes)) s.front.smb.state good (own_row n s (Called number bytes)) (refusal_named s.front.nlm.hosts _) (refusals_spare n s.core s.front.nlm.hosts _) stand
 given_tells n s (Tick now) good ready stand = others_tell n s.exports s.front s.core (Tick now) (own_of n s (Tick now)) s.front.smb.state good (own_row n s (Tick now)) (tick_others n s now good) (all_spare n now s.core (tick_deeds n s.core now) ((own_row n s (Tick now)).may good)) stand
@@ -166,6 +152,6 @@ given_tells n s Restart good ready stand = quiet_tell s.core s.front.smb.state s
 pub stand_of : (s : Whole) → Ready s.front → IsAwaiting s → Stand (step_begun s.core) s.front.smb.state
 stand_of s ready awaiting = same_stand s.core (step_begun s.core) s.front.smb.state (begun_waits s.core) (record { awaits = awaiting.awaits; keeps = awaiting.keeps; apart = ready.1.waiting })
 
-pub heard_stand : (n : ℕ) (s : Whole) (event : Event) → IsGood s.core → ReadyFor event s.front → Stand s.core s.front.smb.state → Stand (heard n s event).2 (heard n s event).1.smb.state
+pub heard_stand : (n : ℕ) (s : Whole) (event : Event) → IsGood s.core → Ready s.front → Stand s.core s.front.smb.state → Stand (heard n s event).2 (heard n s event).1.smb.state
 unfolding heard
 heard_stand n s event good ready stand = let g = (own_of n s event).given in shown_stand s.exports g.2 g.3 g.1 (given_tells n s event good ready stand)

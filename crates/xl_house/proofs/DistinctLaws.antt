@@ -1,7 +1,7 @@
 -- No two rows of one of SMB's lists have one key, whatever comes.
-use Rattle.std.proofs.Common.{◌≡◌, ℕ, ◌+◌, Bool, true, false, not, ◌&&◌, ◌||◌, if◌then◌else◌, eqb, is_some, length, List, [], ◌∷◌, ◌++◌, Option, Some, None, refl, sym, ap, subst, ◌∙◌, inl, inr}
+use Rattle.std.proofs.Common.{◌≡◌, ℕ, ◌+◌, Bool, true, false, not, ◌&&◌, ◌||◌, if◌then◌else◌, is_some, length, List, [], ◌∷◌, ◌++◌, Option, Some, None, refl, sym, subst, inl, inr}
 use Rattle.std.specs.Prelude.{◌==◌, nat_eq, nat_le, nat_lt, Result, Ok, Err}
-use Rattle.std.specs.List.{AllByRecursion, IsDistinct, filter_map, list_any}
+use Rattle.std.specs.List.{AllByRecursion, IsDistinct, filter_map}
 use Rattle.std.specs.Map.{keys_of, lookup, remove_entry, set_value}
 use Rattle.std.proofs.lemmas.Bool.{both_ways, cases_Bool, true≢false}
 use Rattle.std.proofs.lemmas.Map.{keys-set_value}
@@ -27,11 +27,11 @@ use Rattle.xl_smb.specs.declared.breaks.Break.{Break as Acknowledgement}
 use Rattle.xl_smb.specs.declared.fault.SmbBad.{SmbBad}
 use Rattle.xl_smb.specs.declared.file.FileId.{FileId}
 use Rattle.xl_smb.specs.declared.head.SmbHead.{SmbHead}
-use Rattle.xl_smb_state.proofs.LeaseLaws.{same_lease_self, with_keeps}
+use Rattle.xl_smb_state.proofs.LeaseLaws.{same_lease_self}
 use Rattle.xl_smb_state.proofs.LinkLaws.{same_lease_is}
 use Rattle.xl_smb_state.proofs.RowLaws.{some_none, unequal_both}
 use Rattle.xl_smb_state.specs.Links.{AreDistinct, has_place, most_connections, most_sessions, most_trees}
-use Rattle.xl_smb_state.specs.State.{Lists, client_of, closed, come_under, connection_added, connection_changed, connection_of, is_empty, joined, kept_lease, key_of, lease_begun, lease_of, left_row, open_added, open_of, opens_under, same_lease, session_added, session_of, sessions_on, tree_added, tree_dropped, tree_of, trees_of, trees_on, waiting_added, waiting_dropped, waiting_of, with_open, without}
+use Rattle.xl_smb_state.specs.State.{Lists, client_of, closed, come_under, connection_added, connection_changed, connection_of, is_empty, joined, kept_lease, key_of, lease_begun, lease_of, open_added, open_of, opens_under, same_lease, session_of, sessions_on, tree_dropped, tree_of, trees_of, trees_on, waiting_added, waiting_dropped, waiting_of, with_open, without}
 use Rattle.xl_smb_state.specs.declared.row.Lease.{Lease}
 use Rattle.xl_smb_state.specs.declared.row.LeaseKey.{LeaseKey}
 use Rattle.xl_smb_state.specs.declared.row.Open.{Open}
@@ -49,7 +49,7 @@ use Rattle.xl_core.specs.declared.ask.Answer.TheVariants as answers
 use Rattle.xl_core.specs.declared.ask.Effect.{Effect}
 use Rattle.xl_core.specs.declared.ask.Effect.TheVariants as effects
 use Rattle.xl_smb_locks.proofs.FinalLaws.{stand_new}
-use Rattle.xl_smb_locks.specs.Finals.{and_sent, concluded, dismissed, ended_with, is_cancelled, may_stand, refusal_of, replied, request_ended, request_served, served_with, stood, succeeded, told_of}
+use Rattle.xl_smb_locks.specs.Finals.{and_sent, concluded, dismissed, ended_with, is_cancelled, may_stand, refusal_of, request_ended, request_served, served_with, stood, succeeded, told_of}
 use Rattle.xl_smb_locks.specs.Locks.{lock_told}
 use Rattle.xl_smb_locks.specs.declared.locking.Locking.{Locking}
 use Rattle.xl_smb_locks.specs.declared.locking.Locking.TheVariants as locking
@@ -62,7 +62,7 @@ use Rattle.xl_front_smb.specs.Files.{acknowledge, close, close_open, create}
 use Rattle.xl_front_smb.specs.FrontSmb.{head_heard, plan_for, smb_shown, smb_step, stepped}
 use Rattle.xl_front_smb.specs.Locks.{cancel, cancel_named, lock, request_named}
 use Rattle.xl_front_smb.specs.Owners.{is_session_on}
-use Rattle.xl_front_smb.specs.Plans.{Plan, Fails, Does, Opens, Locks, carried, has_room_to_wait, lists_as, opened_lists, with_waiting}
+use Rattle.xl_front_smb.specs.Plans.{Plan, Fails, Does, Opens, Locks, carried, has_room_to_wait, lists_as, opened_lists}
 use Rattle.xl_front_smb.specs.Replies.{tree_id}
 use Rattle.xl_front_smb.specs.Requests.{commanded, planned, read_as, requested}
 use Rattle.xl_front_smb.specs.Sessions.{connect, connect_as, disconnect, has_room_for_session, has_room_for_tree, logoff, negotiate, offers, session_setup, set_up_as, tree_connect, tree_disconnect}
@@ -144,45 +144,45 @@ lease_left_apart number (e ∷ es) apart =
 
 -- ---- the lists, except for those that wait
 
-record AreKeyed (l : Lists) : Type 0 where
-  connections : IsDistinct nat_eq (keys_of l.connections)
-  sessions : IsDistinct nat_eq (keys_of l.sessions)
-  trees : IsDistinct nat_eq (keys_of l.trees)
-  opens : IsDistinct nat_eq (keys_of l.opens)
-  leases : IsDistinct same_lease (keys_of l.leases)
+pub record AreKeyed (l : Lists) : Type 0 where
+  pub connections : IsDistinct nat_eq (keys_of l.connections)
+  pub sessions : IsDistinct nat_eq (keys_of l.sessions)
+  pub trees : IsDistinct nat_eq (keys_of l.trees)
+  pub opens : IsDistinct nat_eq (keys_of l.opens)
+  pub leases : IsDistinct same_lease (keys_of l.leases)
 
-keyed : (l : Lists) → AreDistinct l → AreKeyed l
+pub keyed : (l : Lists) → AreDistinct l → AreKeyed l
 keyed l d = record { connections = d.connections; sessions = d.sessions; trees = d.trees; opens = d.opens; leases = d.leases }
 
-distinct : (l : Lists) → AreKeyed l → IsDistinct nat_eq (keys_of l.waiting) → AreDistinct l
+pub distinct : (l : Lists) → AreKeyed l → IsDistinct nat_eq (keys_of l.waiting) → AreDistinct l
 distinct l d waiting = record { connections = d.connections; sessions = d.sessions; trees = d.trees; opens = d.opens; leases = d.leases; waiting = waiting }
 
 -- whoever waits
 waits : (l : Lists) (rows : List (ℕ × Waiting)) → AreKeyed l → AreKeyed (record l { waiting = rows })
 waits l rows d = record { connections = d.connections; sessions = d.sessions; trees = d.trees; opens = d.opens; leases = d.leases }
 
-closed_keyed : (number : ℕ) (l : Lists) → AreKeyed l → AreKeyed (closed number l)
+pub closed_keyed : (number : ℕ) (l : Lists) → AreKeyed l → AreKeyed (closed number l)
 closed_keyed number l d = record { connections = d.connections; sessions = d.sessions; trees = d.trees; opens = removed nat_eq (nat_eq number) l.opens d.opens; leases = lease_left_apart number l.leases d.leases }
 
-all_closed_keyed : (numbers : List ℕ) (l : Lists) → AreKeyed l → AreKeyed (all_closed numbers l)
+pub all_closed_keyed : (numbers : List ℕ) (l : Lists) → AreKeyed l → AreKeyed (all_closed numbers l)
 all_closed_keyed [] l d = d
 all_closed_keyed (number ∷ numbers) l d = all_closed_keyed numbers (closed number l) (closed_keyed number l d)
 
-tree_dropped_keyed : (number : ℕ) (l : Lists) → AreKeyed l → AreKeyed (tree_dropped number l)
+pub tree_dropped_keyed : (number : ℕ) (l : Lists) → AreKeyed l → AreKeyed (tree_dropped number l)
 tree_dropped_keyed number l d = record { connections = d.connections; sessions = d.sessions; trees = removed nat_eq (nat_eq number) l.trees d.trees; opens = d.opens; leases = d.leases }
 
 trees_dropped_keyed : (numbers : List ℕ) (l : Lists) → AreKeyed l → AreKeyed (trees_dropped numbers l)
 trees_dropped_keyed [] l d = d
 trees_dropped_keyed (number ∷ numbers) l d = trees_dropped_keyed numbers (tree_dropped number l) (tree_dropped_keyed number l d)
 
-gone_keyed : (number : ℕ) (l : Lists) → AreKeyed l → AreKeyed (session_gone number l)
+pub gone_keyed : (number : ℕ) (l : Lists) → AreKeyed l → AreKeyed (session_gone number l)
 unfolding session_gone
 gone_keyed number l d =
     let is = trees_dropped_keyed (trees_of number l) l d in
     let m : Lists = trees_dropped (trees_of number l) l in
     record { connections = is.connections; sessions = removed nat_eq (nat_eq number) m.sessions is.sessions; trees = is.trees; opens = is.opens; leases = is.leases }
 
-all_gone_keyed : (numbers : List ℕ) (l : Lists) → AreKeyed l → AreKeyed (sessions_gone numbers l)
+pub all_gone_keyed : (numbers : List ℕ) (l : Lists) → AreKeyed l → AreKeyed (sessions_gone numbers l)
 all_gone_keyed [] l d = d
 all_gone_keyed (number ∷ numbers) l d = all_gone_keyed numbers (session_gone number l) (gone_keyed number l d)
 

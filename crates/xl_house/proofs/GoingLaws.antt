@@ -1,5 +1,5 @@
 -- What frames that go on send goes to their connections, and what stands behind who waits is of such.
-use Rattle.std.proofs.Common.{◌≡◌, ℕ, Bool, true, false, not, ◌&&◌, if◌then◌else◌, inl, inr, List, [], ◌∷◌, ◌++◌, map, Option, Some, None, IfSome, Result, Ok, Err}
+use Rattle.std.proofs.Common.{ℕ, Bool, true, false, not, ◌&&◌, if◌then◌else◌, inl, inr, List, [], ◌∷◌, ◌++◌, map, Option, Some, None, IfSome, Result, Ok, Err}
 use Rattle.std.specs.Prelude.{find, filter}
 use Rattle.std.specs.List.{AllByRecursion}
 use Rattle.std.proofs.lemmas.Bool.{cases_Bool}
@@ -19,7 +19,7 @@ use Rattle.xl_smb_frames.specs.Frames.{frame_sent, may_be_sent, opened, sent_if}
 use Rattle.xl_smb_frames.specs.Waking.{woken, woken_by}
 use Rattle.xl_smb_frames.specs.declared.frame.Frame.{Frame}
 use Rattle.xl_smb_frames.specs.declared.frame.Paused.{Paused}
-use Rattle.xl_house.specs.Machine.{answered_in, part_in, sorted_in}
+use Rattle.xl_house.specs.Machine.{part_in, sorted_in}
 use Rattle.xl_house.specs.Sifting.{behind_by, is_final, last_apart, last_on, listed, message_in, message_or_none, on_top, sent_by, sift_all, sift_one, sifted, sifted_by}
 use Rattle.xl_house.specs.Telling.{framed}
 use Rattle.xl_house.specs.declared.frames.Going.{Going}

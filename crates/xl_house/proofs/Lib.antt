@@ -46,6 +46,7 @@ pub mod AnnouncedLaws
 pub mod NotifiedLaws
 pub mod ApartLaws
 pub mod DistinctLaws
+pub mod SoundLaws
 pub mod PairedWaiterLaws
 pub mod OthersLaws
 pub mod OpensLaws

@@ -44,7 +44,6 @@ use Rattle.xl_house.specs.Owed.{own_deeds, IsOwedBy, IsOwed, AreGone, IsGoneBy}
 use Rattle.xl_house.specs.Own.{end_own, own_of}
 use Rattle.xl_house.specs.State.{Whole, kind_of, start_of}
 use Rattle.xl_house.specs.declared.layers.Fronts.{Fronts}
-use Rattle.xl_house.proofs.AwaitedLaws.{SoundFor}
 use Rattle.xl_house.proofs.DoneLaws.{each_round, own_row}
 use Rattle.xl_house.proofs.EachEntry.{always}
 use Rattle.xl_house.proofs.PartLaws.{of_first}
@@ -94,7 +93,7 @@ ended_gone f s (Some Smb) number e sound = end_gone f.smb s number sound
 ended_gone f s (Some Rpc) number e sound = absurd cc
 ended_gone f s None number e sound = absurd cc
 
-pub gone_by : (n : ℕ) (s : Whole) (event : Event) → SoundFor event s.front.smb.state → IsGoneBy n s event (own_of n s event).deeds
+pub gone_by : (n : ℕ) (s : Whole) (event : Event) → IsSound s.front.smb.state → IsGoneBy n s event (own_of n s event).deeds
 gone_by n s (End number) sound = λ smb.
     subst (λ (left : CoreState). AreGone s.core.names number s.front.smb.state left) (own_row n s (End number)).does
     (ended_gone s.front s.core (kind_of s.connections number) number smb sound)

@@ -1,11 +1,11 @@
 -- What stands behind an event's own deeds: turns, and what the parts of frames do.
 use Rattle.std.proofs.Common.{◌≡◌, ℕ, zero, suc, Bool, true, false, List, [], ◌∷◌, ◌++◌, Option, Some, None, refl, sym, ap, subst, ◌∙◌, append_assoc}
-use Rattle.std.specs.Prelude.{◌&&◌, not}
+use Rattle.std.specs.Prelude.{not}
 use Rattle.std.specs.List.{AllByRecursion}
 use Rattle.std.proofs.lemmas.Bool.{and_parts, both_ways}
 use Rattle.xl_base.proofs.Members.{all_append, all_weaker}
 use Rattle.xl_base.specs.declared.event.Event.{Event}
-use Rattle.xl_base.specs.declared.event.Event.TheVariants.{Open, Message, End, Called, Tick, Restart}
+use Rattle.xl_base.specs.declared.event.Event.TheVariants.{Message}
 use Rattle.xl_base.specs.declared.event.Kind.{Kind}
 use Rattle.xl_base.specs.declared.event.Kind.TheVariants.{Rpc, Smb}
 use Rattle.xl_core.specs.Deeds.{Deed, Asks, Acks, Cancels, Closes, Serves, Draws}
@@ -18,7 +18,7 @@ use Rattle.xl_smb_state.specs.State.{Lists}
 use Rattle.xl_names.specs.declared.name.Name.{Name}
 use Rattle.xl_front_smb.specs.Owners.{IsOwn}
 use Rattle.xl_smb_laws.proofs.RequestOwn as smb_own
-use Rattle.xl_house.specs.Done.{Round, behind_own, done_round, first_by, first_round, round_deeds, round_of, rounds, rounds_by, rounds_deeds, rounds_for, rounds_in, step_round, top_round, deeds}
+use Rattle.xl_house.specs.Done.{Round, behind_own, done_round, first_by, round_deeds, round_of, rounds, rounds_by, rounds_deeds, rounds_for, step_round, top_round, deeds}
 use Rattle.xl_house.specs.Journals.{is_restart}
 use Rattle.xl_house.specs.Lawful.{may_follow}
 use Rattle.xl_house.specs.Machine.{Gone, Ground, found_in, frames_begun, gone_further, is_plain, steps_left}

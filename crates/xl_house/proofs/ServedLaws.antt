@@ -17,7 +17,7 @@ use Rattle.xl_smb_frames.specs.Steps.{next_step}
 use Rattle.xl_smb_frames.specs.declared.frame.Frame.{Frame}
 use Rattle.xl_smb_frames.specs.declared.steps.Step.{Step}
 use Rattle.xl_smb_frames.specs.declared.steps.Step.TheVariants as next
-use Rattle.xl_smb_state.specs.Links.{AreDistinct, most_opens}
+use Rattle.xl_smb_state.specs.Links.{most_opens}
 use Rattle.xl_smb_state.specs.State.{Lists, open_of, waiting_of}
 use Rattle.xl_smb_state.specs.declared.row.Open.{Open as OpenRow}
 use Rattle.xl_smb_state.specs.declared.row.Request.{Request}
@@ -58,10 +58,11 @@ use Rattle.xl_house.specs.Telling.{Sent, TurnTaken, all_shown, framed, settled, 
 use Rattle.xl_house.specs.declared.connections.Connection.{Connection}
 use Rattle.xl_house.specs.declared.layers.Fronts.{Fronts}
 use Rattle.xl_house.proofs.OwedLaws.{gone_by}
-use Rattle.xl_house.proofs.AwaitedLaws.{Ready, ReadyFor, SoundFor, heard_stand, ready_for, settled_stand, shown_stand, stand_of, turn_tells}
+use Rattle.xl_house.proofs.AwaitedLaws.{Ready, heard_stand, settled_stand, shown_stand, stand_of, turn_tells}
 use Rattle.xl_house.proofs.PairedWaiterLaws.{Stand, same_stand}
 use Rattle.xl_house.proofs.LawfulLaws.{begun_waits}
 use Rattle.xl_house.proofs.DistinctLaws.{round_distinct}
+use Rattle.xl_house.proofs.SoundLaws.{round_sound}
 use Rattle.xl_house.proofs.DoneLaws.{each_event, frames_good, further_good, rounds_are}
 use Rattle.xl_house.proofs.MachineLaws.{heard_good, step_is}
 use Rattle.xl_house.proofs.SettleLaws.{turned_good}
@@ -182,7 +183,7 @@ turns_have n exports f s good stand =
 
 -- what each round keeps of the lists and the core
 record Holds (f : Fronts) (s : CoreState) : Type 0 where
-  distinct : AreDistinct f.smb.state
+  ready : Ready f
   stand : Stand s f.smb.state
   tied : AreSmbTied s f.smb.state
 
@@ -190,14 +191,13 @@ record Holds (f : Fronts) (s : CoreState) : Type 0 where
 abbrev round_end : ℕ → Whole → Event → Sent
 round_end n s event = let h = heard n s event in settled n s.exports h.1 h.2
 
-round_holds : (n : ℕ) (s : Whole) (event : Event) → IsGood s.core → SoundFor event s.front.smb.state → Holds s.front s.core → Holds (round_end n s event).1 (round_end n s event).2
-round_holds n s event good sound holds =
+round_holds : (n : ℕ) (s : Whole) (event : Event) → IsGood s.core → Holds s.front s.core → Holds (round_end n s event).1 (round_end n s event).2
+round_holds n s event good holds =
     let h = heard n s event in
-    let ready : ReadyFor event s.front = (sound, holds.distinct) in
     record {
-      distinct = round_distinct n s event holds.distinct;
-      stand = settled_stand n s.exports h.1 h.2 (heard_good n s event good) (heard_stand n s event good ready holds.stand);
-      tied = round_tied n s event good ready holds.stand holds.tied;
+      ready = (round_sound n s event holds.ready.0 holds.ready.1, round_distinct n s event holds.ready.1);
+      stand = settled_stand n s.exports h.1 h.2 (heard_good n s event good) (heard_stand n s event good holds.ready holds.stand);
+      tied = round_tied n s event good holds.ready holds.stand holds.tied;
     }
 
 -- a state with these fronts, in which each request of SMB that waits has its waiter
@@ -207,15 +207,14 @@ IsEnd f t = (t.front ≡ f) × IsAwaiting t
 found_end : (s : Whole) → Holds s.front s.core → IsEnd s.front s
 found_end s holds = (refl, record { awaits = holds.stand.awaits; keeps = holds.stand.keeps; tied = holds.tied })
 
-round_serves : (n : ℕ) (s : Whole) (event : Event) (t : Whole) → IsGood s.core → SoundFor event s.front.smb.state → Holds s.front s.core → IsEnd (round_end n s event).1 t → IsRoundServed n (round_of n s event) t
-round_serves n s event t good sound holds end =
+round_serves : (n : ℕ) (s : Whole) (event : Event) (t : Whole) → IsGood s.core → Holds s.front s.core → IsEnd (round_end n s event).1 t → IsRoundServed n (round_of n s event) t
+round_serves n s event t good holds end =
     let h = heard n s event in
-    let ready : ReadyFor event s.front = (sound, holds.distinct) in
     record {
-      distinct = holds.distinct;
+      ordered = record { sound = holds.ready.0; distinct = holds.ready.1 };
       awaiting = end.1;
-      granted = subst (λ (f : Fronts). AllHave s.exports f.smb.state (turns n s.exports h.1 h.2)) (sym end.0) (turns_have n s.exports h.1 h.2 (heard_good n s event good) (heard_stand n s event good ready holds.stand));
-      gone = gone_by n s event sound;
+      granted = subst (λ (f : Fronts). AllHave s.exports f.smb.state (turns n s.exports h.1 h.2)) (sym end.0) (turns_have n s.exports h.1 h.2 (heard_good n s event good) (heard_stand n s event good holds.ready holds.stand));
+      gone = gone_by n s event holds.ready.0;
     }
 
 -- ---- rounds
@@ -242,14 +241,14 @@ leads_then n g h k rs qs first later = (
 )
 
 -- one round
-round_leads : (n : ℕ) (s : Whole) (event : Event) (g h : Gone) → g.1 ≡ s.front → h.1 ≡ (round_end n s event).1 → h.2 ≡ (round_end n s event).2 → IsGood s.core → SoundFor event s.front.smb.state → Holds s.front s.core → Leads n g (round_of n s event ∷ []) h
-round_leads n s event g h begins front core good sound holds = (
-  subst (λ (u : CoreState). Holds h.1 u) (sym core) (subst (λ (f : Fronts). Holds f (round_end n s event).2) (sym front) (round_holds n s event good sound holds)),
-  λ t end. ((round_serves n s event t good sound holds (end.0 ∙ front, end.1), tt), (sym begins, (found_end s holds).1)),
+round_leads : (n : ℕ) (s : Whole) (event : Event) (g h : Gone) → g.1 ≡ s.front → h.1 ≡ (round_end n s event).1 → h.2 ≡ (round_end n s event).2 → IsGood s.core → Holds s.front s.core → Leads n g (round_of n s event ∷ []) h
+round_leads n s event g h begins front core good holds = (
+  subst (λ (u : CoreState). Holds h.1 u) (sym core) (subst (λ (f : Fronts). Holds f (round_end n s event).2) (sym front) (round_holds n s event good holds)),
+  λ t end. ((round_serves n s event t good holds (end.0 ∙ front, end.1), tt), (sym begins, (found_end s holds).1)),
 )
 
 part_leads : (n : ℕ) (at : Ground) (g : Gone) (f : Frame) (message : List ℕ) (smb : Bool) → IsGood g.2 → Holds g.1 g.2 → Leads n g (done_round n at g f.conn message smb) (part_done n at g f message smb)
-part_leads n at g f message true good holds = round_leads n (found_in at g.1 g.2) (Message f.conn message) g (part_done n at g f message true) refl refl refl good tt holds
+part_leads n at g f message true good holds = round_leads n (found_in at g.1 g.2) (Message f.conn message) g (part_done n at g f message true) refl refl refl good holds
 part_leads n at g f message false good holds = (holds, λ t end. (tt, end))
 
 step_leads : (n : ℕ) (at : Ground) (g : Gone) (f : Frame) (way : Step) → IsGood g.2 → Holds g.1 g.2 → Leads n g (step_round n at g f way) (gone_on n at g f way)
@@ -275,32 +274,32 @@ steps_lead (suc fuel) n at g good holds =
 abbrev begins_from : Whole → Gone
 begins_from s = (record { paused = s.paused; stack = []; outs = [] }, s.front, s.core)
 
-begun_leads : (n : ℕ) (s : Whole) (event : Event) → IsGood s.core → SoundFor event s.front.smb.state → Holds s.front s.core → Leads n (begins_from s) (first_round n s event) (frames_begun n s event)
+begun_leads : (n : ℕ) (s : Whole) (event : Event) → IsGood s.core → Holds s.front s.core → Leads n (begins_from s) (first_round n s event) (frames_begun n s event)
 unfolding frames_begun
-begun_leads n s event good sound holds = by (brings_frame s.connections event) where
+begun_leads n s event good holds = by (brings_frame s.connections event) where
   by : (brings : Bool) → Leads n (begins_from s) (first_by n s event brings) (begun_by n s event brings)
   by true = (holds, λ t end. (tt, end))
-  by false = round_leads n s event (begins_from s) (begun_by n s event false) refl refl refl good sound holds
+  by false = round_leads n s event (begins_from s) (begun_by n s event false) refl refl refl good holds
 
-gone_leads : (n : ℕ) (s : Whole) (event : Event) → IsGood s.core → SoundFor event s.front.smb.state → Holds s.front s.core → Leads n (begins_from s) (rounds_by n s event (is_plain s event)) (gone n s event)
+gone_leads : (n : ℕ) (s : Whole) (event : Event) → IsGood s.core → Holds s.front s.core → Leads n (begins_from s) (rounds_by n s event (is_plain s event)) (gone n s event)
 unfolding gone heard_in run
-gone_leads n s event good sound holds = by (is_plain s event) where
+gone_leads n s event good holds = by (is_plain s event) where
   by : (plain : Bool) → Leads n (begins_from s) (rounds_by n s event plain) (machine.gone_by n s event plain)
-  by true = round_leads n s event (begins_from s) (machine.gone_by n s event true) refl refl refl good sound holds
+  by true = round_leads n s event (begins_from s) (machine.gone_by n s event true) refl refl refl good holds
   by false =
       let at : Ground = (s.exports, s.connections) in
       let g = frames_begun n s event in
-      let first = begun_leads n s event good sound holds in
+      let first = begun_leads n s event good holds in
       leads_then n (begins_from s) g (advanced_for (steps_left g.0) n at g) (first_round n s event) (rounds_for (steps_left g.0) n at g) first (steps_lead (steps_left g.0) n at g (frames_good n s event good) first.0)
 
 -- ---- a step
 
 -- what an entry finds
 found_holds : (s : Whole) → Ready s.front → IsAwaiting s → Holds s.front (step_begun s.core)
-found_holds s ready awaiting = record { distinct = ready.1; stand = stand_of s ready awaiting; tied = found_tied s.core s.front.smb.state awaiting.tied }
+found_holds s ready awaiting = record { ready = ready; stand = stand_of s ready awaiting; tied = found_tied s.core s.front.smb.state awaiting.tied }
 
 entry_leads : (n : ℕ) (s : Whole) (event : Event) → IsFree s → Ready s.front → IsAwaiting s → Leads n (begins_from (as_found s)) (rounds_by n (as_found s) event (is_plain s event)) (gone n (as_found s) event)
-entry_leads n s event free ready awaiting = gone_leads n (as_found s) event (begun_good s.core free.good) (ready_for event s.front ready).0 (found_holds s ready awaiting)
+entry_leads n s event free ready awaiting = gone_leads n (as_found s) event (begun_good s.core free.good) (found_holds s ready awaiting)
 
 turn_waits : (s : Whole) (connections : List Connection) (g : Gone) → Holds g.1 g.2 → IsAwaiting (machine.turn_of s connections g).next
 turn_waits s connections g holds =

@@ -22,7 +22,7 @@ use Rattle.xl_programs.specs.Programs.{RequestItem, IncomingItem, Unanswered, Re
 use Rattle.xl_programs.specs.declared.program.Program.{Program}
 use Rattle.xl_programs.specs.declared.program.Program.TheVariants.{Nlm, Nfs}
 use Rattle.xl_smb_locks.specs.Finals.{told_of}
-use Rattle.xl_smb_state.specs.Links.{AreDistinct, most_opens}
+use Rattle.xl_smb_state.specs.Links.{most_opens}
 use Rattle.xl_smb_state.specs.State.{Lists, open_of}
 use Rattle.xl_smb_state.specs.declared.row.Open.{Open as OpenRow}
 use Rattle.xl_core.proofs.DeedLaws.{deed_good}
@@ -65,7 +65,7 @@ use Rattle.xl_house.specs.Own.{Given, Own, begun_by, end_own, message_own, own_o
 use Rattle.xl_house.specs.State.{Whole, kind_of, most_connections, nfs_opens, rooms_of, smb_opens}
 use Rattle.xl_house.specs.Telling.{all_shown, grants, is_grant, settled, shown_by, showing, turns_sent}
 use Rattle.xl_house.specs.declared.layers.Fronts.{Fronts}
-use Rattle.xl_house.proofs.AwaitedLaws.{ReadyFor, heard_stand, shown_stand, turn_tells}
+use Rattle.xl_house.proofs.AwaitedLaws.{Ready, heard_stand, shown_stand, turn_tells}
 use Rattle.xl_house.proofs.DoneLaws.{IsRow, own_row, program_row}
 use Rattle.xl_house.proofs.MachineLaws.{heard_good}
 use Rattle.xl_house.proofs.MayLaws.{end_quiet, may_quiet, unserved_quiet}
@@ -296,25 +296,25 @@ record_tied n exports f s number Unanswered good tied = tied
 record_tied n exports f s number (Refused xid verdict) good tied = tied
 record_tied n exports f s number (Asked r) good tied = program_tied n exports f s number r r.program good tied
 
-message_tied : (n : ℕ) (exports : Exports) (f : Fronts) (s : CoreState) (kind : Option Kind) (number : ℕ) (bytes : List ℕ) → IsGood s → AreDistinct f.smb.state → Stand s f.smb.state → Tied f s → IsTiedBy (message_own n exports f s kind number bytes).given
-message_tied n exports f s None number bytes good apart stand tied = tied
-message_tied n exports f s (Some Rpc) number bytes good apart stand tied = record_tied n exports f s number (incoming_at bytes) good tied
-message_tied n exports f s (Some Smb) number bytes good apart stand tied = step_tied n exports (nfs_opens f) f.smb s number bytes good apart stand.awaits tied
+message_tied : (n : ℕ) (exports : Exports) (f : Fronts) (s : CoreState) (kind : Option Kind) (number : ℕ) (bytes : List ℕ) → IsGood s → Ready f → Stand s f.smb.state → Tied f s → IsTiedBy (message_own n exports f s kind number bytes).given
+message_tied n exports f s None number bytes good ready stand tied = tied
+message_tied n exports f s (Some Rpc) number bytes good ready stand tied = record_tied n exports f s number (incoming_at bytes) good tied
+message_tied n exports f s (Some Smb) number bytes good ready stand tied = step_tied n exports (nfs_opens f) f.smb s number bytes good ready.1 stand.awaits tied
 
-ended_tied : (f : Fronts) (s : CoreState) (kind : Option Kind) (number : ℕ) → IsGood s → AreDistinct f.smb.state → Stand s f.smb.state → Tied f s → IsTiedBy (end_own f s kind number).given
-ended_tied f s None number good apart stand tied = tied
-ended_tied f s (Some Rpc) number good apart stand tied = tied
-ended_tied f s (Some Smb) number good apart stand tied = end_tied f.smb s number good apart stand.awaits tied
+ended_tied : (f : Fronts) (s : CoreState) (kind : Option Kind) (number : ℕ) → IsGood s → Ready f → Stand s f.smb.state → Tied f s → IsTiedBy (end_own f s kind number).given
+ended_tied f s None number good ready stand tied = tied
+ended_tied f s (Some Rpc) number good ready stand tied = tied
+ended_tied f s (Some Smb) number good ready stand tied = end_tied f.smb s number good ready.1 stand.awaits tied
 
 opened_tied : (f : Fronts) (s : CoreState) (place : ℕ) (kind : Kind) (room : Bool) → Tied f s → AreSmbTied s (if room then begun_by f place kind else f).smb.state
 opened_tied f s place kind false tied = tied
 opened_tied f s place Rpc true tied = tied
 opened_tied f s place Smb true tied = begun_tied f.smb s place tied
 
-given_tied : (n : ℕ) (s : Whole) (event : Event) → IsGood s.core → ReadyFor event s.front → Stand s.core s.front.smb.state → Tied s.front s.core → IsTiedBy (own_of n s event).given
+given_tied : (n : ℕ) (s : Whole) (event : Event) → IsGood s.core → Ready s.front → Stand s.core s.front.smb.state → Tied s.front s.core → IsTiedBy (own_of n s event).given
 given_tied n s (Open kind) good ready stand tied = opened_tied s.front s.core s.place kind (nat_lt (length s.connections) most_connections) tied
-given_tied n s (Message number bytes) good ready stand tied = message_tied n s.exports s.front s.core (kind_of s.connections number) number bytes good ready.1 stand tied
-given_tied n s (End number) good ready stand tied = ended_tied s.front s.core (kind_of s.connections number) number good ready.1 stand tied
+given_tied n s (Message number bytes) good ready stand tied = message_tied n s.exports s.front s.core (kind_of s.connections number) number bytes good ready stand tied
+given_tied n s (End number) good ready stand tied = ended_tied s.front s.core (kind_of s.connections number) number good ready stand tied
 given_tied n s (Called number bytes) good ready stand tied = others_tied n s.exports s.front s.core (Called number bytes) (own_of n s (Called number bytes)) s.front.smb.state good (own_row n s (Called number bytes)) (λ k. refusal_spares n s.core s.front.nlm.hosts _ k) tied
 given_tied n s (Tick now) good ready stand tied =
     let row = own_row n s (Tick now) in
@@ -340,7 +340,7 @@ own_quiet n s (Tick now) good = unserved_quiet (tick n s.core now).0 (tick_unser
 own_quiet n s (Open kind) good = refl
 own_quiet n s Restart good = refl
 
-pub heard_tied : (n : ℕ) (s : Whole) (event : Event) → IsGood s.core → ReadyFor event s.front → Stand s.core s.front.smb.state → Tied s.front s.core → Tied (heard n s event).1 (heard n s event).2
+pub heard_tied : (n : ℕ) (s : Whole) (event : Event) → IsGood s.core → Ready s.front → Stand s.core s.front.smb.state → Tied s.front s.core → Tied (heard n s event).1 (heard n s event).2
 unfolding heard
 heard_tied n s event good ready stand tied =
     let g = (own_of n s event).given in
@@ -356,5 +356,5 @@ pub found_tied : (s : CoreState) (l : Lists) → AreSmbTied s l → AreSmbTied (
 found_tied s l tied = let same = begun_same s in risen s (step_begun s) l (omega (arith, same.1)) same.0 tied
 
 -- the round of an event
-pub round_tied : (n : ℕ) (s : Whole) (event : Event) → IsGood s.core → ReadyFor event s.front → Stand s.core s.front.smb.state → Tied s.front s.core → (let h = heard n s event in let r = settled n s.exports h.1 h.2 in Tied r.1 r.2)
+pub round_tied : (n : ℕ) (s : Whole) (event : Event) → IsGood s.core → Ready s.front → Stand s.core s.front.smb.state → Tied s.front s.core → (let h = heard n s event in let r = settled n s.exports h.1 h.2 in Tied r.1 r.2)
 round_tied n s event good ready stand tied = (let h = heard n s event in settled_tied n s.exports h.1 h.2 (heard_good n s event good) (heard_stand n s event good ready stand) (heard_tied n s event good ready stand tied))

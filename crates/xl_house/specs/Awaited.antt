@@ -83,9 +83,9 @@ found_first [] t = t
 found_first (r ∷ rs) t = r.found
 
 -- What a round leaves, which this state shows: who waits then; each claim that its turns granted to an SMB open has its open; and
--- nothing is left of a connection that it ended. No two rows of a list had one key as it found them.
+-- nothing is left of a connection that it ended. It found the lists in order.
 pub record IsRoundServed (n : ℕ) (r : Round) (left : Whole) : Type 0 where
-  pub distinct : AreDistinct r.found.front.smb.state
+  pub ordered : IsInOrder r.found
   pub awaiting : IsAwaiting left
   pub granted : AllByRecursion (λ turn. HaveOpens r.found.exports left.front.smb.state turn) r.turns
   pub gone : IsGoneBy n r.found r.cause r.own.deeds
@@ -105,6 +105,6 @@ IsServedBy n s event t = IsAwaiting t × AreServed n (rounds n s event) t × IsI
 -- of an SMB open has its request. What a turn of a round grants to an SMB open was waited for by a request of that open,
 -- which is there behind that round, and the request is answered that it succeeded; a later part of the same frame may
 -- close it. The end of a connection of SMB leaves nothing of the opens that were under it. The lists of SMB are in order
--- before the entry, and tied to the core behind each round.
+-- before the entry and before each round, and tied to the core behind each.
 abbrev pub IsServed : Law
 IsServed n s e t = IsServedBy n s e.event t
