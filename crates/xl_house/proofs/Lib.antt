@@ -33,6 +33,7 @@ pub mod AskingLaws
 pub mod MeantLaws
 pub mod ReplyingLaws
 pub mod PartCauses
+pub mod StackLaws
 pub mod PartedLaws
 pub mod PlainLaws
 pub mod WishedLaws

@@ -71,7 +71,7 @@ timely_append before after xs ys front back = all_append (λ o. IsTimely before 
 -- ---- requests of SMB wait, and opens are held, on connections of SMB that are open
 
 -- the connections that are open, and speak SMB
-abbrev IsOpen : List Connection → ℕ → Type 0
+abbrev pub IsOpen : List Connection → ℕ → Type 0
 IsOpen cs number = kind_of cs number ≡ Some Smb
 
 -- what is sent goes to such connections
@@ -116,7 +116,7 @@ by_news : (before after : List ℕ) (f : FrontState) (s : CoreState) (o : Option
 by_news before after f s None = tt
 by_news before after f s (Some told) = (tt, tt)
 
-abbrev Waits : List Connection → Fronts → Type 0
+abbrev pub Waits : List Connection → Fronts → Type 0
 Waits cs f = smb_waits.IsOn (IsOpen cs) f.smb.state
 
 -- recalls are calls
@@ -336,7 +336,7 @@ dest_both cs place e (Back call) other there = tt
 -- ---- frames that go on
 
 -- what waits in frames came by connections that are open, and so did the frames
-abbrev ArePausedOn : List Connection → List Paused → Type 0
+abbrev pub ArePausedOn : List Connection → List Paused → Type 0
 ArePausedOn cs ps = AllByRecursion (λ p. IsOpen cs p.conn) ps
 
 abbrev Goes : List Connection → Dest → Type 0
@@ -465,7 +465,7 @@ gone_going n s e waits paused = by (is_plain s e) refl where
 -- ---- a step
 
 -- requests wait, and what stands behind them came, on connections of SMB that are open
-abbrev Kept : Whole → Type 0
+abbrev pub Kept : Whole → Type 0
 Kept s = Waits s.connections s.front × ArePausedOn s.connections s.paused
 
 turn_timely : (n : ℕ) (s : Whole) (e : Event) → is_restart e ≡ false → Kept s
@@ -492,6 +492,12 @@ timely n s (Open kind) kept =
 timely n s Restart kept = (tt, (smb_waits.empty_on (IsOpen []), tt))
 timely n s event kept = (let r = turn_timely n s event refl kept in (r.0, (r.1, r.2)))
 
+pub kept_start : (head : Head) → Kept (start_of head)
+kept_start head = (smb_waits.empty_on (IsOpen []), tt)
+
+pub kept_next : (n : ℕ) (s : Whole) (e : Event) → Kept s → Kept (step n s e).next
+kept_next n s e kept = (timely n s e kept).1
+
 orderly : (s : Whole) (es : List Entry) → Kept s → IsLegal s es → IsOrderly (numbers s.connections) s.place es
 orderly s [] kept legal = tt
 orderly s (e ∷ es) kept legal =
@@ -505,4 +511,4 @@ orderly s (e ∷ es) kept legal =
 
 -- a legal journal from a first start is orderly
 pub legal_orderly : (head : Head) (es : List Entry) → IsLegal (start_of head) es → IsOrderly [] 0 es
-legal_orderly head es legal = orderly (start_of head) es (smb_waits.empty_on (IsOpen []), tt) legal
+legal_orderly head es legal = orderly (start_of head) es (kept_start head) legal

@@ -220,7 +220,7 @@ is_none_left : (stack : List Frame) → stack_left stack ≤ 0 → stack ≡ []
 is_none_left [] none = refl
 is_none_left (f ∷ fs) none = absurd (omega (arith, none))
 
-either : (stack : List Frame) → (stack ≡ []) ⊎ (stack ≡ [] → ⊥)
+pub either : (stack : List Frame) → (stack ≡ []) ⊎ (stack ≡ [] → ⊥)
 either [] = inl refl
 either (f ∷ fs) = inr (λ e. absurd cc)
 
@@ -241,11 +241,11 @@ unfolding run
 first_step zero n at g left some = absurd (omega (arith, left, none_left g.0.stack some))
 first_step (suc k) n at g left some = same_for k (steps_left (gone_further n at g).0) n at (gone_further n at g) (omega (arith, left, further_less n at g some)) (omega arith)
 
-run_steps : (n : ℕ) (at : Ground) (g : Gone) → (g.0.stack ≡ [] → ⊥) → run n at g ≡ run n at (gone_further n at g)
+pub run_steps : (n : ℕ) (at : Ground) (g : Gone) → (g.0.stack ≡ [] → ⊥) → run n at g ≡ run n at (gone_further n at g)
 unfolding run
 run_steps n at g some = first_step (steps_left g.0) n at g refl some
 
-run_none : (n : ℕ) (at : Ground) (g : Gone) → g.0.stack ≡ [] → run n at g ≡ g
+pub run_none : (n : ℕ) (at : Ground) (g : Gone) → g.0.stack ≡ [] → run n at g ≡ g
 unfolding run
 run_none n at g e = none_for (steps_left g.0) n at g e
 

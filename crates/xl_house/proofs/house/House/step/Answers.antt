@@ -5,7 +5,7 @@ use Rattle.xl_house.specs.Housed.{Housed, is_spoiled}
 use Rattle.xl_house.specs.Journals.{last_stores, replay}
 use Rattle.xl_house.specs.State.{start_of}
 use Rattle.xl_house.proofs.JournalLaws.{allowed_next, stands_next, legal_next, holds_next, holds_after, other_enters, served_after, served_next}
-use Rattle.xl_house.proofs.PartedLaws.{parted_or}
+use Rattle.xl_house.proofs.PartedLaws.{next_parted}
 use Rattle.xl_house.proofs.house.House.step.Goals as goal
 
 pub invariant_of-self : goal.invariant_of-self
@@ -40,4 +40,4 @@ returns-in-Ok-clause-served g c =
     (served_after _ _ _ _ c.args.event (c.self.invariant.stands (ap is_spoiled c.in-None.is)) (c.act_and_enter.ensures.sound, c.act_and_enter.ensures.distinct) c.in-Ok.ensures.made))
 
 pub returns-in-Ok-clause-parted : goal.returns-in-Ok-clause-parted
-returns-in-Ok-clause-parted g c = parted_or _ _ _
+returns-in-Ok-clause-parted g c = next_parted _ _ _ _
