@@ -8,7 +8,7 @@ use Rattle.xl_base.specs.declared.event.Event.TheVariants.{End, Message, Restart
 use Rattle.xl_base.specs.declared.event.Out.{Out}
 use Rattle.xl_base.specs.declared.journal.Entry.{Entry}
 use Rattle.xl_base.specs.declared.journal.Head.{Head}
-use Rattle.xl_core.specs.State.{CoreState, step_begun}
+use Rattle.xl_core.specs.State.{step_begun}
 use Rattle.xl_smb.specs.Compounds.{Part, is_over, most_parts, part_at}
 use Rattle.xl_smb.specs.Heads.{head_of}
 use Rattle.xl_smb.specs.Related.{resolved, resolved_head, taken_over}
@@ -30,8 +30,6 @@ use Rattle.xl_house.specs.Sifting.{brings_frame, is_smb, last_apart, listed, mes
 use Rattle.xl_house.specs.State.{Whole, as_found, kind_of, start_of}
 use Rattle.xl_house.specs.Telling.{Sent, settled}
 use Rattle.xl_house.specs.declared.connections.Connection.{Connection}
-use Rattle.xl_house.specs.declared.frames.Going.{Going}
-use Rattle.xl_house.specs.declared.frames.Sifted.{Sifted}
 use Rattle.xl_house.proofs.GoingLaws as going
 use Rattle.xl_house.proofs.OrderLaws.{ArePausedOn, IsOpen, Kept, kept_next, kept_start}
 use Rattle.xl_house.proofs.PartCauses.{rounds_of_parts}

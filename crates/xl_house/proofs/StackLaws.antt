@@ -1,6 +1,5 @@
 -- Frames go on to their ends, and then those below them.
-use Rattle.std.proofs.Common.{◌≡◌, ℕ, zero, suc, ◌+◌, ◌≤◌, Bool, true, false, List, [], ◌∷◌, ◌++◌, Option, Some, None, refl, sym, ap, subst, ◌∙◌, inl, inr, ◌⊎◌, arith, append_assoc}
-use Rattle.xl_base.specs.declared.event.Out.{Out}
+use Rattle.std.proofs.Common.{◌≡◌, ℕ, zero, suc, ◌+◌, ◌≤◌, Bool, true, false, List, [], ◌∷◌, ◌++◌, refl, sym, ap, ◌∙◌, inl, inr, ◌⊎◌, arith, append_assoc}
 use Rattle.xl_base.specs.declared.journal.Exports.{Exports}
 use Rattle.xl_smb_frames.specs.Answers.{answered}
 use Rattle.xl_smb_frames.specs.Steps.{next_step}
@@ -8,14 +7,12 @@ use Rattle.xl_smb_frames.specs.declared.frame.Frame.{Frame}
 use Rattle.xl_smb_frames.specs.declared.steps.Step.{Step}
 use Rattle.xl_smb_frames.specs.declared.steps.Step.TheVariants as steps
 use Rattle.xl_house.specs.Done.{Round, done_round, rounds_for, step_round, top_round}
-use Rattle.xl_house.specs.Machine.{Gone, Ground, advanced_by, advanced_for, after_part, gone_further, gone_on, part_done, part_heard, run, settled_in, steps_left}
+use Rattle.xl_house.specs.Machine.{Gone, Ground, advanced_by, after_part, gone_further, gone_on, part_done, part_heard, run, settled_in, steps_left}
 use Rattle.xl_house.specs.Parted.{rounds_run}
 use Rattle.xl_house.specs.Sifting.{is_smb, last_apart, message_or_none, on_top, popped, sifted}
 use Rattle.xl_house.specs.State.{kind_of}
 use Rattle.xl_house.specs.Telling.{settled}
-use Rattle.xl_house.specs.declared.frames.Going.{Going}
-use Rattle.xl_house.specs.declared.frames.Sifted.{Sifted}
-use Rattle.xl_house.proofs.RunLaws.{either, further_less, none_further, run_none, run_steps, same_for}
+use Rattle.xl_house.proofs.RunLaws.{either, further_less, none_further, run_none, run_steps}
 
 -- ---- from one state to another
 

@@ -40,4 +40,4 @@ returns-in-Ok-clause-served g c =
     (served_after _ _ _ _ c.args.event (c.self.invariant.stands (ap is_spoiled c.in-None.is)) (c.act_and_enter.ensures.sound, c.act_and_enter.ensures.distinct) c.in-Ok.ensures.made))
 
 pub returns-in-Ok-clause-parted : goal.returns-in-Ok-clause-parted
-returns-in-Ok-clause-parted g c = next_parted _ _ _ _
+returns-in-Ok-clause-parted g c = rw (← c.self.view_is) (next_parted _ c.self.inside.head c.self.inside.entries.items c.args.event)
